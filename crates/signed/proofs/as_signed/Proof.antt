@@ -1,0 +1,15 @@
+-- `signed::as_signed` meets its contract. Assumes nothing.
+use borrow.Author.Needs.{needs}
+use mir.Syntax.{w64}
+use mir.Facts.{toZ-pos}
+use Rattle.signed.proofs.as_signed.Statement.{statement}
+use Rattle.signed.proofs.as_signed.Tie as tie
+
+cast-result : tie.Need-cast-result
+cast-result c = search needs
+
+returns : tie.Need-returns
+returns c = toZ-pos w64 (c .pre)
+
+pub as-signed-spec : {M : Type 1} → statement M
+as-signed-spec = tie.close (tie.spec cast-result returns)

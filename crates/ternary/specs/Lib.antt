@@ -1,0 +1,5 @@
+pub mod Powers
+pub mod Digits
+pub mod DigitLaws
+pub mod Weave
+pub mod WeaveLaws
