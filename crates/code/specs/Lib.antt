@@ -1,0 +1,5 @@
+pub mod Code
+pub mod CodeLaws
+pub mod Inside
+pub mod InsideLaws
+pub mod SizeLaws

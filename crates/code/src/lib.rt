@@ -1,0 +1,103 @@
+// Codes and names of cells. How a code is made is known here only.
+ghost use mathlib.Core.Path.{_≡_};
+ghost use Prim.Native.Nat.{_-_, _^_, _≤_, _<_};
+ghost use lib.ListN.{length, drop};
+ghost use Rattle.ternary.specs.Digits.{value};
+ghost use Rattle.cell.specs.Cell.{IsCell, cellRefusal, found};
+ghost use Rattle.code.specs.Code.{codeAt, codeOf, isCode, pathIn, cellOf, codeRefusal, sizeOf, coded};
+use cell::Cell;
+use cell::Found;
+
+// A code, or the number of the refusal.
+pub enum Coded {
+    Code(u64),
+    Refused(u64),
+}
+
+// The code of a face, a resolution and a path.
+pub fn code_at(face: u64, resolution: u64, path: u64) -> u64
+    requires { ⌜ (face ≤ 5) × (resolution ≤ 15) × (path < 9 ^ resolution) ⌝ }
+    ensures { λ r. ⌜ r ≡ codeAt face resolution path ⌝ }
+{
+    let finest = path * ternary::nine_power(15 - resolution);
+    (face * 205_891_132_094_649 + finest) * 16 + resolution
+}
+
+// The code of a cell.
+pub fn code_of(cell: Cell) -> u64
+    requires { ⌜ IsCell cell ⌝ }
+    ensures { λ r. ⌜ r ≡ codeOf cell ⌝ }
+{
+    let path = ternary::path(cell.resolution, cell.row, cell.column);
+    code_at(cell.face, cell.resolution, path)
+}
+
+// The code of any four numbers: 2, 1 or 3 where they are no cell.
+pub fn coded_cell(cell: Cell) -> Coded
+    ensures { λ r. ⌜ r ≡ coded (cellRefusal cell) (codeOf cell) ⌝ }
+{
+    let refusal = cell.refusal();
+    if refusal != 0 {
+        return Coded::Refused(refusal);
+    }
+    Coded::Code(code_of(cell))
+}
+
+// Whether some cell has this code.
+pub fn is_code(code: u64) -> bool
+    ensures { λ r. ⌜ r ≡ isCode code ⌝ }
+{
+    let finest = code / 16;
+    if finest / 205_891_132_094_649 < 6 {
+        let step = ternary::nine_power(15 - code % 16);
+        return finest % 205_891_132_094_649 % step == 0;
+    }
+    false
+}
+
+// The resolution of a code.
+pub fn resolution_in(code: u64) -> u64
+    ensures { λ r. ⌜ r ≡ cellOf code .resolution ⌝ }
+    ensures { λ r. ⌜ r ≤ 15 ⌝ }
+{
+    code % 16
+}
+
+// The face of a code.
+pub fn face_in(code: u64) -> u64
+    ensures { λ r. ⌜ r ≡ cellOf code .face ⌝ }
+{
+    code / 16 / 205_891_132_094_649
+}
+
+// The path of a code.
+pub fn path_in(code: u64) -> u64
+    ensures { λ r. ⌜ r ≡ pathIn code ⌝ }
+{
+    code / 16 % 205_891_132_094_649 / ternary::nine_power(15 - code % 16)
+}
+
+// The cell of a code: 4 where it is no cell's.
+pub fn cell_of(code: u64) -> Found
+    ensures { λ r. ⌜ r ≡ found (codeRefusal code) (cellOf code) ⌝ }
+{
+    if is_code(code) {
+        let resolution = resolution_in(code);
+        let place = ternary::unwoven(resolution, path_in(code));
+        return Found::At(Cell {
+            face: face_in(code),
+            resolution,
+            row: place.row,
+            column: place.column,
+        });
+    }
+    Found::Refused(4)
+}
+
+// The number of finest cells of a cell.
+pub fn size_of(cell: Cell) -> u64
+    requires { ⌜ IsCell cell ⌝ }
+    ensures { λ r. ⌜ r ≡ sizeOf cell ⌝ }
+{
+    ternary::nine_power(15 - cell.resolution)
+}
