@@ -1,0 +1,80 @@
+-- The four shapes (01 "Neighbours and shapes"). Assumes nothing.
+use mathlib.Core.Path.{_≡_, refl}
+use mathlib.Core.Logic.{_⊎_}
+use mathlib.Core.Bool.{Bool, _&&_, _||_, cond}
+use Prim.Native.Nat.{ℕ, _+_, _*_, _^_, _≤_}
+use lib.Dec.{eqb, leb, ltb}
+use Rattle.cell.specs.declared.Cell.{Cell}
+use Rattle.shape.specs.declared.Shape.{Shape}
+use Rattle.shape.specs.declared.Shape.the-variants.{Quad, Cap, Dart, SkewQuad}
+
+-- a cell of O to R
+pub record Belt (c : Cell) : Type 0 where
+  pub from : 1 ≤ c .face
+  pub to : c .face ≤ 4
+
+-- the middle cell of its face
+pub record Middle (c : Cell) : Type 0 where
+  pub row : 2 * c .row + 1 ≡ 3 ^ c .resolution
+  pub column : 2 * c .column + 1 ≡ 3 ^ c .resolution
+
+-- "i = j or i + j = m - 1"
+abbrev pub Diagonal : Cell → Type 0
+Diagonal c = (c .row ≡ c .column) ⊎ (c .row + c .column + 1 ≡ 3 ^ c .resolution)
+
+-- "cells of O to R are quads; the middle cell of N or S is a cap; other cells of N or S with i = j or i + j = m - 1 are darts; the rest are skew quads"
+abbrev pub Is : Shape → Cell → Type 0
+Is Quad c = Belt c
+Is Cap c = (Belt c → ⊥) × Middle c
+Is Dart c = (Belt c → ⊥) × (Middle c → ⊥) × Diagonal c
+Is SkewQuad c = (Belt c → ⊥) × (Middle c → ⊥) × (Diagonal c → ⊥)
+
+-- ---- the computing form. ShapeLaws shows that it is the one shape that a cell is
+
+unfoldable pub capShape : (m row column : ℕ) → Shape
+capShape m row column =
+    cond (eqb (2 * row + 1) m && eqb (2 * column + 1) m) Cap
+    (cond (eqb row column || eqb (row + column + 1) m) Dart SkewQuad)
+
+unfoldable pub shapeOf : Cell → Shape
+unfolding capShape
+shapeOf c = cond (ltb (c .face) 1) (capShape (3 ^ c .resolution) (c .row) (c .column)) (cond (ltb (c .face) 5) Quad (capShape (3 ^ c .resolution) (c .row) (c .column)))
+
+-- the numbers of the public entries
+abbrev pub numberOf : Shape → ℕ
+numberOf Quad = 0
+numberOf Cap = 1
+numberOf Dart = 2
+numberOf SkewQuad = 3
+
+-- "The number of cells that touch a cell at a corner only is 3 for a dart and 4 for any other shape"
+abbrev pub cornersOf : Shape → ℕ
+cornersOf Quad = 4
+cornersOf Cap = 4
+cornersOf Dart = 3
+cornersOf SkewQuad = 4
+
+-- ---- N itself is a cap; of N's children the middle one is a cap, N0 a dart and N1 a skew quad; P0 is a quad
+
+abbrev at : ℕ → ℕ → ℕ → ℕ → Cell
+at face k row column = record { face = face; resolution = k; row = row; column = column }
+
+n : shapeOf (at 0 0 0 0) ≡ Cap
+unfolding shapeOf
+n = refl
+
+n4 : shapeOf (at 0 1 1 1) ≡ Cap
+unfolding shapeOf
+n4 = refl
+
+n0 : shapeOf (at 0 1 0 0) ≡ Dart
+unfolding shapeOf
+n0 = refl
+
+n1 : shapeOf (at 0 1 0 1) ≡ SkewQuad
+unfolding shapeOf
+n1 = refl
+
+p0 : shapeOf (at 2 1 0 0) ≡ Quad
+unfolding shapeOf
+p0 = refl
