@@ -1,0 +1,368 @@
+// The public entries, for C and whatever links a C library. Each takes any numbers and any bytes: what is bad gets its refusal number,
+// zeros for the other answers, and no lent byte changed.
+ghost use mathlib.Core.Path.{_≡_};
+ghost use lib.ListN.{length};
+ghost use Rattle.logic.specs.Refusal.{given};
+ghost use Rattle.cell.specs.Cell.{IsCell, refusalIn, cellIn};
+ghost use Rattle.code.specs.Code.{codeOf};
+ghost use Rattle.name.specs.Name.{codeNameRefusal, nameIn};
+ghost use Rattle.jeguarivo.specs.Entries.{codeAnswer, codedAnswer, cellCode, codeCell, nameAnswer, writtenName, parentCode, childCode, cellSize, cellShape, cornerCount, cellSquare, cellNucleus, cellVertices, pointCode, neighbourCode, noSquare, noPoint, noVertices};
+use cell::Arrangement;
+use cell::Cell;
+use cell::Found;
+use code::Coded;
+use name::Named;
+
+#[repr(C)]
+pub struct CodeAnswer {
+    pub refusal: u64,
+    pub code: u64,
+}
+
+#[repr(C)]
+pub struct CellAnswer {
+    pub refusal: u64,
+    pub face: u64,
+    pub resolution: u64,
+    pub row: u64,
+    pub column: u64,
+}
+
+#[repr(C)]
+pub struct LengthAnswer {
+    pub refusal: u64,
+    pub length: u64,
+}
+
+#[repr(C)]
+pub struct SizeAnswer {
+    pub refusal: u64,
+    pub size: u64,
+}
+
+#[repr(C)]
+pub struct ShapeAnswer {
+    pub refusal: u64,
+    pub shape: u64,
+}
+
+#[repr(C)]
+pub struct CountAnswer {
+    pub refusal: u64,
+    pub count: u64,
+}
+
+#[repr(C)]
+pub struct SquareAnswer {
+    pub refusal: u64,
+    pub left: i64,
+    pub top: i64,
+    pub side: i64,
+}
+
+#[repr(C)]
+pub struct PointAnswer {
+    pub refusal: u64,
+    pub x: i64,
+    pub y: i64,
+}
+
+#[repr(C)]
+pub struct VerticesAnswer {
+    pub refusal: u64,
+    pub x: [i64; 4],
+    pub y: [i64; 4],
+}
+
+// A code, or its refusal, as numbers.
+fn coded_answer(coded: Coded) -> CodeAnswer
+    ensures { λ r. ⌜ r ≡ codedAnswer coded ⌝ }
+{
+    match coded {
+        Coded::Code(code) => CodeAnswer { refusal: 0, code },
+        Coded::Refused(refusal) => CodeAnswer { refusal, code: 0 },
+    }
+}
+
+// The code of a cell that was found, or the refusal.
+fn found_answer(found: Found) -> CodeAnswer
+    requires { ⌜ IsCell (cellIn found) ⌝ }
+    ensures { λ r. ⌜ r ≡ codeAnswer (refusalIn found) (codeOf (cellIn found)) ⌝ }
+{
+    match found {
+        Found::At(cell) => CodeAnswer {
+            refusal: 0,
+            code: code::code_of(cell),
+        },
+        Found::Refused(refusal) => CodeAnswer { refusal, code: 0 },
+    }
+}
+
+// 2, 1 or 3 where the numbers are no cell.
+#[no_mangle]
+pub extern "C" fn jgv_cell_code(face: u64, resolution: u64, row: u64, column: u64) -> CodeAnswer
+    ensures { λ r. ⌜ r ≡ cellCode face resolution row column ⌝ }
+{
+    let cell = Cell {
+        face,
+        resolution,
+        row,
+        column,
+    };
+    coded_answer(code::coded_cell(cell))
+}
+
+// 4 where the code is no cell's.
+#[no_mangle]
+pub extern "C" fn jgv_code_cell(code: u64) -> CellAnswer
+    ensures { λ r. ⌜ r ≡ codeCell code ⌝ }
+{
+    match code::cell_of(code) {
+        Found::At(cell) => CellAnswer {
+            refusal: 0,
+            face: cell.face,
+            resolution: cell.resolution,
+            row: cell.row,
+            column: cell.column,
+        },
+        Found::Refused(refusal) => CellAnswer {
+            refusal,
+            face: 0,
+            resolution: 0,
+            row: 0,
+            column: 0,
+        },
+    }
+}
+
+// 2, 1 or 3 where the bytes are no name.
+#[no_mangle]
+pub extern "C" fn jgv_name_code(name: &[u8]) -> CodeAnswer
+    ensures { λ r. ⌜ r ≡ nameAnswer (now (name .entry)) ⌝ }
+{
+    coded_answer(name::name_code(name))
+}
+
+// 4 where the code is no cell's, 8 where the room is shorter than the name.
+#[no_mangle]
+pub extern "C" fn jgv_code_name(code: u64, name: &mut [u8]) -> LengthAnswer
+    ensures { λ r. ⌜ r ≡ writtenName code (length (now (name .entry))) ⌝ }
+    ensures { λ r. ⌜ now (name .exit) ≡ given (codeNameRefusal code (length (now (name .entry)))) (nameIn code (now (name .entry))) (now (name .entry)) ⌝ }
+{
+    match name::code_name(code, name) {
+        Named::Length(length) => LengthAnswer { refusal: 0, length },
+        Named::Refused(refusal) => LengthAnswer { refusal, length: 0 },
+    }
+}
+
+// 4 where the code is no cell's, 12 at resolution 0.
+#[no_mangle]
+pub extern "C" fn jgv_parent(code: u64) -> CodeAnswer
+    ensures { λ r. ⌜ r ≡ parentCode code ⌝ }
+{
+    let Found::At(cell) = code::cell_of(code) else {
+        return CodeAnswer {
+            refusal: 4,
+            code: 0,
+        };
+    };
+    found_answer(cell.parent())
+}
+
+// 3 where the digit is above 8, 4 where the code is no cell's, 12 at resolution 15.
+#[no_mangle]
+pub extern "C" fn jgv_child(code: u64, digit: u64) -> CodeAnswer
+    ensures { λ r. ⌜ r ≡ childCode code digit ⌝ }
+{
+    if digit > 8 {
+        return CodeAnswer {
+            refusal: 3,
+            code: 0,
+        };
+    }
+    let Found::At(cell) = code::cell_of(code) else {
+        return CodeAnswer {
+            refusal: 4,
+            code: 0,
+        };
+    };
+    found_answer(cell.child(digit))
+}
+
+// 4 where the code is no cell's.
+#[no_mangle]
+pub extern "C" fn jgv_size(code: u64) -> SizeAnswer
+    ensures { λ r. ⌜ r ≡ cellSize code ⌝ }
+{
+    let Found::At(cell) = code::cell_of(code) else {
+        return SizeAnswer {
+            refusal: 4,
+            size: 0,
+        };
+    };
+    SizeAnswer {
+        refusal: 0,
+        size: code::size_of(cell),
+    }
+}
+
+// 4 where the code is no cell's.
+#[no_mangle]
+pub extern "C" fn jgv_shape(code: u64) -> ShapeAnswer
+    ensures { λ r. ⌜ r ≡ cellShape code ⌝ }
+{
+    let Found::At(cell) = code::cell_of(code) else {
+        return ShapeAnswer {
+            refusal: 4,
+            shape: 0,
+        };
+    };
+    ShapeAnswer {
+        refusal: 0,
+        shape: shape::number(shape::shape_of(cell)),
+    }
+}
+
+// 4 where the code is no cell's.
+#[no_mangle]
+pub extern "C" fn jgv_corner_count(code: u64) -> CountAnswer
+    ensures { λ r. ⌜ r ≡ cornerCount code ⌝ }
+{
+    let Found::At(cell) = code::cell_of(code) else {
+        return CountAnswer {
+            refusal: 4,
+            count: 0,
+        };
+    };
+    CountAnswer {
+        refusal: 0,
+        count: shape::corners(shape::shape_of(cell)),
+    }
+}
+
+// 5 where n or s is above 3, 2 where the resolution is above 15, 7 where the point is outside the image.
+#[no_mangle]
+pub extern "C" fn jgv_point_code(n: u64, s: u64, resolution: u64, x: i64, y: i64) -> CodeAnswer
+    ensures { λ r. ⌜ r ≡ pointCode n s resolution x y ⌝ }
+{
+    let arrangement = Arrangement { north: n, south: s };
+    found_answer(plane::point_cell(arrangement, resolution, x, y))
+}
+
+// 5 where n or s is above 3, 3 where the direction is above 3, 4 where the code is no cell's.
+#[no_mangle]
+pub extern "C" fn jgv_neighbour(n: u64, s: u64, code: u64, direction: u64) -> CodeAnswer
+    ensures { λ r. ⌜ r ≡ neighbourCode n s code direction ⌝ }
+{
+    let arrangement = Arrangement { north: n, south: s };
+    let refusal = arrangement.refusal();
+    if refusal != 0 {
+        return CodeAnswer { refusal, code: 0 };
+    }
+    if direction > 3 {
+        return CodeAnswer {
+            refusal: 3,
+            code: 0,
+        };
+    }
+    let Found::At(cell) = code::cell_of(code) else {
+        return CodeAnswer {
+            refusal: 4,
+            code: 0,
+        };
+    };
+    found_answer(cell.step(arrangement, direction))
+}
+
+// 5 where n or s is above 3, 4 where the code is no cell's.
+#[no_mangle]
+pub extern "C" fn jgv_square(n: u64, s: u64, code: u64) -> SquareAnswer
+    ensures { λ r. ⌜ r ≡ cellSquare n s code ⌝ }
+{
+    let arrangement = Arrangement { north: n, south: s };
+    let refusal = arrangement.refusal();
+    if refusal != 0 {
+        return refused_square(refusal);
+    }
+    let Found::At(cell) = code::cell_of(code) else {
+        return refused_square(4);
+    };
+    let square = plane::square_of(arrangement, cell);
+    SquareAnswer {
+        refusal: 0,
+        left: square.left,
+        top: square.top,
+        side: square.side,
+    }
+}
+
+// 5 where n or s is above 3, 4 where the code is no cell's.
+#[no_mangle]
+pub extern "C" fn jgv_nucleus(n: u64, s: u64, code: u64) -> PointAnswer
+    ensures { λ r. ⌜ r ≡ cellNucleus n s code ⌝ }
+{
+    let arrangement = Arrangement { north: n, south: s };
+    let refusal = arrangement.refusal();
+    if refusal != 0 {
+        return refused_point(refusal);
+    }
+    let Found::At(cell) = code::cell_of(code) else {
+        return refused_point(4);
+    };
+    let point = plane::nucleus_of(arrangement, cell);
+    PointAnswer {
+        refusal: 0,
+        x: point.x,
+        y: point.y,
+    }
+}
+
+// 5 where n or s is above 3, 4 where the code is no cell's.
+#[no_mangle]
+pub extern "C" fn jgv_vertices(n: u64, s: u64, code: u64) -> VerticesAnswer
+    ensures { λ r. ⌜ r ≡ cellVertices n s code ⌝ }
+{
+    let arrangement = Arrangement { north: n, south: s };
+    let refusal = arrangement.refusal();
+    if refusal != 0 {
+        return refused_vertices(refusal);
+    }
+    let Found::At(cell) = code::cell_of(code) else {
+        return refused_vertices(4);
+    };
+    let vertices = plane::vertices_of(arrangement, cell);
+    let x = vertices.x;
+    let y = vertices.y;
+    VerticesAnswer { refusal: 0, x, y }
+}
+
+fn refused_square(refusal: u64) -> SquareAnswer
+    ensures { λ r. ⌜ r ≡ noSquare refusal ⌝ }
+{
+    SquareAnswer {
+        refusal,
+        left: 0,
+        top: 0,
+        side: 0,
+    }
+}
+
+fn refused_point(refusal: u64) -> PointAnswer
+    ensures { λ r. ⌜ r ≡ noPoint refusal ⌝ }
+{
+    PointAnswer {
+        refusal,
+        x: 0,
+        y: 0,
+    }
+}
+
+fn refused_vertices(refusal: u64) -> VerticesAnswer
+    ensures { λ r. ⌜ r ≡ noVertices refusal ⌝ }
+{
+    VerticesAnswer {
+        refusal,
+        x: [0; 4],
+        y: [0; 4],
+    }
+}

@@ -1,0 +1,85 @@
+/* Jeguarivo: the rHEALPix grid with three cells to a side, resolutions 0 to 15, in all sixteen arrangements of the caps.
+ *
+ * Every entry takes any numbers and any bytes, and returns. An answer's first field is `refusal`: 0, or the number that says what was
+ * wrong; every other field is 0 then, and no lent byte is changed. Read `refusal` first: 0 is also the code of the cell N.
+ *
+ *    1  face above 5, empty name, first byte not N to S
+ *    2  resolution above 15, name over 16 bytes
+ *    3  later name byte not 0 to 8, row or column not below 3^resolution, child digit above 8, direction above 3
+ *    4  a code is no cell's
+ *    5  n or s above 3
+ *    7  planar point outside the image
+ *    8  lent buffer shorter than the answer
+ *   12  parent at resolution 0, child at 15
+ *
+ * Where several apply, the order is 5, 2, 1, 3, 4, 7, 12, 8. Faces 0 to 5 are N, O, P, Q, R, S; N lies above face n of O to R and S below
+ * face s, both from 0 to 3.
+ */
+#ifndef JEGUARIVO_H
+#define JEGUARIVO_H
+
+#include <stddef.h>
+#include <stdint.h>
+
+#ifdef __cplusplus
+extern "C" {
+#endif
+
+typedef struct { uint64_t refusal, code; } jgv_code;
+typedef struct { uint64_t refusal, face, resolution, row, column; } jgv_cell;
+typedef struct { uint64_t refusal, length; } jgv_length;
+typedef struct { uint64_t refusal, size; } jgv_size_answer;
+typedef struct { uint64_t refusal, shape; } jgv_shape_answer;
+typedef struct { uint64_t refusal, count; } jgv_count;
+typedef struct { uint64_t refusal; int64_t left, top, side; } jgv_square_answer;
+typedef struct { uint64_t refusal; int64_t x, y; } jgv_point;
+typedef struct { uint64_t refusal; int64_t x[4], y[4]; } jgv_vertices_answer;
+
+/* The code of a cell. Refusals 2, 1, 3. */
+jgv_code jgv_cell_code(uint64_t face, uint64_t resolution, uint64_t row, uint64_t column);
+
+/* The cell of a code. Refusal 4. */
+jgv_cell jgv_code_cell(uint64_t code);
+
+/* The code of a name: a face letter and a digit 0 to 8 for each resolution. Refusals 2, 1, 3. */
+jgv_code jgv_name_code(const uint8_t *name, size_t length);
+
+/* The name of a code, written to the first bytes of `name` (16 are always enough; no zero byte follows). Refusals 4, 8. */
+jgv_length jgv_code_name(uint64_t code, uint8_t *name, size_t room);
+
+/* The parent of a cell. Refusals 4, 12. */
+jgv_code jgv_parent(uint64_t code);
+
+/* The child of a cell: 0 is top left, 8 bottom right. Refusals 3, 4, 12. */
+jgv_code jgv_child(uint64_t code, uint64_t digit);
+
+/* The number of finest cells, those of resolution 15, in a cell. Refusal 4. */
+jgv_size_answer jgv_size(uint64_t code);
+
+/* The shape of a cell: quad 0, cap 1, dart 2, skew quad 3. Refusal 4. */
+jgv_shape_answer jgv_shape(uint64_t code);
+
+/* How many cells touch a cell at a corner only. Refusal 4. */
+jgv_count jgv_corner_count(uint64_t code);
+
+/* The square of a cell in the plane. A face side is 28,697,814 units; x runs east from the left edge of O, y up from the equator.
+ * Refusals 5, 4. */
+jgv_square_answer jgv_square(uint64_t n, uint64_t s, uint64_t code);
+
+/* The middle of a cell in the plane. Refusals 5, 4. */
+jgv_point jgv_nucleus(uint64_t n, uint64_t s, uint64_t code);
+
+/* The corners of a cell in the plane: top left, top right, bottom right, bottom left. Refusals 5, 4. */
+jgv_vertices_answer jgv_vertices(uint64_t n, uint64_t s, uint64_t code);
+
+/* The cell of a resolution that owns a point of the plane. Refusals 5, 2, 7. */
+jgv_code jgv_point_code(uint64_t n, uint64_t s, uint64_t resolution, int64_t x, int64_t y);
+
+/* The neighbour of a cell: direction 0 is up, 1 right, 2 down, 3 left. Refusals 5, 3, 4. */
+jgv_code jgv_neighbour(uint64_t n, uint64_t s, uint64_t code, uint64_t direction);
+
+#ifdef __cplusplus
+}
+#endif
+
+#endif

@@ -1,0 +1,112 @@
+//! Runs the second program and the proved one on the same inputs, and counts what was met.
+
+use crate::random::{Kind, Random, KINDS};
+use std::collections::BTreeMap;
+use std::fmt::Debug;
+use std::io::Write;
+
+/// The whole answer of an entry, with the lent bytes after it where it has any.
+pub trait Refusing: PartialEq + Debug {
+    fn refusal(&self) -> u64;
+}
+
+/// The inputs that each entry is compared on.
+pub const INPUTS: u64 = 1_050_000;
+
+/// The least number of times that each refusal has to be met, so that it was really tried.
+const LEAST: u64 = 1000;
+
+/// What an input holds of the sixteen arrangements and the sixteen resolutions.
+#[derive(Clone, Copy)]
+pub struct About {
+    pub arrangement: Option<(u64, u64)>,
+    pub resolution: u64,
+}
+
+/// Counts of inputs: by kind, by refusal (0 for accepted), and of the accepted ones by
+/// arrangement and resolution.
+#[derive(Default)]
+pub struct Tally {
+    kinds: [u64; 3],
+    refusals: BTreeMap<u64, u64>,
+    arrangements: BTreeMap<(u64, u64), u64>,
+    resolutions: BTreeMap<u64, u64>,
+}
+
+impl Tally {
+    pub fn count(&mut self, kind: Kind, refusal: u64, about: About) {
+        self.kinds[kind as usize] += 1;
+        *self.refusals.entry(refusal).or_default() += 1;
+        if refusal == 0 {
+            if let Some(arrangement) = about.arrangement {
+                *self.arrangements.entry(arrangement).or_default() += 1;
+            }
+            *self.resolutions.entry(about.resolution).or_default() += 1;
+        }
+    }
+
+    /// States the counts, and fails where too little was tried. The line goes past the test
+    /// harness, which would hold it back for a test that passes.
+    pub fn finish(&self, entry: &str, refusals: &[u64]) {
+        let total: u64 = self.kinds.iter().sum();
+        let [random, border, bad] = self.kinds;
+        let mut line =
+            format!("{entry}: {total} inputs (random {random}, border {border}, bad {bad})");
+        for (refusal, count) in &self.refusals {
+            match refusal {
+                0 => line += &format!("; accepted {count}"),
+                _ => line += &format!("; refused {refusal}: {count}"),
+            }
+        }
+        writeln!(std::io::stdout(), "{line}").expect("standard output");
+        let met: Vec<u64> = self.refusals.keys().copied().collect();
+        let mut wanted = vec![0];
+        wanted.extend(refusals);
+        wanted.sort();
+        assert_eq!(met, wanted, "{entry}: the refusals met");
+        for (refusal, count) in &self.refusals {
+            assert!(*count >= LEAST, "{entry}: {refusal} only {count} times");
+        }
+        self.check_spread(entry, if refusals.contains(&12) { 15 } else { 16 });
+    }
+
+    /// All arrangements and all resolutions, each often, where the entry has them. Refusal 12
+    /// takes one resolution away: a face has no parent, and a finest cell no child.
+    fn check_spread(&self, entry: &str, resolutions: usize) {
+        let spread = (self.arrangements.len(), self.resolutions.len());
+        assert!([0, 16].contains(&spread.0), "{entry}: arrangements");
+        assert!(spread.1 == resolutions, "{entry}: resolutions");
+        let least = self
+            .arrangements
+            .values()
+            .chain(self.resolutions.values())
+            .min();
+        assert!(least >= Some(&LEAST), "{entry}: spread");
+        assert!(self.refusals[&0] >= 100 * LEAST, "{entry}: accepted");
+    }
+}
+
+/// Compares the whole answers of both programs on many inputs of every kind.
+pub fn compare<I: Debug, A: Refusing>(
+    entry: &str,
+    refusals: &[u64],
+    make: impl Fn(&mut Random, Kind) -> I,
+    about: impl Fn(&I) -> About,
+    second: impl Fn(&I) -> A,
+    proved: impl Fn(&I) -> A,
+) {
+    let mut random = Random::for_test(entry);
+    let mut tally = Tally::default();
+    for _ in 0..INPUTS {
+        let kind = random.pick(&KINDS);
+        let input = make(&mut random, kind);
+        let wanted = second(&input);
+        let found = proved(&input);
+        assert!(
+            wanted == found,
+            "{entry}\n input {input:?}\n second program {wanted:?}\n proved library {found:?}"
+        );
+        tally.count(kind, wanted.refusal(), about(&input));
+    }
+    tally.finish(entry, refusals);
+}

@@ -1,0 +1,154 @@
+//! The proved library's C entries. Each is total, so the wrappers test nothing.
+
+use crate::compare::Refusing;
+use crate::grid::{Answer, Place, Square};
+
+macro_rules! answers {
+    ($($(#[$about:meta])* $name:ident { $($field:ident: $type:ty),* })*) => {$(
+        $(#[$about])*
+        #[repr(C)]
+        #[derive(Clone, Copy, Debug, Default, PartialEq, Eq)]
+        pub struct $name {
+            pub refusal: u64,
+            $(pub $field: $type),*
+        }
+        impl Refusing for $name {
+            fn refusal(&self) -> u64 {
+                self.refusal
+            }
+        }
+        impl $name {
+            /// "Other answers are 0."
+            pub fn refused(refusal: u64) -> $name {
+                $name { refusal, ..$name::default() }
+            }
+        }
+    )*};
+}
+
+answers! {
+    /// `jgv_code`
+    Code { code: u64 }
+    /// `jgv_cell`
+    Cell { face: u64, resolution: u64, row: u64, column: u64 }
+    /// `jgv_length`
+    Length { length: u64 }
+    /// `jgv_size_answer`
+    Size { size: u64 }
+    /// `jgv_shape_answer`
+    ShapeNumber { shape: u64 }
+    /// `jgv_count`
+    Count { count: u64 }
+    /// `jgv_square_answer`
+    SquareAnswer { left: i64, top: i64, side: i64 }
+    /// `jgv_point`
+    Point { x: i64, y: i64 }
+    /// `jgv_vertices_answer`
+    Vertices { x: [i64; 4], y: [i64; 4] }
+}
+
+/// The second program's answer in the form of the proved library's.
+macro_rules! from_answer {
+    ($($name:ident, $value:ty, $found:pat => { $($field:ident: $part:expr),* };)*) => {$(
+        impl From<Answer<$value>> for $name {
+            fn from(answer: Answer<$value>) -> $name {
+                match answer {
+                    Ok($found) => $name { refusal: 0, $($field: $part),* },
+                    Err(refusal) => $name::refused(refusal),
+                }
+            }
+        }
+    )*};
+}
+
+from_answer! {
+    Code, u64, code => { code: code };
+    Cell, Place, at => { face: at.face, resolution: at.resolution, row: at.row, column: at.column };
+    Length, u64, length => { length: length };
+    Size, u64, size => { size: size };
+    ShapeNumber, u64, shape => { shape: shape };
+    Count, u64, count => { count: count };
+    SquareAnswer, Square, at => { left: at.left, top: at.top, side: at.side };
+    Point, (i64, i64), (x, y) => { x: x, y: y };
+    Vertices, ([i64; 4], [i64; 4]), (x, y) => { x: x, y: y };
+}
+
+/// An answer together with the lent bytes after it.
+impl<A: Refusing> Refusing for (A, Vec<u8>) {
+    fn refusal(&self) -> u64 {
+        self.0.refusal()
+    }
+}
+
+extern "C" {
+    fn jgv_cell_code(face: u64, resolution: u64, row: u64, column: u64) -> Code;
+    fn jgv_code_cell(code: u64) -> Cell;
+    fn jgv_name_code(name: *const u8, length: usize) -> Code;
+    fn jgv_code_name(code: u64, buffer: *mut u8, room: usize) -> Length;
+    fn jgv_parent(code: u64) -> Code;
+    fn jgv_child(code: u64, digit: u64) -> Code;
+    fn jgv_size(code: u64) -> Size;
+    fn jgv_shape(code: u64) -> ShapeNumber;
+    fn jgv_corner_count(code: u64) -> Count;
+    fn jgv_square(n: u64, s: u64, code: u64) -> SquareAnswer;
+    fn jgv_nucleus(n: u64, s: u64, code: u64) -> Point;
+    fn jgv_vertices(n: u64, s: u64, code: u64) -> Vertices;
+    fn jgv_point_code(n: u64, s: u64, resolution: u64, x: i64, y: i64) -> Code;
+    fn jgv_neighbour(n: u64, s: u64, code: u64, direction: u64) -> Code;
+}
+
+pub fn cell_code(face: u64, resolution: u64, row: u64, column: u64) -> Code {
+    unsafe { jgv_cell_code(face, resolution, row, column) }
+}
+
+pub fn code_cell(code: u64) -> Cell {
+    unsafe { jgv_code_cell(code) }
+}
+
+pub fn name_code(name: &[u8]) -> Code {
+    unsafe { jgv_name_code(name.as_ptr(), name.len()) }
+}
+
+pub fn code_name(code: u64, buffer: &mut [u8]) -> Length {
+    unsafe { jgv_code_name(code, buffer.as_mut_ptr(), buffer.len()) }
+}
+
+pub fn parent(code: u64) -> Code {
+    unsafe { jgv_parent(code) }
+}
+
+pub fn child(code: u64, digit: u64) -> Code {
+    unsafe { jgv_child(code, digit) }
+}
+
+pub fn size(code: u64) -> Size {
+    unsafe { jgv_size(code) }
+}
+
+pub fn shape(code: u64) -> ShapeNumber {
+    unsafe { jgv_shape(code) }
+}
+
+pub fn corner_count(code: u64) -> Count {
+    unsafe { jgv_corner_count(code) }
+}
+
+pub fn square(n: u64, s: u64, code: u64) -> SquareAnswer {
+    unsafe { jgv_square(n, s, code) }
+}
+
+pub fn nucleus(n: u64, s: u64, code: u64) -> Point {
+    unsafe { jgv_nucleus(n, s, code) }
+}
+
+pub fn vertices(n: u64, s: u64, code: u64) -> Vertices {
+    unsafe { jgv_vertices(n, s, code) }
+}
+
+pub fn point_code(n: u64, s: u64, resolution: u64, x: i64, y: i64) -> Code {
+    unsafe { jgv_point_code(n, s, resolution, x, y) }
+}
+
+pub fn neighbour(n: u64, s: u64, code: u64, direction: u64) -> Code {
+    unsafe { jgv_neighbour(n, s, code, direction) }
+}
