@@ -162,7 +162,7 @@ pub extern "C" fn jgv_parent(code: u64) -> CodeAnswer
 {
     let Found::At(cell) = code::cell_of(code) else {
         return CodeAnswer {
-            refusal: 4,
+            refusal: 4, // comes before 12
             code: 0,
         };
     };
@@ -176,7 +176,7 @@ pub extern "C" fn jgv_child(code: u64, digit: u64) -> CodeAnswer
 {
     if digit > 8 {
         return CodeAnswer {
-            refusal: 3,
+            refusal: 3, // comes before 4 and 12
             code: 0,
         };
     }
@@ -196,7 +196,7 @@ pub extern "C" fn jgv_size(code: u64) -> SizeAnswer
 {
     let Found::At(cell) = code::cell_of(code) else {
         return SizeAnswer {
-            refusal: 4,
+            refusal: 4, // every cell has a size
             size: 0,
         };
     };
@@ -213,7 +213,7 @@ pub extern "C" fn jgv_shape(code: u64) -> ShapeAnswer
 {
     let Found::At(cell) = code::cell_of(code) else {
         return ShapeAnswer {
-            refusal: 4,
+            refusal: 4, // every cell has a shape
             shape: 0,
         };
     };
@@ -230,7 +230,7 @@ pub extern "C" fn jgv_corner_count(code: u64) -> CountAnswer
 {
     let Found::At(cell) = code::cell_of(code) else {
         return CountAnswer {
-            refusal: 4,
+            refusal: 4, // every cell has corners
             count: 0,
         };
     };
@@ -245,7 +245,7 @@ pub extern "C" fn jgv_corner_count(code: u64) -> CountAnswer
 pub extern "C" fn jgv_point_code(n: u64, s: u64, resolution: u64, x: i64, y: i64) -> CodeAnswer
     ensures { λ r. ⌜ r ≡ pointCode n s resolution x y ⌝ }
 {
-    let arrangement = Arrangement { north: n, south: s };
+    let arrangement = Arrangement { north: n, south: s }; // `point_cell` tests it
     found_answer(plane::point_cell(arrangement, resolution, x, y))
 }
 
