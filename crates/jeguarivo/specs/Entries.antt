@@ -20,6 +20,9 @@ use Rattle.plane.specs.declared.Square.{Square}
 use Rattle.plane.specs.declared.Point.{Point}
 use Rattle.plane.specs.declared.Vertices.{Vertices}
 use Rattle.plane.specs.Plane.{squareOf, nucleusOf, verticesOf, pointRefusal, pointCell}
+use Rattle.locate.specs.Fix.{fixCell, fixRefusal}
+use Rattle.nucleus.specs.declared.Fix.{Fix}
+use Rattle.nucleus.specs.Nucleus.{groundNucleus}
 use Rattle.shape.specs.Shape.{shapeOf, numberOf, cornersOf}
 use Rattle.jeguarivo.specs.declared.CodeAnswer.{CodeAnswer}
 use Rattle.jeguarivo.specs.declared.CellAnswer.{CellAnswer}
@@ -29,6 +32,7 @@ use Rattle.jeguarivo.specs.declared.ShapeAnswer.{ShapeAnswer}
 use Rattle.jeguarivo.specs.declared.CountAnswer.{CountAnswer}
 use Rattle.jeguarivo.specs.declared.SquareAnswer.{SquareAnswer}
 use Rattle.jeguarivo.specs.declared.PointAnswer.{PointAnswer}
+use Rattle.jeguarivo.specs.declared.FixAnswer.{FixAnswer}
 use Rattle.jeguarivo.specs.declared.VerticesAnswer.{VerticesAnswer}
 
 abbrev cell : ℕ → ℕ → ℕ → ℕ → Cell
@@ -61,6 +65,9 @@ childCode code digit =
 
 unfoldable pub pointCode : (n s resolution : ℕ) (x y : ℤ) → CodeAnswer
 pointCode n s resolution x y = codeAnswer (pointRefusal (arrangement n s) resolution x y) (codeOf (pointCell (arrangement n s) resolution x y))
+
+unfoldable pub fixCode : (n s resolution : ℕ) (longitude z : ℤ) → CodeAnswer
+fixCode n s resolution longitude z = codeAnswer (fixRefusal (arrangement n s) resolution longitude z) (codeOf (fixCell (arrangement n s) resolution longitude z))
 
 unfoldable pub neighbourCode : (n s code direction : ℕ) → CodeAnswer
 neighbourCode n s code direction =
@@ -146,3 +153,14 @@ theVertices vertices = record { refusal = 0; x = vertices .x; y = vertices .y }
 unfoldable pub cellVertices : (n s code : ℕ) → VerticesAnswer
 cellVertices n s code =
     given (placedRefusal n s code) (theVertices (verticesOf (arrangement n s) (cellOf code))) (noVertices (placedRefusal n s code))
+
+-- ---- the ground
+
+abbrev pub noFix : ℕ → FixAnswer
+noFix refusal = record { refusal = refusal; longitude = pos 0; z = pos 0 }
+
+abbrev pub aFix : Fix → FixAnswer
+aFix fix = record { refusal = 0; longitude = fix .longitude; z = fix .z }
+
+unfoldable pub groundFix : (n s code : ℕ) → FixAnswer
+groundFix n s code = given (placedRefusal n s code) (aFix (groundNucleus (arrangement n s) (cellOf code))) (noFix (placedRefusal n s code))

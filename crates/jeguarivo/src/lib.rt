@@ -6,7 +6,7 @@ ghost use Rattle.logic.specs.Refusal.{given};
 ghost use Rattle.cell.specs.Cell.{IsCell, refusalIn, cellIn};
 ghost use Rattle.code.specs.Code.{codeOf};
 ghost use Rattle.name.specs.Name.{codeNameRefusal, nameIn};
-ghost use Rattle.jeguarivo.specs.Entries.{codeAnswer, codedAnswer, cellCode, codeCell, nameAnswer, writtenName, parentCode, childCode, cellSize, cellShape, cornerCount, cellSquare, cellNucleus, cellVertices, pointCode, neighbourCode, noSquare, noPoint, noVertices};
+ghost use Rattle.jeguarivo.specs.Entries.{codeAnswer, codedAnswer, cellCode, codeCell, nameAnswer, writtenName, parentCode, childCode, cellSize, cellShape, cornerCount, cellSquare, cellNucleus, cellVertices, pointCode, neighbourCode, fixCode, groundFix, noSquare, noPoint, noFix, noVertices};
 use cell::Arrangement;
 use cell::Cell;
 use cell::Found;
@@ -65,6 +65,13 @@ pub struct PointAnswer {
     pub refusal: u64,
     pub x: i64,
     pub y: i64,
+}
+
+#[repr(C)]
+pub struct FixAnswer {
+    pub refusal: u64,
+    pub longitude: i64,
+    pub z: i64,
 }
 
 #[repr(C)]
@@ -249,6 +256,21 @@ pub extern "C" fn jgv_point_code(n: u64, s: u64, resolution: u64, x: i64, y: i64
     found_answer(plane::point_cell(arrangement, resolution, x, y))
 }
 
+// 5 where n or s is above 3, 2 where the resolution is above 15, 6 where the longitude or z is out of range.
+#[no_mangle]
+pub extern "C" fn jgv_fix_code(
+    n: u64,
+    s: u64,
+    resolution: u64,
+    longitude: i64,
+    z: i64,
+) -> CodeAnswer
+    ensures { λ r. ⌜ r ≡ fixCode n s resolution longitude z ⌝ }
+{
+    let arrangement = Arrangement { north: n, south: s }; // `locate` tests it
+    found_answer(locate::locate(arrangement, resolution, longitude, z))
+}
+
 // 5 where n or s is above 3, 3 where the direction is above 3, 4 where the code is no cell's.
 #[no_mangle]
 pub extern "C" fn jgv_neighbour(n: u64, s: u64, code: u64, direction: u64) -> CodeAnswer
@@ -336,6 +358,27 @@ pub extern "C" fn jgv_vertices(n: u64, s: u64, code: u64) -> VerticesAnswer
     VerticesAnswer { refusal: 0, x, y }
 }
 
+// 5 where n or s is above 3, 4 where the code is no cell's.
+#[no_mangle]
+pub extern "C" fn jgv_ground_nucleus(n: u64, s: u64, code: u64) -> FixAnswer
+    ensures { λ r. ⌜ r ≡ groundFix n s code ⌝ }
+{
+    let arrangement = Arrangement { north: n, south: s };
+    let refusal = arrangement.refusal();
+    if refusal != 0 {
+        return refused_fix(refusal);
+    }
+    let Found::At(cell) = code::cell_of(code) else {
+        return refused_fix(4);
+    };
+    let fix = nucleus::ground_nucleus(arrangement, cell);
+    FixAnswer {
+        refusal: 0,
+        longitude: fix.longitude,
+        z: fix.z,
+    }
+}
+
 fn refused_square(refusal: u64) -> SquareAnswer
     ensures { λ r. ⌜ r ≡ noSquare refusal ⌝ }
 {
@@ -354,6 +397,16 @@ fn refused_point(refusal: u64) -> PointAnswer
         refusal,
         x: 0,
         y: 0,
+    }
+}
+
+fn refused_fix(refusal: u64) -> FixAnswer
+    ensures { λ r. ⌜ r ≡ noFix refusal ⌝ }
+{
+    FixAnswer {
+        refusal,
+        longitude: 0,
+        z: 0,
     }
 }
 

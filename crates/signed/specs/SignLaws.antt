@@ -9,7 +9,7 @@ use native.Mathlib.Omega.{arith}
 use lib.IntN.{ℤ, pos, negsuc, negℤ, natAbs, subℕ, _+ℤ_, _-ℤ_}
 use lib.Signed.{mag, leZ, ltZ}
 use lib.Dec.{leb, ltb}
-use borrow.Author.Tests.{le-ltb, lt-ltb, le-leb, lt-leb}
+use borrow.Author.Tests.{leb-true, le-ltb, lt-ltb, le-leb, lt-leb}
 use mir.Syntax.{w64}
 use mir.Val.{SFits, toZ, ofZ}
 use mir.Facts.{toZ-ofZ}
@@ -93,7 +93,7 @@ neg-sub zero = refl
 neg-sub (suc n) = negsuc-sub n
 
 -- a fact of every difference, from one where it is not negative and one where it is
-by-sign {ℓ} : (P : ℤ → Type ℓ) (a b : ℕ) → (b ≤ a → P (pos (a - b))) → (a < b → P (negsuc (b - suc a))) → P (subℕ a b)
+pub by-sign {ℓ} : (P : ℤ → Type ℓ) (a b : ℕ) → (b ≤ a → P (pos (a - b))) → (a < b → P (negsuc (b - suc a))) → P (subℕ a b)
 by-sign P a b f g = go (decLe b a)
   where
     go : Dec (b ≤ a) → P (subℕ a b)
@@ -176,6 +176,21 @@ sub-lt-right a b h = lt-not-le (subℕ a h) (subℕ b h) ∙ ap not (sub-le-righ
 
 pub sub-lt-left : (a b h : ℕ) → ltZ (subℕ h a) (subℕ h b) ≡ ltb b a
 sub-lt-left a b h = lt-not-le (subℕ h a) (subℕ h b) ∙ ap not (sub-le-left b a h) ∙ sym (ltb-not b a)
+
+-- ---- the size of a number between bounds
+
+pub size-low : (x : ℤ) (n : ℕ) → negative x ≡ true → leZ (negℤ (pos n)) x ≡ true → natAbs x ≤ n
+size-low (pos a) n s l = absurd (true≢false (sym s))
+size-low (negsuc a) zero s l = absurd (true≢false (sym l))
+size-low (negsuc a) (suc n) s l = let h : a ≤ n = leb-true a n l in omega arith
+
+pub size-high : (x : ℤ) (n : ℕ) → negative x ≡ false → leZ x (pos n) ≡ true → natAbs x ≤ n
+size-high (pos a) n s h = leb-true a n h
+size-high (negsuc a) n s h = absurd (true≢false s)
+
+pub size-between : (x : ℤ) (n : ℕ) → leZ (negℤ (pos n)) x ≡ true → leZ x (pos n) ≡ true → natAbs x ≤ n
+size-between (pos a) n l h = size-high (pos a) n refl h
+size-between (negsuc a) n l h = size-low (negsuc a) n refl l
 
 -- ---- a number taken to another by a natural number, by its sign and magnitude
 

@@ -1,0 +1,155 @@
+-- `locate::cell_of` meets its contract: each return is the place that the tests before it pick. Assumes nothing.
+use mathlib.Core.Path.{_≡_, sym, ap, ap₂, _∙_}
+use mathlib.Core.Bool.{Bool, true, false}
+use Prim.Native.Nat.{ℕ, _-_, _*_, _/_, _%_, _^_, _≤_, _<_}
+use native.Mathlib.Omega.{arith}
+use borrow.Author.Needs.{needs}
+use borrow.Author.Tests.{le-leb, lt-leb}
+use lib.IntN.{ℤ, pos, natAbs}
+use lib.Signed.{ltZ}
+use Rattle.cell.specs.Neighbour.{turnOf}
+use Rattle.signed.specs.Sign.{negative, withSign}
+use Rattle.signed.specs.SignLaws.{back, below-zero, sign-and-size}
+use Rattle.locate.specs.Fix.{quarter, inBelt, eastOf, offsetOf, heightOf, startNorth, startSouth, turnedNorth, turnedSouth, beltCell, northCell, southCell}
+use Rattle.locate.specs.FixLaws.{fix-belt, fix-south, fix-north}
+use Rattle.locate.specs.RangeLaws.{longitude-low, east-small, z-small, offset-small, height-small}
+use Rattle.locate.proofs.Laws.{stands-cell}
+use Rattle.locate.proofs.cell_of.Statement.{statement}
+use Rattle.locate.proofs.cell_of.Tie as tie
+
+-- ---- what the calls give, of the fix itself
+
+module _ (c : tie.After-shifted) where
+  east-is : c .shifted .result ≡ eastOf (c .before .before .args .longitude)
+  unfolding eastOf
+  east-is = c .shifted .ensures ∙ ap eastOf (back (c .before .before .fits .longitude))
+
+  east-lt : c .shifted .result < 3600000000
+  east-lt = let s = c .before .before in rw east-is (east-small (s .args .longitude) (s .args .z) (s .pre .1 .1))
+
+module _ (c : tie.After-magnitude) where
+  size-is : c .magnitude .result ≡ natAbs (c .before .before .before .args .z)
+  size-is = c .magnitude .ensures ∙ ap natAbs (back (c .before .before .before .fits .z))
+
+  size-le : c .magnitude .result ≤ 10 ^ 18
+  size-le = let s = c .before .before .before in rw size-is (z-small (s .args .longitude) (s .args .z) (s .pre .1 .1))
+
+  height-is : 3 * (10 ^ 18 - c .magnitude .result) ≡ heightOf (c .before .before .before .args .z)
+  unfolding heightOf
+  height-is = ap (λ (y : ℕ). 3 * (10 ^ 18 - y)) size-is
+
+sign-is : (c : tie.After-is-negative) → c .is-negative .result ≡ negative (c .before .before .before .before .args .z)
+sign-is c = c .is-negative .ensures ∙ ap negative (back (c .before .before .before .before .fits .z))
+
+-- ---- the belt or a cap
+
+belt-is : (c : tie.Then1) → inBelt (c .before .before .before .before .before .args .z) ≡ true
+unfolding inBelt
+belt-is c = rw (← size-is (c .before .before)) (le-leb _ _ (c .if1 .taken))
+
+belt-not : (c : tie.Else1) → inBelt (c .before .before .before .before .before .args .z) ≡ false
+unfolding inBelt
+belt-not c = rw (← size-is (c .before .before)) (lt-leb _ _ (c .if1 .left))
+
+offset-is : (c : tie.After-offset) → c .offset .result ≡ offsetOf (c .before .before .before .before .before .before .args .z)
+offset-is c =
+    let n = c .before .before in
+    let z = n .before .before .before .before .args .z in
+    c .offset .ensures ∙ ap₂ (λ (b : Bool) (y : ℕ). offsetOf (withSign b y)) (sign-is n) (size-is (n .before)) ∙ ap offsetOf (sign-and-size z)
+
+power-requires : tie.Need-power-requires
+power-requires c κs = search needs
+
+shifted-requires : tie.Need-shifted-requires
+shifted-requires c κs =
+    let s = c .before in
+    rw (back (s .fits .longitude)) (omega arith, longitude-low (s .args .longitude) (s .args .z) (s .pre .1 .1))
+
+magnitude-requires : tie.Need-magnitude-requires
+magnitude-requires c κs = search needs
+
+is-negative-requires : tie.Need-is-negative-requires
+is-negative-requires c κs = search needs
+
+mul-if1 : tie.Need-mul-if1
+mul-if1 c = omega (arith, size-le (c .before))
+
+offset-requires : tie.Need-offset-requires
+offset-requires c κs = search needs
+
+belt-requires : tie.Need-belt-requires
+belt-requires c κs =
+    let e = c .before .before .before .before in
+    let z = e .before .before .args .z in
+    (omega arith, (e .before .power .ensures, (east-lt e, rw (offset-is c) (offset-small z (belt-is (c .before))))))
+
+returns : tie.Need-returns
+returns c =
+    let e = c .before .before .before .before .before in
+    let a = e .before .before .args in
+    c .belt .ensures
+    ∙ ap₂ (beltCell (a .resolution)) (east-is e) (offset-is (c .before))
+    ∙ sym (fix-belt (a .arrangement) (a .resolution) (a .longitude) (a .z) (belt-is (c .before .before)))
+
+sub-height : tie.Need-sub-height
+sub-height c = omega (arith, size-le (c .before .before))
+
+mul-height : tie.Need-mul-height
+mul-height c = search needs
+
+south-end-requires : tie.Need-south-end-requires
+south-end-requires c κs = let e = c .before .before .before .before in (e .before .before .pre .0 .southern, east-lt e)
+
+cap-requires : tie.Need-cap-requires
+cap-requires c κs = search needs
+
+returns-2 : tie.Need-returns-2
+unfolding southCell
+returns-2 c =
+    let m = c .before .before .before .before .before in
+    let e = m .before in
+    let a = e .before .before .args in
+    let n = c .before .before .before .before in
+    c .cap .ensures
+    ∙ stands-cell 5 (a .resolution) _ _ _ (c .before .south-end .ensures)
+    ∙ ap₂ (southCell (a .arrangement .south) (a .resolution)) (east-is e) (height-is m)
+    ∙ sym (fix-south (a .arrangement) (a .resolution) (a .longitude) (a .z) (belt-not (c .before .before .before)) (below-zero (a .z) ∙ sym (sign-is n) ∙ c .before .before .if2 .taken))
+
+north-end-requires : tie.Need-north-end-requires
+north-end-requires c κs = let e = c .before .before .before .before in (e .before .before .pre .0 .northern, east-lt e)
+
+cap-requires-2 : tie.Need-cap-requires-2
+cap-requires-2 c κs = search needs
+
+returns-3 : tie.Need-returns-3
+unfolding northCell
+returns-3 c =
+    let m = c .before .before .before .before .before in
+    let e = m .before in
+    let a = e .before .before .args in
+    let n = c .before .before .before .before in
+    c .cap2 .ensures
+    ∙ stands-cell 0 (a .resolution) _ _ _ (c .before .north-end .ensures)
+    ∙ ap₂ (northCell (a .arrangement .north) (a .resolution)) (east-is e) (height-is m)
+    ∙ sym (fix-north (a .arrangement) (a .resolution) (a .longitude) (a .z) (belt-not (c .before .before .before)) (below-zero (a .z) ∙ sym (sign-is n) ∙ c .before .before .if2 .left))
+
+pub cell-of-spec : {M : Type 1} → statement M
+cell-of-spec =
+    tie.close
+    (tie.spec
+    power-requires
+    shifted-requires
+    magnitude-requires
+    is-negative-requires
+    mul-if1
+    offset-requires
+    belt-requires
+    returns
+    sub-height
+    mul-height
+    south-end-requires
+    cap-requires
+    returns-2
+    north-end-requires
+    cap-requires-2
+    returns-3)

@@ -1,0 +1,227 @@
+// The cell of a fix (01 "From a fix to a cell"). Computed in unsigned numbers: how far east of -1,800,000,000, and z by its sign and size.
+ghost use mathlib.Core.Path.{_≡_};
+ghost use mathlib.Core.Bool.{true};
+ghost use Prim.Native.Nat.{_+_, _*_, _/_, _%_, _^_, _≤_, _<_};
+ghost use lib.IntN.{subℕ};
+ghost use Rattle.cell.specs.Cell.{IsArrangement, found};
+ghost use Rattle.signed.specs.Sign.{withSign};
+ghost use Rattle.root.specs.Floor.{axisOf};
+ghost use Rattle.locate.specs.Fix.{quarter, inRange, offsetOf, beltCell, capCell, fixCell, fixRefusal};
+ghost use Rattle.locate.specs.Fix.{startNorth, startSouth, turnedNorth, turnedSouth};
+ghost use Rattle.cell.specs.Neighbour.{turnOf};
+ghost use Rattle.locate.specs.End.{Stands};
+use cell::Arrangement;
+use cell::Cell;
+use cell::Found;
+use root::Axis;
+
+// A quarter turn of longitude, the width of a face of O to R.
+const QUARTER: u64 = 900_000_000;
+
+// 4 x 10^18 is 2^20 x 5^18.
+const UNITS: u64 = 4_000_000_000_000_000_000;
+
+const TWOS: u64 = 1_048_576;
+
+const FIVES: u64 = 3_814_697_265_625;
+
+// A floor, and what is left over.
+struct Part {
+    whole: u64,
+    rest: u64,
+}
+
+// A point of a cap, in multiples of h / 1,800,000,000.
+struct End {
+    p: Axis,
+    q: Axis,
+}
+
+// "a longitude L, -1,800,000,000 <= L < 1,800,000,000 .., and z, .. from -10^18 to 10^18"
+fn in_range(longitude: i64, z: i64) -> bool
+    ensures { λ r. ⌜ r ≡ inRange longitude z ⌝ }
+{
+    if signed::at_most(-1_800_000_000, longitude) {
+        if signed::below(longitude, 1_800_000_000) {
+            if signed::at_most(-1_000_000_000_000_000_000, z) {
+                return signed::at_most(z, 1_000_000_000_000_000_000);
+            }
+        }
+    }
+    false
+}
+
+// 2 x 10^18 - 3z, in the belt.
+fn offset(south: bool, size: u64) -> u64
+    requires { ⌜ 3 * size ≤ 2 * 10 ^ 18 ⌝ }
+    ensures { λ r. ⌜ r ≡ offsetOf (withSign south size) ⌝ }
+{
+    if south {
+        return 2_000_000_000_000_000_000 + 3 * size;
+    }
+    2_000_000_000_000_000_000 - 3 * size
+}
+
+// m x / (4 x 10^18), by the twos first: with 3^14 x 5^18 below 2^64 nothing is wider than a word.
+fn part_of(m: u64, x: u64) -> Part
+    requires { ⌜ m ≤ 3 ^ 14 ⌝ }
+    requires { ⌜ x < 4 * 10 ^ 18 ⌝ }
+    ensures { λ r. ⌜ (r .whole ≡ m * x / (4 * 10 ^ 18)) × (r .rest ≡ m * x % (4 * 10 ^ 18)) ⌝ }
+{
+    let low = m * (x % TWOS);
+    let high = m * (x / TWOS) + low / TWOS;
+    Part {
+        whole: high / FIVES,
+        rest: high % FIVES * TWOS + low % TWOS,
+    }
+}
+
+// The row floor(m offset / (4 x 10^18)); at resolution 15 it has one digit more than at 14.
+fn belt_row(resolution: u64, m: u64, offset: u64) -> u64
+    requires { ⌜ resolution ≤ 15 ⌝ }
+    requires { ⌜ m ≡ 3 ^ resolution ⌝ }
+    requires { ⌜ offset < 4 * 10 ^ 18 ⌝ }
+    ensures { λ r. ⌜ r ≡ 3 ^ resolution * offset / (4 * 10 ^ 18) ⌝ }
+{
+    if resolution < 15 {
+        let part = part_of(m, offset);
+        return part.whole;
+    }
+    let part = part_of(4_782_969, offset);
+    3 * part.whole + 3 * part.rest / UNITS
+}
+
+// "face c of O to R, column floor(a m / 900,000,000), row floor(m (2 x 10^18 - 3z) / (4 x 10^18))"
+fn belt(resolution: u64, m: u64, east: u64, offset: u64) -> Cell
+    requires { ⌜ resolution ≤ 15 ⌝ }
+    requires { ⌜ m ≡ 3 ^ resolution ⌝ }
+    requires { ⌜ east < 3600000000 ⌝ }
+    requires { ⌜ offset < 4 * 10 ^ 18 ⌝ }
+    ensures { λ r. ⌜ r ≡ beltCell resolution east offset ⌝ }
+{
+    Cell {
+        face: 1 + east / QUARTER,
+        resolution,
+        row: belt_row(resolution, m, offset),
+        column: east % QUARTER * m / QUARTER,
+    }
+}
+
+// t h, the first number of a start.
+fn across(a: u64) -> Axis
+    requires { ⌜ a < quarter ⌝ }
+    ensures { λ r. ⌜ (axisOf r ≡ subℕ (2 * a) quarter) × (r .size ≤ quarter) ⌝ }
+{
+    if 2 * a < QUARTER {
+        return Axis {
+            minus: true,
+            size: QUARTER - 2 * a,
+        };
+    }
+    Axis {
+        minus: false,
+        size: 2 * a - QUARTER,
+    }
+}
+
+// So many turns by (u, v) -> (-v, u); x is -u and y is -v.
+fn turned(turns: u64, u: Axis, v: Axis) -> End
+    requires { ⌜ turns < 4 ⌝ }
+    requires { ⌜ u .size ≤ quarter ⌝ }
+    requires { ⌜ v .size ≤ quarter ⌝ }
+    ensures { λ r. ⌜ Stands (turnedNorth turns (axisOf u, axisOf v)) r ⌝ }
+{
+    let x = root::negated(u);
+    let y = root::negated(v);
+    match turns {
+        0 => End { p: u, q: v },
+        1 => End { p: y, q: u },
+        2 => End { p: x, q: y },
+        _ => End { p: v, q: x },
+    }
+}
+
+// "Start at (u, v) = (t h, -h/2). Turn (c - n) mod 4 times by (u, v) -> (-v, u)."
+fn north_end(n: u64, east: u64) -> End
+    requires { ⌜ n ≤ 3 ⌝ }
+    requires { ⌜ east < 3600000000 ⌝ }
+    ensures { λ r. ⌜ Stands (turnedNorth (turnOf (east / quarter) n) (startNorth (east % quarter))) r ⌝ }
+{
+    let v = Axis {
+        minus: true,
+        size: QUARTER,
+    };
+    let turns = (east / QUARTER + 4 - n) % 4;
+    turned(turns, across(east % QUARTER), v)
+}
+
+// "a start of (t h, +h/2), turns (c - s) mod 4 by (u, v) -> (v, -u)": these lead back, so they are (s - c) mod 4 turns of the north.
+fn south_end(s: u64, east: u64) -> End
+    requires { ⌜ s ≤ 3 ⌝ }
+    requires { ⌜ east < 3600000000 ⌝ }
+    ensures { λ r. ⌜ Stands (turnedSouth (turnOf (east / quarter) s) (startSouth (east % quarter))) r ⌝ }
+{
+    let v = Axis {
+        minus: false,
+        size: QUARTER,
+    };
+    let turns = (s + 4 - east / QUARTER) % 4;
+    turned(turns, across(east % QUARTER), v)
+}
+
+// "For the end (p, q): column floor(m (1/2 + p)), row floor(m (1/2 - q))", by (10^9 h)^2.
+fn cap(face: u64, resolution: u64, m: u64, height: u64, end: End) -> Cell
+    requires { ⌜ resolution ≤ 15 ⌝ }
+    requires { ⌜ m ≡ 3 ^ resolution ⌝ }
+    requires { ⌜ height < 10 ^ 18 ⌝ }
+    requires { ⌜ end .p .size ≤ quarter ⌝ }
+    requires { ⌜ end .q .size ≤ quarter ⌝ }
+    ensures { λ r. ⌜ r ≡ capCell face resolution height (axisOf (end .p), axisOf (end .q)) ⌝ }
+{
+    let root = root::whole_root(height);
+    let q = root::negated(end.q);
+    Cell {
+        face,
+        resolution,
+        row: root::floor(resolution, m, height, root, q),
+        column: root::floor(resolution, m, height, root, end.p),
+    }
+}
+
+// The cell of a fix in range.
+fn cell_of(arrangement: Arrangement, resolution: u64, longitude: i64, z: i64) -> Cell
+    requires { ⌜ IsArrangement arrangement ⌝ }
+    requires { ⌜ resolution ≤ 15 ⌝ }
+    requires { ⌜ inRange longitude z ≡ true ⌝ }
+    ensures { λ r. ⌜ r ≡ fixCell arrangement resolution longitude z ⌝ }
+{
+    let m = ternary::power(resolution);
+    let east = signed::shifted(longitude, 1_800_000_000);
+    let size = signed::magnitude(z);
+    let south = signed::is_negative(z);
+    if 3 * size <= 2_000_000_000_000_000_000 {
+        return belt(resolution, m, east, offset(south, size));
+    }
+    let height = 3 * (1_000_000_000_000_000_000 - size);
+    if south {
+        return cap(5, resolution, m, height, south_end(arrangement.south, east));
+    }
+    cap(0, resolution, m, height, north_end(arrangement.north, east))
+}
+
+// The cell of that resolution in which a fix lies, or the refusal.
+pub fn locate(arrangement: Arrangement, resolution: u64, longitude: i64, z: i64) -> Found
+    ensures { λ r. ⌜ r ≡ found (fixRefusal arrangement resolution longitude z) (fixCell arrangement resolution longitude z) ⌝ }
+{
+    let refusal = arrangement.refusal();
+    if refusal != 0 {
+        return Found::Refused(refusal);
+    }
+    if resolution > 15 {
+        return Found::Refused(2);
+    }
+    if in_range(longitude, z) {
+        return Found::At(cell_of(arrangement, resolution, longitude, z));
+    }
+    Found::Refused(6)
+}

@@ -1,0 +1,110 @@
+-- `nucleus::north_nucleus` meets its contract. Assumes nothing.
+use mathlib.Core.Path.{sym, _∙_}
+use Prim.Native.Nat.{ℕ, _-_, _*_, _^_, _≤_, _<_}
+use native.Mathlib.Nat.{mul-pos}
+use native.Mathlib.Omega.{arith}
+use borrow.Author.Needs.{needs}
+use Rattle.signed.specs.SignLaws.{back-as}
+use Rattle.nucleus.specs.Nucleus.{capLongitude}
+use Rattle.nucleus.specs.TriangleLaws.{middle, OffCentre}
+use Rattle.nucleus.specs.StartLaws.{off-centre, north-is, north-pole}
+use Rattle.nucleus.specs.CapLaws.{north-z}
+use Rattle.nucleus.proofs.Laws.{square-lt, height-le}
+use Rattle.nucleus.proofs.north_nucleus.Statement.{statement}
+use Rattle.nucleus.proofs.north_nucleus.Tie as tie
+
+is-centre-requires : tie.Need-is-centre-requires
+is-centre-requires c κs = search needs
+
+difference-requires : tie.Need-difference-requires
+difference-requires c κs = search needs
+
+as-signed-requires : tie.Need-as-signed-requires
+as-signed-requires c κs = search needs
+
+returns : tie.Need-returns
+returns c =
+    let t = c .before .before .before in
+    let a = t .before .args in
+    (λ i. record { longitude = back-as (c .before .difference .ok) (c .before .difference .ensures) i; z = back-as (c .as-signed .ok) (c .as-signed .ensures) i })
+    ∙ sym (north-pole (a .n) (a .m) (middle (a .m) (a .a) (a .b)) (sym (t .is-centre .ensures) ∙ c .before .before .if1 .taken))
+
+-- not at the pole
+off : (c : tie.Else1) → OffCentre (c .before .before .args .m) (c .before .before .args .a) (c .before .before .args .b)
+off c =
+    let a = c .before .before .args in
+    off-centre (a .m) (a .a) (a .b) (sym (c .before .is-centre .ensures) ∙ c .if1 .left)
+
+start-of-requires : tie.Need-start-of-requires
+start-of-requires c κs =
+    (c .before .before .pre .1, off c)
+
+-- the squares fit
+mul-d : tie.Need-mul-d
+mul-d c = let s = c .before .before .before in omega (arith, square-lt (s .args .m) (s .pre .1 .small))
+
+mul-d-2 : tie.Need-mul-d-2
+mul-d-2 c = let s = c .before .before .before in omega (arith, square-lt (s .args .m) (s .pre .1 .small))
+
+add-longitude-at : tie.Need-add-longitude-at
+add-longitude-at c = search needs
+
+longitude-at-requires : tie.Need-longitude-at-requires
+longitude-at-requires c κs = search needs
+
+-- 3 m m - h h is below 3 m m
+module _ (c : tie.After-start-of) where
+  abbrev side : ℕ
+  side = c .before .before .before .args .m
+
+  abbrev height : ℕ
+  height = c .start-of .result .height
+
+  side-small : side * side < 2 ^ 48
+  side-small = square-lt side (c .before .before .before .pre .1 .small)
+
+  height-small : height * height ≤ side * side
+  height-small = height-le side height (c .start-of .ensures .low)
+
+  height-pos : 0 < height * height
+  height-pos = mul-pos (c .start-of .ensures .tall) (c .start-of .ensures .tall)
+
+mul-z-above : tie.Need-mul-z-above
+mul-z-above c = let t = c .before .before in omega (arith, side-small t, height-small t)
+
+sub-z-above : tie.Need-sub-z-above
+sub-z-above c = omega (arith, height-small (c .before .before))
+
+z-above-requires : tie.Need-z-above-requires
+z-above-requires c κs = let t = c .before .before in omega (arith, side-small t, height-small t, height-pos t)
+
+returns-2 : tie.Need-returns-2
+unfolding capLongitude
+returns-2 c =
+    let t = c .before .before .before in
+    let a = t .before .before .before .args in
+    let s = t .start-of .result in
+    (λ i.
+    record {
+      longitude = back-as (c .before .longitude-at .ok) (c .before .longitude-at .ensures) i;
+      z = back-as (c .z-above .ok) (c .z-above .ensures ∙ north-z (a .m) (s .height) (t .start-of .ensures .low)) i;
+    })
+    ∙ sym (north-is (a .m) (a .a) (a .b) (s .turn) (s .height) (s .along) (t .start-of .ensures) (a .n))
+
+pub north-nucleus-spec : {M : Type 1} → statement M
+north-nucleus-spec =
+    tie.close
+    (tie.spec
+    is-centre-requires
+    difference-requires
+    as-signed-requires
+    returns
+    start-of-requires
+    mul-d
+    mul-d-2
+    add-longitude-at
+    longitude-at-requires
+    mul-z-above
+    sub-z-above
+    z-above-requires
+    returns-2)

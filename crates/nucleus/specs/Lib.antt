@@ -1,0 +1,10 @@
+pub mod Nucleus
+pub mod PlaceLaws
+pub mod FlooredLaws
+pub mod BeltLaws
+pub mod TriangleLaws
+pub mod StartLaws
+pub mod NearLaws
+pub mod CapLaws
+pub mod SentLaws
+pub mod NucleusLaws

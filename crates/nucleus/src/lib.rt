@@ -1,0 +1,188 @@
+// The ground nucleus of a cell, in whole numbers: the fractions that the rules send to the cell's middle, floored.
+ghost use mathlib.Core.Path.{_≡_};
+ghost use Prim.Native.Nat.{_+_, _*_, _/_, _^_, _≤_, _<_};
+ghost use lib.IntN.{pos, negℤ, subℕ};
+ghost use Rattle.cell.specs.Cell.{IsCell, IsArrangement};
+ghost use Rattle.locate.specs.Fix.{quarter};
+ghost use Rattle.nucleus.specs.Nucleus.{floorZ, centred, northNucleus, southNucleus, groundNucleus};
+ghost use Rattle.nucleus.specs.TriangleLaws.{middle, OffCentre, Inside, IsStart};
+use cell::Arrangement;
+use cell::Cell;
+
+// A longitude, in ten-millionths of a degree, and the sine of the authalic latitude, in units of 10^-18.
+pub struct Fix {
+    pub longitude: i64,
+    pub z: i64,
+}
+
+// How often a cap's start was turned, its height, and the place along it from its western end.
+struct Start {
+    turn: u64,
+    height: u64,
+    along: u64,
+}
+
+// 10^18 n / d, floored.
+fn z_above(n: u64, d: u64) -> i64
+    requires { ⌜ n < d ⌝ }
+    requires { ⌜ d < 2 ^ 50 ⌝ }
+    ensures { λ r. ⌜ r ≡ floorZ (pos (10 ^ 18 * n)) d ⌝ }
+{
+    let q = division::scaled(1000, 6, n, d);
+    signed::as_signed(q.whole)
+}
+
+// -10^18 n / d, floored towards minus infinity: away from 0 where a rest is left.
+fn z_below(n: u64, d: u64) -> i64
+    requires { ⌜ n < d ⌝ }
+    requires { ⌜ d < 2 ^ 50 ⌝ }
+    ensures { λ r. ⌜ r ≡ floorZ (negℤ (pos (10 ^ 18 * n))) d ⌝ }
+{
+    let q = division::scaled(1000, 6, n, d);
+    let rest = q.rest;
+    if rest == 0 {
+        return signed::difference(0, q.whole);
+    }
+    signed::difference(0, q.whole + 1)
+}
+
+// The longitude in a face of O to R, of which along / (2 height) lies west of it, floored.
+fn longitude_at(face: u64, along: u64, height: u64) -> i64
+    requires { ⌜ face < 4 ⌝ }
+    requires { ⌜ along < 2 * height ⌝ }
+    requires { ⌜ height < 2 ^ 24 ⌝ }
+    ensures { λ r. ⌜ r ≡ subℕ (face * quarter + 450000000 * along / height) 1800000000 ⌝ }
+{
+    let east = face * 900_000_000 + 450_000_000 * along / height;
+    signed::difference(east, 1_800_000_000)
+}
+
+// z of a cell of the belt whose middle lies b / 2m of the side below the top.
+fn belt_z(m: u64, b: u64) -> i64
+    requires { ⌜ m < 2 ^ 24 ⌝ }
+    requires { ⌜ 0 < b ⌝ }
+    requires { ⌜ b < 2 * m ⌝ }
+    ensures { λ r. ⌜ r ≡ floorZ (subℕ (2 * 10 ^ 18 * m) (2 * 10 ^ 18 * b)) (3 * m) ⌝ }
+{
+    if b <= m {
+        return z_above(2 * (m - b), 3 * m);
+    }
+    z_below(2 * (b - m), 3 * m)
+}
+
+// Whether the middle of a cap's cell, a / 2m from the left and b / 2m from the top, is the pole.
+fn is_centre(m: u64, a: u64, b: u64) -> bool
+    ensures { λ r. ⌜ r ≡ centred (middle m a b) ⌝ }
+{
+    if a == m {
+        return b == m;
+    }
+    false
+}
+
+// The start of a middle in the north: a seam is the western edge of the eastern triangle.
+fn start_of(m: u64, a: u64, b: u64) -> Start
+    requires { ⌜ Inside m a b ⌝ }
+    requires { ⌜ OffCentre m a b ⌝ }
+    ensures { λ r. ⌜ IsStart m a b (r .turn) (r .height) (r .along) ⌝ }
+{
+    let sum = a + b;
+    let side = 2 * m;
+    if a < b {
+        if side <= sum {
+            return Start {
+                turn: 0,
+                height: b - m,
+                along: sum - side,
+            };
+        }
+        return Start {
+            turn: 3,
+            height: m - a,
+            along: b - a,
+        };
+    }
+    if side < sum {
+        return Start {
+            turn: 1,
+            height: a - m,
+            along: a - b,
+        };
+    }
+    if b < a {
+        return Start {
+            turn: 2,
+            height: m - b,
+            along: side - sum,
+        };
+    }
+    Start {
+        turn: 3,
+        height: m - a,
+        along: 0,
+    }
+}
+
+// A cell of N.
+fn north_nucleus(n: u64, m: u64, a: u64, b: u64) -> Fix
+    requires { ⌜ n ≤ 3 ⌝ }
+    requires { ⌜ Inside m a b ⌝ }
+    ensures { λ r. ⌜ r ≡ northNucleus n m (middle m a b) ⌝ }
+{
+    if is_centre(m, a, b) {
+        return Fix {
+            longitude: signed::difference(0, 1_800_000_000),
+            z: signed::as_signed(1_000_000_000_000_000_000),
+        };
+    }
+    let start = start_of(m, a, b);
+    let h = start.height;
+    let d = 3 * (m * m);
+    Fix {
+        longitude: longitude_at((n + start.turn) % 4, start.along, h),
+        z: z_above(d - h * h, d),
+    }
+}
+
+// A cell of S: the start of the mirrored middle.
+fn south_nucleus(s: u64, m: u64, a: u64, b: u64) -> Fix
+    requires { ⌜ s ≤ 3 ⌝ }
+    requires { ⌜ Inside m a b ⌝ }
+    ensures { λ r. ⌜ r ≡ southNucleus s m (middle m a b) ⌝ }
+{
+    if is_centre(m, a, b) {
+        return Fix {
+            longitude: signed::difference(0, 1_800_000_000),
+            z: signed::difference(0, 1_000_000_000_000_000_000),
+        };
+    }
+    let start = start_of(m, a, 2 * m - b);
+    let h = start.height;
+    let d = 3 * (m * m);
+    Fix {
+        longitude: longitude_at((s + start.turn) % 4, start.along, h),
+        z: z_below(d - h * h, d),
+    }
+}
+
+// The longitude and z that the rules send to the middle of a cell, each floored.
+pub fn ground_nucleus(arrangement: Arrangement, cell: Cell) -> Fix
+    requires { ⌜ IsArrangement arrangement ⌝ }
+    requires { ⌜ IsCell cell ⌝ }
+    ensures { λ r. ⌜ r ≡ groundNucleus arrangement cell ⌝ }
+{
+    let face = cell.face;
+    let m = ternary::power(cell.resolution);
+    let a = 2 * cell.column + 1;
+    let b = 2 * cell.row + 1;
+    if face < 1 {
+        return north_nucleus(arrangement.north, m, a, b);
+    }
+    if face < 5 {
+        return Fix {
+            longitude: longitude_at(face - 1, a, m),
+            z: belt_z(m, b),
+        };
+    }
+    south_nucleus(arrangement.south, m, a, b)
+}

@@ -1,0 +1,77 @@
+-- Newton's iteration for a square root, on plain numbers, and its first guess. Assumes nothing.
+use mathlib.Core.Path.{_≡_, refl, subst}
+use mathlib.Core.Logic.{⊎-elim}
+use Prim.Native.Nat.{ℕ, zero, suc, _+_, _-_, _*_, _/_, _^_, _≤_, _<_}
+use native.Mathlib.Nat.{le-trans, le-of-eq, le-of-lt, lt-of-lt-of-le, lt-suc-self, zero-lt-suc, le-dest, le-intro, add-comm, add-assoc, add-left-comm, mul-comm, mul-add, add-mul, mul-le-mul, mul-le-mul-right, div-lt-iff-lt-mul, div-le-of-le-mul, pow-le-pow-right, one-le-pow}
+use native.Mathlib.Omega.{arith}
+use lib.Count.{leadingZeros, leading-length}
+use lib.Pow.{pow-add}
+use Rattle.logic.specs.Order.{lt-or}
+
+-- ---- a step
+
+-- For b written a + d: twice a product is d * d less than the two squares
+squares-regrouped : (a d : ℕ) → a * (a + d) + a * (a + d) + d * d ≡ (a + d) * (a + d) + a * a
+squares-regrouped a d = simp (mul-add, add-mul, mul-comm, add-assoc, add-comm, add-left-comm) refl
+
+products-le-ordered : (a b : ℕ) → a ≤ b → a * b + a * b ≤ b * b + a * a
+products-le-ordered a b h =
+    subst (λ (x : ℕ). a * x + a * x ≤ x * x + a * a) (le-dest h .1)
+    (le-intro (a * (a + le-dest h .0) + a * (a + le-dest h .0)) (le-dest h .0 * le-dest h .0) (squares-regrouped a (le-dest h .0)))
+
+-- so the mean of two numbers is at least the root of their product
+products-le-squares : (a b : ℕ) → a * b + a * b ≤ b * b + a * a
+products-le-squares a b =
+    ⊎-elim (λ h. omega (arith, products-le-ordered b a (le-of-lt h), mul-comm a b)) (λ h. products-le-ordered a b h) (lt-or b a)
+
+-- With q for n / r and m for one more than the new guess: n is below the next multiple of r, (q + 1) * r, and r + q is below m twice.
+-- So r * r + (q + 1) * r, which is (r + q + 1) * r, is at most m * r twice, and so at most r * r + m * m: n < (q + 1) * r ≤ m * m.
+above : (n r q m : ℕ) → n < suc q * r → r + q < m + m → n < m * m
+above n r q m next twice =
+    let s : (r + suc q) * r ≤ (m + m) * r = mul-le-mul-right r (omega arith) in
+    omega (arith, add-mul r (suc q) r, add-mul m m r, products-le-squares m r)
+
+-- the new guess, from any guess above 0, is at least the root
+pub newton-above : (n r : ℕ) → 0 < r → n < ((r + n / r) / 2 + 1) * ((r + n / r) / 2 + 1)
+newton-above n r h = above n r (n / r) ((r + n / r) / 2 + 1) (div-lt-iff-lt-mul h .0 (lt-suc-self (n / r))) (omega arith)
+
+-- a number whose square is above another is above 0
+pub square-pos : (n r : ℕ) → n < r * r → 0 < r
+square-pos n zero h = absurd (omega arith)
+square-pos n (suc r) h = zero-lt-suc r
+
+-- the new guess, from one whose square is above n, is smaller: n / r is below r
+pub newton-below : (n r : ℕ) → n < r * r → (r + n / r) / 2 < r
+newton-below n r h = let q : n / r < r = div-lt-iff-lt-mul (square-pos n r h) .1 h in omega arith
+
+-- ---- the first guess
+
+-- 2^s, for s half of t's length in bits, rounded up, is above the root
+pub half-length : (t : ℕ) → t < 10 ^ 18 → ((65 - leadingZeros 64 t) / 2 ≤ 30) × (t < 2 ^ ((65 - leadingZeros 64 t) / 2) * 2 ^ ((65 - leadingZeros 64 t) / 2))
+half-length t h =
+    let l = leading-length 64 t (omega arith) in
+    let m : ℕ = l .0 in
+    let z : leadingZeros 64 t + m ≡ 64 = l .1 in
+    let s : ℕ = (65 - leadingZeros 64 t) / 2 in
+    let short : m ≤ 60 = ⊎-elim (λ k. absurd (let p : 2 ^ 61 ≤ 2 ^ m = pow-le-pow-right (zero-lt-suc 1) k in let q : 2 ^ m ≤ 2 * t + 1 = l .3 in omega arith)) (λ k. k) (lt-or 60 m) in
+    let twice : m ≤ s + s = omega arith in
+    let p : 2 ^ m ≤ 2 ^ (s + s) = pow-le-pow-right (zero-lt-suc 1) twice in
+    (omega arith, lt-of-lt-of-le (l .2) (le-trans p (le-of-eq (pow-add 2 s s))))
+
+-- what keeps the parabola within a word: with h = 2^s and x = t / h, h is small, x is below h, and x x / h is at most x
+pub record Sizes (t s : ℕ) : Type 0 where
+  pub side : 2 ^ s ≤ 1073741824
+  pub along : t / 2 ^ s < 2 ^ s
+  pub squared : t / 2 ^ s * (t / 2 ^ s) ≤ 1152921504606846976
+  pub folded : t / 2 ^ s * (t / 2 ^ s) / 2 ^ s ≤ t / 2 ^ s
+
+pub sizes : (t s : ℕ) → s ≤ 30 → t < 2 ^ s * 2 ^ s → Sizes t s
+sizes t s hs ht =
+    let h : 2 ^ s ≤ 2 ^ 30 = pow-le-pow-right (zero-lt-suc 1) hs in
+    let x : t / 2 ^ s < 2 ^ s = div-lt-iff-lt-mul (one-le-pow s 2 (zero-lt-suc 1)) .1 ht in
+    record {
+      side = h;
+      along = x;
+      squared = mul-le-mul {n₂ = 1073741824} {m₂ = 1073741824} (omega arith) (omega arith);
+      folded = div-le-of-le-mul (2 ^ s) (mul-le-mul-right (t / 2 ^ s) (le-of-lt x));
+    }

@@ -1,0 +1,49 @@
+-- `root::plus_reaches` meets its contract. Assumes nothing.
+use mathlib.Core.Path.{sym, ap₂, _∙_}
+use native.Mathlib.Omega.{arith}
+use lib.Dec.{leb}
+use Rattle.root.specs.SquareLaws.{plus-under, plus-second}
+use Rattle.root.proofs.Between.{product-small}
+use borrow.Author.Needs.{needs}
+use Rattle.root.proofs.plus_reaches.Statement.{statement}
+use Rattle.root.proofs.plus_reaches.Tie as tie
+
+mul-v : tie.Need-mul-v
+mul-v c = search needs
+
+returns : tie.Need-returns
+returns c = sym (plus-under _ _ _ _ (c .if1 .taken))
+
+sub-edge : tie.Need-sub-edge
+sub-edge c = search needs
+
+edge-requires : tie.Need-edge-requires
+edge-requires c κs = search needs
+
+mul-reach : tie.Need-mul-reach
+mul-reach c = omega (arith, product-small (c .before .before .args .m) (c .before .before .args .g) (c .before .before .pre .0) (c .before .before .pre .1))
+
+reach-requires : tie.Need-reach-requires
+reach-requires c κs = search needs
+
+at-most-requires : tie.Need-at-most-requires
+at-most-requires c κs = search needs
+
+returns-2 : tie.Need-returns-2
+returns-2 c =
+    let a = c .before .before .before .before .args in
+    c .at-most .ensures ∙ ap₂ leb (c .before .before .edge .ensures) (c .before .reach .ensures)
+    ∙ plus-second (a .m) (a .t) (a .g) (a .w) (c .before .before .before .if1 .left)
+
+pub plus-reaches-spec : {M : Type 1} → statement M
+plus-reaches-spec =
+    tie.close
+    (tie.spec
+    mul-v
+    returns
+    sub-edge
+    edge-requires
+    mul-reach
+    reach-requires
+    at-most-requires
+    returns-2)

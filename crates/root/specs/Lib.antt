@@ -1,0 +1,4 @@
+pub mod Floor
+pub mod SquareLaws
+pub mod FloorLaws
+pub mod Bracket
