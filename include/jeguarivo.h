@@ -8,11 +8,12 @@
  *    3  later name byte not 0 to 8, row or column not below 3^resolution, child digit above 8, direction above 3
  *    4  a code is no cell's
  *    5  n or s above 3
+ *    6  longitude or z out of range
  *    7  planar point outside the image
  *    8  lent buffer shorter than the answer
  *   12  parent at resolution 0, child at 15
  *
- * Where several apply, the order is 5, 2, 1, 3, 4, 7, 12, 8. Faces 0 to 5 are N, O, P, Q, R, S; N lies above face n of O to R and S below
+ * Where several apply, the order is 5, 2, 1, 3, 4, 6, 7, 12, 8. Faces 0 to 5 are N, O, P, Q, R, S; N lies above face n of O to R and S below
  * face s, both from 0 to 3.
  */
 #ifndef JEGUARIVO_H
@@ -34,6 +35,7 @@ typedef struct { uint64_t refusal, count; } jgv_count;
 typedef struct { uint64_t refusal; int64_t left, top, side; } jgv_square_answer;
 typedef struct { uint64_t refusal; int64_t x, y; } jgv_point;
 typedef struct { uint64_t refusal; int64_t x[4], y[4]; } jgv_vertices_answer;
+typedef struct { uint64_t refusal; int64_t longitude, z; } jgv_fix;
 
 /* The code of a cell. Refusals 2, 1, 3. */
 jgv_code jgv_cell_code(uint64_t face, uint64_t resolution, uint64_t row, uint64_t column);
@@ -74,6 +76,13 @@ jgv_vertices_answer jgv_vertices(uint64_t n, uint64_t s, uint64_t code);
 
 /* The cell of a resolution that owns a point of the plane. Refusals 5, 2, 7. */
 jgv_code jgv_point_code(uint64_t n, uint64_t s, uint64_t resolution, int64_t x, int64_t y);
+
+/* The cell of a resolution in which a fix lies, found with no rounding: a longitude from -1,800,000,000 to 1,799,999,999 in units of 10^-7
+ * degree, and z, the sine of the authalic latitude, from -10^18 to 10^18 in units of 10^-18. Refusals 5, 2, 6. */
+jgv_code jgv_fix_code(uint64_t n, uint64_t s, uint64_t resolution, int64_t longitude, int64_t z);
+
+/* The longitude and z of a cell's middle on the ground, each floored to a whole unit: a fix that lies in that cell. Refusals 5, 4. */
+jgv_fix jgv_ground_nucleus(uint64_t n, uint64_t s, uint64_t code);
 
 /* The neighbour of a cell: direction 0 is up, 1 right, 2 down, 3 left. Refusals 5, 3, 4. */
 jgv_code jgv_neighbour(uint64_t n, uint64_t s, uint64_t code, uint64_t direction);

@@ -23,6 +23,11 @@ pub struct About {
     pub resolution: u64,
 }
 
+/// Writes a line past the test harness, which would hold it back for a test that passes.
+pub fn say(line: &str) {
+    writeln!(std::io::stdout(), "{line}").expect("standard output");
+}
+
 /// Counts of inputs: by kind, by refusal (0 for accepted), and of the accepted ones by
 /// arrangement and resolution.
 #[derive(Default)]
@@ -45,8 +50,7 @@ impl Tally {
         }
     }
 
-    /// States the counts, and fails where too little was tried. The line goes past the test
-    /// harness, which would hold it back for a test that passes.
+    /// States the counts, and fails where too little was tried.
     pub fn finish(&self, entry: &str, refusals: &[u64]) {
         let total: u64 = self.kinds.iter().sum();
         let [random, border, bad] = self.kinds;
@@ -58,7 +62,7 @@ impl Tally {
                 _ => line += &format!("; refused {refusal}: {count}"),
             }
         }
-        writeln!(std::io::stdout(), "{line}").expect("standard output");
+        say(&line);
         let met: Vec<u64> = self.refusals.keys().copied().collect();
         let mut wanted = vec![0];
         wanted.extend(refusals);
@@ -95,10 +99,25 @@ pub fn compare<I: Debug, A: Refusing>(
     second: impl Fn(&I) -> A,
     proved: impl Fn(&I) -> A,
 ) {
+    compare_mix(entry, refusals, &KINDS, INPUTS, make, about, second, proved);
+}
+
+/// The same with a mix of kinds and a number of inputs of one's own.
+#[allow(clippy::too_many_arguments)]
+pub fn compare_mix<I: Debug, A: Refusing>(
+    entry: &str,
+    refusals: &[u64],
+    mix: &[Kind],
+    inputs: u64,
+    make: impl Fn(&mut Random, Kind) -> I,
+    about: impl Fn(&I) -> About,
+    second: impl Fn(&I) -> A,
+    proved: impl Fn(&I) -> A,
+) {
     let mut random = Random::for_test(entry);
     let mut tally = Tally::default();
-    for _ in 0..INPUTS {
-        let kind = random.pick(&KINDS);
+    for _ in 0..inputs {
+        let kind = random.pick(mix);
         let input = make(&mut random, kind);
         let wanted = second(&input);
         let found = proved(&input);

@@ -3,16 +3,20 @@
 //! proved library, entry by entry. They prove nothing; the library's contracts do that.
 //!
 //! RATTLE_LIBS names the folder of libjeguarivo.a: `cargo test --release --offline`. Without it
-//! the test `grid` fails, and the other tries this program alone. SECOND_SEED sets another seed
-//! for the inputs.
+//! the tests `grid` and `ground` fail, and the others try this program alone. SECOND_SEED sets
+//! another seed for the inputs.
 //!
 //! - `grid`: names, codes, the plane, shapes, neighbours
+//! - `ground`: the cell of a fix and the ground nucleus, over the whole numbers of `big`
 //! - `proved`: the proved library's C entries
-//! - `random`: inputs, good, at borders, and bad
+//! - `random`: inputs, good, at borders, and bad; `fixes` for fixes
 //! - `compare`: runs both programs on many inputs and counts what was met
 
+pub mod big;
 pub mod compare;
+pub mod fixes;
 pub mod grid;
+pub mod ground;
 #[cfg(proved)]
 pub mod proved;
 pub mod random;

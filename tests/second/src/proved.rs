@@ -45,6 +45,8 @@ answers! {
     Point { x: i64, y: i64 }
     /// `jgv_vertices_answer`
     Vertices { x: [i64; 4], y: [i64; 4] }
+    /// `jgv_fix`
+    Fix { longitude: i64, z: i64 }
 }
 
 /// The second program's answer in the form of the proved library's.
@@ -71,6 +73,7 @@ from_answer! {
     SquareAnswer, Square, at => { left: at.left, top: at.top, side: at.side };
     Point, (i64, i64), (x, y) => { x: x, y: y };
     Vertices, ([i64; 4], [i64; 4]), (x, y) => { x: x, y: y };
+    Fix, (i64, i64), (longitude, z) => { longitude: longitude, z: z };
 }
 
 /// An answer together with the lent bytes after it.
@@ -95,6 +98,8 @@ extern "C" {
     fn jgv_vertices(n: u64, s: u64, code: u64) -> Vertices;
     fn jgv_point_code(n: u64, s: u64, resolution: u64, x: i64, y: i64) -> Code;
     fn jgv_neighbour(n: u64, s: u64, code: u64, direction: u64) -> Code;
+    fn jgv_fix_code(n: u64, s: u64, resolution: u64, longitude: i64, z: i64) -> Code;
+    fn jgv_ground_nucleus(n: u64, s: u64, code: u64) -> Fix;
 }
 
 pub fn cell_code(face: u64, resolution: u64, row: u64, column: u64) -> Code {
@@ -151,4 +156,12 @@ pub fn point_code(n: u64, s: u64, resolution: u64, x: i64, y: i64) -> Code {
 
 pub fn neighbour(n: u64, s: u64, code: u64, direction: u64) -> Code {
     unsafe { jgv_neighbour(n, s, code, direction) }
+}
+
+pub fn fix_code(n: u64, s: u64, resolution: u64, longitude: i64, z: i64) -> Code {
+    unsafe { jgv_fix_code(n, s, resolution, longitude, z) }
+}
+
+pub fn ground_nucleus(n: u64, s: u64, code: u64) -> Fix {
+    unsafe { jgv_ground_nucleus(n, s, code) }
 }

@@ -1,0 +1,195 @@
+//! The proved cell of a fix and ground nucleus against the second program: more than a million
+//! fixes, half of them within two units of where the cell may change, all coarse cells, and the
+//! values that 01 prints.
+
+#[cfg(not(proved))]
+#[test]
+fn the_proved_library_is_linked() {
+    panic!("RATTLE_LIBS is not set, so nothing was compared");
+}
+
+/// Each entry on random, border and bad inputs.
+#[cfg(proved)]
+mod entries {
+    use second::compare::{compare, compare_mix, About};
+    use second::random::Kind;
+    use second::{ground, proved};
+
+    fn about(n: u64, s: u64, resolution: u64) -> About {
+        About {
+            arrangement: Some((n, s)),
+            resolution,
+        }
+    }
+
+    /// Half of the inputs are border ones.
+    #[test]
+    fn fix_code() {
+        compare_mix(
+            "jgv_fix_code",
+            &[2, 5, 6],
+            &[Kind::Border, Kind::Border, Kind::Random, Kind::Bad],
+            1_400_000,
+            |random, kind| {
+                let (n, s) = random.arrangement(kind);
+                let resolution = random.resolution(kind);
+                let (longitude, z) = random.fix(kind, n, s, resolution);
+                (n, s, resolution, longitude, z)
+            },
+            |&(n, s, resolution, _, _)| about(n, s, resolution),
+            |&(n, s, k, longitude, z)| ground::fix_code(n, s, k, longitude, z).into(),
+            |&(n, s, k, longitude, z)| proved::fix_code(n, s, k, longitude, z),
+        );
+    }
+
+    #[test]
+    fn ground_nucleus() {
+        compare(
+            "jgv_ground_nucleus",
+            &[4, 5],
+            |random, kind| {
+                let (n, s) = random.arrangement(kind);
+                (n, s, random.code(kind))
+            },
+            |&(n, s, code)| about(n, s, code % 16),
+            |&(n, s, code)| ground::ground_nucleus(n, s, code).into(),
+            |&(n, s, code)| proved::ground_nucleus(n, s, code),
+        );
+    }
+}
+
+/// "Each cell's nucleus, taken to the ground and cut to whole units, names that cell again."
+#[cfg(proved)]
+mod nuclei {
+    use second::compare::say;
+    use second::grid::{code_of, LETTERS};
+    use second::proved::{self, Code, Fix};
+    use second::random::{Kind, Random};
+    use second::{grid::Name, ground};
+
+    /// Checks one cell, by both programs.
+    fn names_itself(n: u64, s: u64, code: u64) {
+        let fix = proved::ground_nucleus(n, s, code);
+        assert_eq!(fix, Fix::from(ground::ground_nucleus(n, s, code)));
+        let (longitude, z) = (fix.longitude, fix.z);
+        let found = proved::fix_code(n, s, code % 16, longitude, z);
+        assert_eq!(found, Code { refusal: 0, code }, "{n} {s} {fix:?}");
+        assert_eq!(ground::fix_code(n, s, code % 16, longitude, z), Ok(code));
+    }
+
+    /// The names of all cells up to a resolution.
+    fn names_up_to(resolution: u64) -> Vec<Name> {
+        let mut level: Vec<Name> = LETTERS.iter().map(|&letter| vec![letter]).collect();
+        let mut all = level.clone();
+        for _ in 0..resolution {
+            let children = |name: &Name| b"012345678".map(|d| [&name[..], &[d]].concat());
+            level = level.iter().flat_map(children).collect();
+            all.extend(level.clone());
+        }
+        all
+    }
+
+    #[test]
+    fn of_all_cells_up_to_4_in_all_arrangements() {
+        let names = names_up_to(4);
+        assert_eq!(names.len(), 6 * (1 + 9 + 81 + 729 + 6561));
+        for (n, s) in (0..16).map(|both| (both / 4, both % 4)) {
+            for name in &names {
+                names_itself(n, s, code_of(name));
+            }
+        }
+        say(&format!("ground nuclei: 16 times {} cells", names.len()));
+    }
+
+    #[test]
+    fn of_random_cells_above_4() {
+        let mut random = Random::for_test("of_random_cells_above_4");
+        let mut cells = 0;
+        while cells < 120_000 {
+            let kind = random.pick(&[Kind::Random, Kind::Border]);
+            let (n, s) = random.arrangement(kind);
+            let code = random.code(kind);
+            if code % 16 > 4 {
+                names_itself(n, s, code);
+                cells += 1;
+            }
+        }
+        say(&format!("ground nuclei: {cells} cells above resolution 4"));
+    }
+}
+
+/// Values that 01 prints and positions a hair from an edge, from both programs.
+#[cfg(proved)]
+mod printed {
+    use second::fixes::exact_edges;
+    use second::grid::code_of;
+    use second::ground::{self, HALF_TURN, ONE, QUARTER};
+    use second::proved::{self, Code};
+
+    /// The cell of a fix is the named one, by both programs.
+    fn is(n: u64, s: u64, k: u64, longitude: i64, z: i64, name: &str) {
+        let code = code_of(name.as_bytes());
+        let place = format!("{n} {s} {k} {longitude} {z} {name}");
+        assert_eq!(ground::fix_code(n, s, k, longitude, z), Ok(code), "{place}");
+        let found = proved::fix_code(n, s, k, longitude, z);
+        assert_eq!(found, Code { refusal: 0, code }, "{place}");
+    }
+
+    /// 01, proved table, lines 1 to 8.
+    #[test]
+    fn lines_1_to_8() {
+        let (west, z) = (-1_350_000_000, 666_666_666_666_666_666);
+        is(0, 0, 2, 0, 0, "Q33");
+        for longitude in [-HALF_TURN, west, -1, 0, 1, QUARTER, HALF_TURN - 1] {
+            is(0, 0, 1, longitude, ONE, "N4");
+        }
+        is(0, 0, 1, west, z, "O1");
+        is(0, 0, 1, west, z + 1, "N7");
+        is(0, 0, 1, -QUARTER, 880_000_000_000_000_000, "N8");
+        is(1, 0, 1, -QUARTER, 880_000_000_000_000_000, "N6");
+        is(0, 0, 1, -QUARTER, -880_000_000_000_000_000, "S2");
+        is(0, 0, 2, west, 970_000_000_000_000_000, "N47");
+    }
+
+    /// On the middle longitude of O, where h = 1/3 lies between two whole z.
+    #[test]
+    fn a_hair_from_an_edge() {
+        let (west, z) = (-1_350_000_000, 962_962_962_962_962_962);
+        is(0, 0, 1, west, z, "N7");
+        is(0, 0, 1, west, z + 1, "N4");
+        is(0, 0, 1, west, -z, "S1");
+        is(0, 0, 1, west, -z - 1, "S4");
+    }
+
+    /// "At a pole every longitude gives the same cell": all 4s.
+    #[test]
+    fn poles() {
+        for k in 0..16 {
+            let fours = "4".repeat(k as usize);
+            for east in (0..4 * QUARTER).step_by(7_654_321) {
+                for (n, s) in [(0, 0), (1, 2), (2, 3), (3, 1)] {
+                    is(n, s, k, east - HALF_TURN, ONE, &format!("N{fours}"));
+                    is(n, s, k, east - HALF_TURN, -ONE, &format!("S{fours}"));
+                }
+            }
+        }
+    }
+
+    /// Fixes exactly on an edge, and one unit around, in all arrangements and resolutions.
+    #[test]
+    fn exactly_on_an_edge() {
+        assert!(exact_edges().len() >= 20);
+        for (a, z) in exact_edges() {
+            for nth in 0..4 * 16 * 16 * 2 {
+                let (c, n, s, k) = (nth % 4, nth / 4 % 4, nth / 16 % 4, nth / 64 % 16);
+                let z = if nth < 1024 { z } else { -z };
+                let longitude = a + c as i64 * QUARTER - HALF_TURN;
+                for (east, up) in (0..9).map(|step| (step % 3 - 1, step / 3 - 1)) {
+                    let (longitude, z) = (longitude + east, z + up);
+                    let wanted = Code::from(ground::fix_code(n, s, k, longitude, z));
+                    assert_eq!(proved::fix_code(n, s, k, longitude, z), wanted);
+                }
+            }
+        }
+    }
+}
