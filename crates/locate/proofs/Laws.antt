@@ -2,7 +2,6 @@
 use mathlib.Core.Path.{_≡_}
 use mathlib.Core.Bool.{Bool, true, false, _&&_}
 use Prim.Native.Nat.{ℕ}
-use lib.IntN.{ℤ}
 use Rattle.root.specs.Floor.{axisOf}
 use Rattle.locate.specs.declared.End.{End}
 use Rattle.locate.specs.Fix.{Point, capCell}

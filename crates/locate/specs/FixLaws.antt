@@ -1,5 +1,5 @@
 -- What 01 "From a fix to a cell" says of the cell of a fix, for every arrangement and every resolution. Assumes nothing.
-use mathlib.Core.Path.{_≡_, refl, sym, ap, _∙_, subst}
+use mathlib.Core.Path.{_≡_, refl, sym, ap, _∙_}
 use mathlib.Core.Bool.{Bool, true, false, not, cond}
 use Prim.Native.Nat.{ℕ, zero, suc, _+_, _-_, _*_, _/_, _%_, _^_, _≤_, _<_}
 use native.Mathlib.Nat.{pow-suc, mul-zero, mul-pos, mul-assoc, mul-comm, mul-left-comm, div-one, div-div-eq-div-mul}
@@ -18,7 +18,7 @@ use Rattle.cell.specs.Cell.{IsCell, IsArrangement}
 use Rattle.cell.specs.CellLaws.{is-arrangement}
 use Rattle.cell.specs.Hierarchy.{parentOf}
 use Rattle.cell.specs.Neighbour.{turnOf}
-use Rattle.root.specs.Floor.{square, atMost, IsFloor, rootFloor}
+use Rattle.root.specs.Floor.{square, atMost, rootFloor}
 use Rattle.root.specs.SquareLaws.{plus-under, plus-not, minus-is, minus-over}
 use Rattle.root.specs.FloorLaws.{floor-one, floor-below, floor-third'}
 use Rattle.locate.specs.Fix.{Point, quarter, inRange, inBelt, eastOf, offsetOf, heightOf, startNorth, startSouth, turnedNorth, turnedSouth, beltCell, capCell, northCell, southCell, fixCell, fixRefusal}

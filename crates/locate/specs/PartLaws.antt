@@ -1,7 +1,7 @@
 -- Floors of parts, m n / d: a part of m is below m, a third of it is the part of a third, and the belt's row staged through smaller products.
 -- Assumes nothing.
-use mathlib.Core.Path.{_≡_, refl, sym, ap, _∙_}
-use Prim.Native.Nat.{ℕ, _+_, _*_, _/_, _%_, _^_, _≤_, _<_}
+use mathlib.Core.Path.{_≡_, sym, ap, _∙_}
+use Prim.Native.Nat.{ℕ, _+_, _*_, _/_, _%_, _^_, _<_}
 use native.Mathlib.Nat.{mul-add, mul-assoc, mul-comm, mul-lt-mul-of-pos-left, div-lt-iff-lt-mul, div-div-eq-div-mul, mul-div-mul-left, div-add-mod'}
 use native.Mathlib.Omega.{arith}
 
@@ -15,9 +15,6 @@ part-third n d = div-div-eq-div-mul (3 * n) d 3 ∙ ap (λ (x : ℕ). 3 * n / x)
 -- ---- by 4 x 10^18 = 2^20 x 5^18
 
 module _ (m x : ℕ) where
-  low : ℕ
-  low = m * (x % 1048576)
-
   spread : m * x ≡ m * (x / 1048576) * 1048576 + m * (x % 1048576)
   spread =
       ap (λ (y : ℕ). m * y) (sym (div-add-mod' x 1048576))

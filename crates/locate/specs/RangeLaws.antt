@@ -1,11 +1,11 @@
 -- What the range of a fix says of its numbers. Assumes nothing.
 use mathlib.Core.Path.{_≡_, refl, sym, ap, _∙_}
-use mathlib.Core.Bool.{Bool, true, false, _&&_, cond}
+use mathlib.Core.Bool.{Bool, true, false, _&&_}
 use Prim.Native.Nat.{ℕ, zero, suc, _+_, _-_, _*_, _^_, _≤_, _<_}
 use native.Mathlib.Omega.{arith}
 use lib.IntN.{ℤ, pos, negsuc, negℤ, natAbs, negℤ-negℤ, _+ℤ_}
 use lib.Signed.{leZ, ltZ}
-use borrow.Author.Tests.{leb-true, leb-false, ltb-true}
+use borrow.Author.Tests.{leb-true, leb-false, ltb-true, le-leb, lt-leb}
 use Rattle.logic.specs.Bools.{and-left, and-right}
 use Rattle.signed.specs.Sign.{negative, withSign}
 use Rattle.signed.specs.SignLaws.{sub-at, size-between, minus-plain, sign-and-size}
@@ -40,6 +40,10 @@ pub in-belt : (z : ℤ) → inBelt z ≡ true → 3 * natAbs z ≤ 2 * 10 ^ 18
 unfolding inBelt
 in-belt z t = leb-true (3 * natAbs z) (2 * 10 ^ 18) t
 
+pub belt-at : (z : ℤ) → 3 * natAbs z ≤ 2 * 10 ^ 18 → inBelt z ≡ true
+unfolding inBelt
+belt-at z h = le-leb (3 * natAbs z) (2 * 10 ^ 18) h
+
 pub offset-south : (y : ℕ) → 2 * 10 ^ 18 + 3 * y ≡ offsetOf (withSign true y)
 unfolding offsetOf
 offset-south zero = refl
@@ -62,6 +66,10 @@ offset-small z t = rw (sign-and-size z) at (offset-below (negative z) (natAbs z)
 pub outside : (z : ℤ) → inBelt z ≡ false → 2 * 10 ^ 18 < 3 * natAbs z
 unfolding inBelt
 outside z t = leb-false (3 * natAbs z) (2 * 10 ^ 18) t
+
+pub cap-at : (z : ℤ) → 2 * 10 ^ 18 < 3 * natAbs z → inBelt z ≡ false
+unfolding inBelt
+cap-at z h = lt-leb (3 * natAbs z) (2 * 10 ^ 18) h
 
 pub height-small : (z : ℤ) → inBelt z ≡ false → heightOf z < 10 ^ 18
 unfolding heightOf

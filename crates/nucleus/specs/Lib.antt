@@ -7,4 +7,5 @@ pub mod StartLaws
 pub mod NearLaws
 pub mod CapLaws
 pub mod SentLaws
+pub mod OnceLaws
 pub mod NucleusLaws

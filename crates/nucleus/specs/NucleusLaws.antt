@@ -6,7 +6,7 @@ use mathlib.Core.Logic.{_⊎_, inl, inr, ⊎-elim}
 use Prim.Native.Nat.{ℕ, zero, suc, _+_, _-_, _*_, _/_, _%_, _^_, _≤_, _<_}
 use native.Mathlib.Nat.{mul-pos}
 use native.Mathlib.Omega.{arith}
-use lib.IntN.{ℤ, pos, negℤ, subℕ}
+use lib.IntN.{ℤ, pos, negℤ, natAbs, subℕ, _*ℤ_}
 use lib.Dec.{ltb}
 use lib.Signed.{_<ℤ_, ltZ-yes}
 use borrow.Author.Tests.{lt-ltb, le-ltb}
@@ -24,6 +24,7 @@ use Rattle.nucleus.specs.StartLaws.{centred-yes, north-is, south-is, nor
 use Rattle.nucleus.specs.BeltLaws.{Names, belt-again}
 use Rattle.nucleus.specs.CapLaws.{north-again, south-again, north-pole-again, south-pole-again}
 use Rattle.nucleus.specs.SentLaws.{east-lt, east-floored, capEast, northRise, southRise, sent-belt, sent-north, sent-south, sent-pole}
+use Rattle.nucleus.specs.OnceLaws.{Known, east-same, rise-same, known-belt, known-north, known-south, flat-north, flat-south, flat-above, flat-under}
 
 -- ---- the ground nucleus by the face
 
@@ -112,6 +113,9 @@ module _ (a : Arrangement) (c : Cell) (e d : ℕ) (u : ℤ) (v : ℕ) where
 
   in-belt : (b : ℕ) → b < 4 → c .face ≡ belt b → SentToBelt c e d u v → In (c .face)
   in-belt b h f t = subst (λ (X : Type 0). X) (sym (by-belt (c .face) b InNorth (λ x. SentToBelt c e d u v) InSouth h f)) t
+
+  of-belt : (b : ℕ) → b < 4 → c .face ≡ belt b → In (c .face) → SentToBelt c e d u v
+  of-belt b h f t = subst (λ (X : Type 0). X) (by-belt (c .face) b InNorth (λ x. SentToBelt c e d u v) InSouth h f) t
 
 module _ (a : Arrangement) {c : Cell} (v : IsCell c) where
   belt-sent : (b : ℕ) → b < 4 → c .face ≡ belt b → IsSent a c (fix (beltLongitude (rows c) b (c .column)) (beltZ (rows c) (c .row)))
@@ -250,3 +254,81 @@ sent {a} {c} w v =
     (λ e. subst (IsSent a c) (sym (on-north a c e)) (north-sent a v (w .northern) e))
     (λ b h e. subst (IsSent a c) (sym (on-belt a c b h e)) (belt-sent a v b h e))
     (λ e. subst (IsSent a c) (sym (on-south a c e)) (south-sent a v (w .southern) e))
+
+-- ---- no other fractions are sent there: z is one, and so is the longitude but at a pole, where |z| is 10^18
+
+-- the two z, and the two longitudes, are equal fractions
+abbrev Same : (e d : ℕ) → ℤ → ℕ → (e d : ℕ) → ℤ → ℕ → Type 0
+Same e d u v e′ d′ u′ v′ = (pos v′ *ℤ u ≡ pos v *ℤ u′) × ((natAbs u ≡ 10 ^ 18 * v → ⊥) → e * d′ ≡ e′ * d)
+
+known-same :
+    {E D : ℕ} {U : ℤ} {K e d : ℕ} {u : ℤ} {v e′ d′ : ℕ} {u′ : ℤ} {v′ : ℕ} → 0 < D → 0 < K → Known E D U K e d u v → Known E D U K e′ d′ u′ v′ →
+    Same e d u v e′ d′ u′ v′
+known-same {E} {D} {U} {K} {e} {d} {u} {v} {e′} {d′} {u′} {v′} D0 K0 s t =
+    (rise-same U K u v u′ v′ K0 (s .rise) (t .rise), λ n. east-same E D e d e′ d′ D0 (s .east) (t .east))
+
+module _ {a : Arrangement} {c : Cell} {e d : ℕ} {u : ℤ} {v e′ d′ : ℕ} {u′ : ℤ} {v′ : ℕ} (w : IsCell c) (s : Sent a c e d u v) (t : Sent a c e′ d′ u′ v′) where
+  belt-once : (b : ℕ) → b < 4 → c .face ≡ belt b → Same e d u v e′ d′ u′ v′
+  belt-once b h f =
+      let m = power-pos (c .resolution) in
+      known-same m (omega arith) (known-belt b f (of-belt a c e d u v b h f (s .middle))) (known-belt b f (of-belt a c e′ d′ u′ v′ b h f (t .middle)))
+
+  side-pos : 0 < 3 * (rows c * rows c)
+  side-pos = let p = mul-pos (power-pos (c .resolution)) (power-pos (c .resolution)) in omega arith
+
+  north-once : a .north ≤ 3 → c .face ≡ 0 → Same e d u v e′ d′ u′ v′
+  north-once hn f =
+      let n : ℕ = a .north in
+      let m : ℕ = rows c in
+      let i : ℕ = 2 * c .row + 1 in
+      let j : ℕ = 2 * c .column + 1 in
+      let k = w .rowed in
+      let l = w .columned in
+      let x : InNorth a c e d u v = subst (In a c e d u v) f (s .middle) in
+      let y : InNorth a c e′ d′ u′ v′ = subst (In a c e′ d′ u′ v′) f (t .middle) in
+      ⊎-elim
+      (λ q.
+      let z = flat-north n e (s .longitude) (x .1 .2) (q .0) (q .1) in
+      let z′ = flat-north n e′ (t .longitude) (y .1 .2) (q .0) (q .1) in
+      (rise-same (pos 1000000000000000000) 1 u v u′ v′ (omega arith) (flat-above u v (x .0) z) (flat-above u′ v′ (y .0) z′), λ o. absurd (o z)))
+      (λ q.
+      let r = start m j i (omega arith) (omega arith) (omega arith) (omega arith) q in
+      known-same (r .3 .tall) side-pos (known-north n e (s .longitude) (r .0) (r .1) (r .2) hn (s .range) (x .0) (x .1 .2) (r .3))
+      (known-north n e′ (t .longitude) (r .0) (r .1) (r .2) hn (t .range) (y .0) (y .1 .2) (r .3)))
+      (centre-or m j i)
+
+  south-once : a .south ≤ 3 → c .face ≡ 5 → Same e d u v e′ d′ u′ v′
+  south-once hn f =
+      let n : ℕ = a .south in
+      let m : ℕ = rows c in
+      let i : ℕ = 2 * c .row + 1 in
+      let j : ℕ = 2 * c .column + 1 in
+      let k = w .rowed in
+      let l = w .columned in
+      let x : InSouth a c e d u v = subst (In a c e d u v) f (s .middle) in
+      let y : InSouth a c e′ d′ u′ v′ = subst (In a c e′ d′ u′ v′) f (t .middle) in
+      ⊎-elim
+      (λ q.
+      let z = flat-south n e (s .longitude) (x .1 .2) (q .0) (q .1) in
+      let z′ = flat-south n e′ (t .longitude) (y .1 .2) (q .0) (q .1) in
+      (rise-same (negℤ (pos 1000000000000000000)) 1 u v u′ v′ (omega arith) (flat-under u v (x .0) z) (flat-under u′ v′ (y .0) z′), λ o. absurd (o z)))
+      (λ q.
+      let r = start m j (2 * m - i) (omega arith) (omega arith) (omega arith) (omega arith) (λ p o. q p (omega arith)) in
+      known-same (r .3 .tall) side-pos (known-south n e (s .longitude) (r .0) (r .1) (r .2) hn (s .range) k (x .0) (x .1 .2) (r .3))
+      (known-south n e′ (t .longitude) (r .0) (r .1) (r .2) hn (t .range) k (y .0) (y .1 .2) (r .3)))
+      (centre-or m j i)
+
+pub sent-once :
+    {a : Arrangement} {c : Cell} {e d : ℕ} {u : ℤ} {v e′ d′ : ℕ} {u′ : ℤ} {v′ : ℕ} → IsArrangement a → IsCell c → Sent a c e d u v → Sent a c e′ d′ u′ v′ →
+    (pos v′ *ℤ u ≡ pos v *ℤ u′) × ((natAbs u ≡ 10 ^ 18 * v → ⊥) → e * d′ ≡ e′ * d)
+sent-once {a} {c} w v s t =
+    face-cases (c .face) (v .faced) (λ f. north-once v s t (w .northern) f) (λ b h f. belt-once v s t b h f) (λ f. south-once v s t (w .southern) f)
+
+-- "a polar nucleus gets -1,800,000,000"
+pub polar :
+    (a : Arrangement) (c : Cell) → 2 * c .row + 1 ≡ rows c → 2 * c .column + 1 ≡ rows c →
+    (c .face ≡ 0 → groundNucleus a c ≡ fix (negℤ (pos 1800000000)) (pos (10 ^ 18))) × (c .face ≡ 5 → groundNucleus a c ≡ fix (negℤ (pos 1800000000)) (negℤ (pos (10 ^ 18))))
+polar a c i j =
+    let m : ℕ = rows c in
+    let p = centred-yes m (2 * c .column + 1) (2 * c .row + 1) j i in
+    (λ f. on-north a c f ∙ north-pole (a .north) m (middleIn c) p, λ f. on-south a c f ∙ south-pole (a .south) m (middleIn c) p)

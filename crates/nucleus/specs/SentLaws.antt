@@ -224,7 +224,7 @@ module _ {c : Cell} (n r h e : ℕ) (v : IsCell c) (hn : n ≤ 3) where
 
 -- ---- the poles: h = 0, at any longitude
 
-nothing : (m : ℕ) (y : ℤ) → pos (m * 0) *ℤ y ≡ pos 0
+pub nothing : (m : ℕ) (y : ℤ) → pos (m * 0) *ℤ y ≡ pos 0
 nothing m y = ap (λ (k : ℕ). pos k *ℤ y) (mul-zero m) ∙ zero-*ℤ y
 
 pub sent-pole :

@@ -34,7 +34,7 @@ turned-back (suc r) x = ap (turnedSouth r) (past-north r (stepNorth x)) ∙ turn
 
 -- ---- the mirror
 
-abbrev mirror : Point → Point
+abbrev pub mirror : Point → Point
 mirror x = (x .0, negℤ (x .1))
 
 mirror-north : (r : ℕ) (x : Point) → mirror (turnedNorth r x) ≡ turnedSouth r (mirror x)
@@ -42,7 +42,7 @@ unfolding turnedNorth turnedSouth
 mirror-north zero x = refl
 mirror-north (suc r) x = mirror-north r (stepNorth x)
 
-mirror-south : (r : ℕ) (x : Point) → mirror (turnedSouth r x) ≡ turnedNorth r (mirror x)
+pub mirror-south : (r : ℕ) (x : Point) → mirror (turnedSouth r x) ≡ turnedNorth r (mirror x)
 unfolding turnedNorth turnedSouth
 mirror-south zero x = refl
 mirror-south (suc r) x = mirror-south r (stepSouth x) ∙ ap (turnedNorth r) (λ i. (sym (negℤ-negℤ (x .1)) i, negℤ-negℤ (x .0) i))

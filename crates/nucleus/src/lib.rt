@@ -131,7 +131,7 @@ fn north_nucleus(n: u64, m: u64, a: u64, b: u64) -> Fix
 {
     if is_centre(m, a, b) {
         return Fix {
-            longitude: signed::difference(0, 1_800_000_000),
+            longitude: signed::difference(0, 1_800_000_000), // at the north pole
             z: signed::as_signed(1_000_000_000_000_000_000),
         };
     }
@@ -152,7 +152,7 @@ fn south_nucleus(s: u64, m: u64, a: u64, b: u64) -> Fix
 {
     if is_centre(m, a, b) {
         return Fix {
-            longitude: signed::difference(0, 1_800_000_000),
+            longitude: signed::difference(0, 1_800_000_000), // at the south pole
             z: signed::difference(0, 1_000_000_000_000_000_000),
         };
     }

@@ -1,9 +1,9 @@
 -- `locate::across` meets its contract. Assumes nothing.
-use mathlib.Core.Path.{_≡_, sym, ap, _∙_}
+use mathlib.Core.Path.{sym, ap, _∙_}
 use Prim.Native.Nat.{ℕ, _*_}
 use native.Mathlib.Omega.{arith}
 use borrow.Author.Needs.{needs}
-use lib.IntN.{pos, negℤ}
+use lib.IntN.{negℤ}
 use Rattle.signed.specs.SignLaws.{sub-at, sub-neg}
 use Rattle.locate.specs.Fix.{quarter}
 use Rattle.locate.proofs.across.Statement.{statement}

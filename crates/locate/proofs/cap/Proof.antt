@@ -1,7 +1,6 @@
 -- `locate::cap` meets its contract. Assumes nothing.
-use mathlib.Core.Path.{_≡_, ap, _∙_}
-use Prim.Native.Nat.{ℕ, _^_}
-use native.Mathlib.Omega.{arith}
+use mathlib.Core.Path.{ap, _∙_}
+use Prim.Native.Nat.{_^_}
 use borrow.Author.Needs.{needs}
 use lib.IntN.{ℤ}
 use Rattle.root.specs.Floor.{rootFloor}

@@ -1,18 +1,15 @@
 -- `locate::cell_of` meets its contract: each return is the place that the tests before it pick. Assumes nothing.
 use mathlib.Core.Path.{_≡_, sym, ap, ap₂, _∙_}
 use mathlib.Core.Bool.{Bool, true, false}
-use Prim.Native.Nat.{ℕ, _-_, _*_, _/_, _%_, _^_, _≤_, _<_}
+use Prim.Native.Nat.{ℕ, _-_, _*_, _^_, _≤_, _<_}
 use native.Mathlib.Omega.{arith}
 use borrow.Author.Needs.{needs}
-use borrow.Author.Tests.{le-leb, lt-leb}
-use lib.IntN.{ℤ, pos, natAbs}
-use lib.Signed.{ltZ}
-use Rattle.cell.specs.Neighbour.{turnOf}
+use lib.IntN.{natAbs}
 use Rattle.signed.specs.Sign.{negative, withSign}
 use Rattle.signed.specs.SignLaws.{back, below-zero, sign-and-size}
-use Rattle.locate.specs.Fix.{quarter, inBelt, eastOf, offsetOf, heightOf, startNorth, startSouth, turnedNorth, turnedSouth, beltCell, northCell, southCell}
+use Rattle.locate.specs.Fix.{inBelt, eastOf, offsetOf, heightOf, beltCell, northCell, southCell}
 use Rattle.locate.specs.FixLaws.{fix-belt, fix-south, fix-north}
-use Rattle.locate.specs.RangeLaws.{longitude-low, east-small, z-small, offset-small, height-small}
+use Rattle.locate.specs.RangeLaws.{longitude-low, east-small, z-small, belt-at, cap-at, offset-small}
 use Rattle.locate.proofs.Laws.{stands-cell}
 use Rattle.locate.proofs.cell_of.Statement.{statement}
 use Rattle.locate.proofs.cell_of.Tie as tie
@@ -44,12 +41,10 @@ sign-is c = c .is-negative .ensures ∙ ap negative (back (c .before .before .be
 -- ---- the belt or a cap
 
 belt-is : (c : tie.Then1) → inBelt (c .before .before .before .before .before .args .z) ≡ true
-unfolding inBelt
-belt-is c = rw (← size-is (c .before .before)) (le-leb _ _ (c .if1 .taken))
+belt-is c = let m = c .before .before in belt-at (m .before .before .before .args .z) (omega (arith, size-is m))
 
 belt-not : (c : tie.Else1) → inBelt (c .before .before .before .before .before .args .z) ≡ false
-unfolding inBelt
-belt-not c = rw (← size-is (c .before .before)) (lt-leb _ _ (c .if1 .left))
+belt-not c = let m = c .before .before in cap-at (m .before .before .before .args .z) (omega (arith, size-is m))
 
 offset-is : (c : tie.After-offset) → c .offset .result ≡ offsetOf (c .before .before .before .before .before .before .args .z)
 offset-is c =
@@ -98,7 +93,7 @@ mul-height : tie.Need-mul-height
 mul-height c = search needs
 
 south-end-requires : tie.Need-south-end-requires
-south-end-requires c κs = let e = c .before .before .before .before in (e .before .before .pre .0 .southern, east-lt e)
+south-end-requires c κs = let e = c .before .before .before .before in let v = e .before .before .pre .0 in (omega (arith, v .northern, v .southern), east-lt e)
 
 cap-requires : tie.Need-cap-requires
 cap-requires c κs = search needs
@@ -116,7 +111,7 @@ returns-2 c =
     ∙ sym (fix-south (a .arrangement) (a .resolution) (a .longitude) (a .z) (belt-not (c .before .before .before)) (below-zero (a .z) ∙ sym (sign-is n) ∙ c .before .before .if2 .taken))
 
 north-end-requires : tie.Need-north-end-requires
-north-end-requires c κs = let e = c .before .before .before .before in (e .before .before .pre .0 .northern, east-lt e)
+north-end-requires c κs = let e = c .before .before .before .before in let v = e .before .before .pre .0 in (omega (arith, v .northern, v .southern), east-lt e)
 
 cap-requires-2 : tie.Need-cap-requires-2
 cap-requires-2 c κs = search needs

@@ -1,7 +1,6 @@
 -- `locate::north_end` meets its contract. Assumes nothing.
 use mathlib.Core.Path.{subst}
-use Prim.Native.Nat.{_/_, _%_}
-use native.Mathlib.Omega.{arith}
+use Prim.Native.Nat.{_/_}
 use borrow.Author.Needs.{needs}
 use lib.IntN.{ℤ, pos, negℤ}
 use Rattle.cell.specs.Neighbour.{turnOf}

@@ -1,7 +1,6 @@
 -- `locate::offset` meets its contract, by the sign of z. Assumes nothing.
-use mathlib.Core.Path.{_≡_, sym, ap, _∙_}
+use mathlib.Core.Path.{sym, ap, _∙_}
 use borrow.Author.Needs.{needs}
-use Prim.Native.Nat.{ℕ}
 use mathlib.Core.Bool.{Bool}
 use Rattle.signed.specs.Sign.{withSign}
 use Rattle.locate.specs.Fix.{offsetOf}

@@ -4,7 +4,7 @@ use Prim.Native.Nat.{_+_, _-_, _/_, _%_}
 use native.Mathlib.Omega.{arith}
 use borrow.Author.Needs.{needs}
 use lib.IntN.{ℤ, pos}
-use Rattle.locate.specs.Fix.{Point, quarter, startSouth, turnedNorth, turnedSouth}
+use Rattle.locate.specs.Fix.{Point, quarter, startSouth, turnedNorth}
 use Rattle.locate.specs.End.{Stands}
 use Rattle.locate.specs.TurnLaws.{south-turned}
 use Rattle.locate.proofs.south_end.Statement.{statement}

@@ -5,7 +5,6 @@ use borrow.Author.Needs.{needs}
 use lib.IntN.{negℤ-negℤ}
 use Rattle.root.specs.Floor.{axisOf}
 use Rattle.locate.specs.Fix.{turnedNorth}
-use Rattle.locate.specs.End.{Stands}
 use Rattle.locate.proofs.turned.Statement.{statement}
 use Rattle.locate.proofs.turned.Tie as tie
 
