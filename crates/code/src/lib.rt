@@ -1,10 +1,12 @@
 // Codes and names of cells. How a code is made is known here only.
 ghost use mathlib.Core.Path.{_≡_};
-ghost use Prim.Native.Nat.{_-_, _^_, _≤_, _<_};
+ghost use Prim.Native.Nat.{_+_, _-_, _^_, _≤_, _<_};
 ghost use lib.ListN.{length, drop};
 ghost use Rattle.ternary.specs.Digits.{value};
 ghost use Rattle.cell.specs.Cell.{IsCell, cellRefusal, found};
 ghost use Rattle.code.specs.Code.{codeAt, codeOf, isCode, pathIn, cellOf, codeRefusal, sizeOf, coded};
+ghost use Rattle.code.specs.Inside.{startOf, endOf};
+ghost use Rattle.code.specs.Number.{startAs, endAs, codeAs};
 use cell::Cell;
 use cell::Found;
 
@@ -100,4 +102,44 @@ pub fn size_of(cell: Cell) -> u64
     ensures { λ r. ⌜ r ≡ sizeOf cell ⌝ }
 {
     ternary::nine_power(15 - cell.resolution)
+}
+
+// The number of the first finest cell of a cell.
+pub fn start_of(cell: Cell) -> u64
+    requires { ⌜ IsCell cell ⌝ }
+    ensures { λ r. ⌜ r ≡ startOf cell ⌝ }
+{
+    code_of(cell) / 16
+}
+
+// The number after the last finest cell of a cell.
+pub fn end_of(cell: Cell) -> u64
+    requires { ⌜ IsCell cell ⌝ }
+    ensures { λ r. ⌜ r ≡ endOf cell ⌝ }
+{
+    start_of(cell) + size_of(cell)
+}
+
+// The same of a cell that is given by its resolution and its number.
+pub fn start_as(resolution: u64, number: u64) -> u64
+    requires { ⌜ (resolution ≤ 15) × (number < 9 ^ (resolution + 1)) ⌝ }
+    ensures { λ r. ⌜ r ≡ startAs resolution number ⌝ }
+{
+    number * ternary::nine_power(15 - resolution)
+}
+
+pub fn end_as(resolution: u64, number: u64) -> u64
+    requires { ⌜ (resolution ≤ 15) × (number < 9 ^ (resolution + 1)) ⌝ }
+    ensures { λ r. ⌜ r ≡ endAs resolution number ⌝ }
+{
+    let size = ternary::nine_power(15 - resolution);
+    number * size + size
+}
+
+// And its code.
+pub fn code_as(resolution: u64, number: u64) -> u64
+    requires { ⌜ (resolution ≤ 15) × (number < 9 ^ (resolution + 1)) ⌝ }
+    ensures { λ r. ⌜ r ≡ codeAs resolution number ⌝ }
+{
+    number * ternary::nine_power(15 - resolution) * 16 + resolution
 }

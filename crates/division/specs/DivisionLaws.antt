@@ -1,6 +1,6 @@
 -- Laws of quotients. A quotient n / d by a variable is known by its two sides, which `omega` reads: n / d * d ≤ n < n / d * d + d. Assumes nothing.
 use mathlib.Core.Path.{_≡_, sym, ap, _∙_}
-use Prim.Native.Nat.{ℕ, zero, suc, _+_, _-_, _*_, _/_, _%_, _^_, _≤_, _<_}
+use Prim.Native.Nat.{ℕ, _+_, _*_, _/_, _%_, _^_, _≤_, _<_}
 use native.Mathlib.Nat.{div-add-mod', mod-lt, pow-suc, add-mul, mul-right-comm, mul-lt-mul-of-pos-left, lt-of-mul-lt-mul-right}
 use native.Mathlib.Numerals.{add-one}
 use native.Mathlib.Omega.{arith}

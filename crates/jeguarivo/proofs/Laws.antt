@@ -10,11 +10,9 @@ use Rattle.cell.specs.declared.Cell.{Cell}
 use Rattle.cell.specs.declared.Found.{Found}
 use Rattle.cell.specs.declared.Found.the-variants as found-as
 use Rattle.cell.specs.Cell.{IsCell, arrangementRefusal, found, refusalIn, cellIn}
-use Rattle.cell.specs.FoundLaws.{found-at, found-refused}
 use Rattle.code.specs.declared.Coded.{Coded}
 use Rattle.code.specs.Code.{codeOf, cellOf, codeRefusal, coded}
 use Rattle.name.specs.Name.{named}
-use Rattle.code.specs.CodeLaws.{a-code, four, code-is-cell}
 use Rattle.jeguarivo.specs.declared.CodeAnswer.{CodeAnswer}
 use Rattle.jeguarivo.specs.Entries.{codeAnswer, codedAnswer, foundAnswer, cellAnswer, namedAnswer, lengthAnswer, placedRefusal}
 
@@ -48,25 +46,6 @@ pub named-numbers : (r n : ℕ) → namedAnswer (named r n) ≡ lengthAnswer r n
 unfolding named lengthAnswer given
 named-numbers zero n = refl
 named-numbers (suc r) n = refl
-
--- ---- a code read
-
-pub record Decoded (code : ℕ) (x : Cell) : Type 0 where
-  pub allowed : codeRefusal code ≡ 0
-  pub is : x ≡ cellOf code
-  pub cell : IsCell x
-
-pub decoded : (code : ℕ) {f : Found} {x : Cell} → f ≡ found (codeRefusal code) (cellOf code) → f ≡ found-as.At x → Decoded code x
-decoded code {x = x} e h =
-    let p = found-at (codeRefusal code) (cellOf code) x (sym h ∙ e) in
-    record {
-      allowed = p .0;
-      is = p .1;
-      cell = subst IsCell (sym (p .1)) (code-is-cell code (a-code code (p .0)));
-    }
-
-pub undecoded : (code : ℕ) {f : Found} {q : ℕ} → f ≡ found (codeRefusal code) (cellOf code) → f ≡ found-as.Refused q → codeRefusal code ≡ 4
-undecoded code {q = q} e h = four code (found-refused (codeRefusal code) (cellOf code) q (sym h ∙ e) .1)
 
 -- 4, whatever would come next
 pub four-first : {r : ℕ} (q : ℕ) → r ≡ 4 → 4 ≡ r otherwise q

@@ -1,6 +1,6 @@
 -- Numbers that fit. Assumes nothing.
 use Prim.Native.Nat.{ℕ, _*_, _^_, _≤_, _<_}
-use native.Mathlib.Nat.{mul-le-mul, mul-pos, le-trans, mul-le-mul-left, mul-le-mul-right, le-of-lt}
+use native.Mathlib.Nat.{mul-le-mul}
 use native.Mathlib.Omega.{arith}
 
 -- a square of 24 bits

@@ -1,9 +1,9 @@
 -- The floored ground nucleus of a cell of the belt names the cell again, at every resolution at once: flooring moves the point by less than half a
 -- cell. Assumes nothing.
-use mathlib.Core.Path.{_≡_, sym, ap, ap₂, _∙_, subst}
+use mathlib.Core.Path.{_≡_, sym, ap, _∙_, subst}
 use mathlib.Core.Bool.{true}
-use Prim.Native.Nat.{ℕ, suc, _+_, _-_, _*_, _/_, _%_, _^_, _≤_, _<_}
-use native.Mathlib.Nat.{mul-left-comm, mul-comm, mul-add, mul-sub, le-of-mul-le-mul-right, add-mul, mul-assoc, div-lt-iff-lt-mul}
+use Prim.Native.Nat.{ℕ, _+_, _-_, _*_, _/_, _≤_, _<_}
+use native.Mathlib.Nat.{mul-left-comm, mul-comm, mul-sub, le-of-mul-le-mul-right, add-mul, mul-assoc, div-lt-iff-lt-mul}
 use native.Mathlib.Omega.{arith}
 use lib.Arith.{digits-div, digits-mod}
 use lib.IntN.{ℤ, natAbs, subℕ}
@@ -14,11 +14,11 @@ use Rattle.cell.specs.declared.Cell.{Cell}
 use Rattle.cell.specs.declared.Arrangement.{Arrangement}
 use Rattle.cell.specs.Cell.{IsCell}
 use Rattle.cell.specs.Neighbour.{belt, rows}
-use Rattle.locate.specs.Fix.{quarter, inRange, eastOf, offsetOf, beltCell, fixCell}
+use Rattle.locate.specs.Fix.{quarter, inRange, offsetOf, beltCell, fixCell}
 use Rattle.locate.specs.FixLaws.{fix-belt}
-use Rattle.nucleus.specs.Nucleus.{floorZ, beltLongitude, beltZ}
+use Rattle.nucleus.specs.Nucleus.{beltLongitude, beltZ}
 use Rattle.nucleus.specs.FlooredLaws.{Floored, floored}
-use Rattle.nucleus.specs.PlaceLaws.{in-range, east-back, in-belt-is, offset-is}
+use Rattle.nucleus.specs.RuleLaws.{in-range, east-back, in-belt-is, offset-is}
 
 -- ---- the column: a = 450,000,000 (2j + 1) / m, floored
 

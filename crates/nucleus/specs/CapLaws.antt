@@ -1,11 +1,11 @@
 -- The floored ground nucleus of a cell of a cap names the cell again, at every resolution at once. Assumes nothing.
 use mathlib.Core.Path.{_≡_, refl, sym, ap, ap₂, _∙_, subst}
-use mathlib.Core.Bool.{Bool, true, false}
-use Prim.Native.Nat.{ℕ, zero, suc, _+_, _-_, _*_, _/_, _%_, _^_, _≤_, _<_}
-use native.Mathlib.Nat.{le-of-lt, lt-of-le-of-lt, mul-comm, mul-left-comm, mul-sub, mul-suc, suc-mul, mul-pos, mul-zero, mul-le-mul, mul-le-mul-left, mul-le-mul-right, le-of-mul-le-mul-left, lt-of-mul-lt-mul-left}
+use mathlib.Core.Bool.{true, false}
+use Prim.Native.Nat.{ℕ, suc, _+_, _-_, _*_, _/_, _%_, _^_, _≤_, _<_}
+use native.Mathlib.Nat.{le-of-lt, lt-of-le-of-lt, mul-comm, mul-left-comm, mul-sub, mul-suc, suc-mul, mul-pos, mul-le-mul, mul-le-mul-left, mul-le-mul-right, le-of-mul-le-mul-left, lt-of-mul-lt-mul-left}
 use native.Mathlib.Omega.{arith}
 use lib.Arith.{digits-div, digits-mod}
-use lib.IntN.{ℤ, pos, negsuc, negℤ, natAbs, subℕ}
+use lib.IntN.{ℤ, pos, negsuc, negℤ, subℕ}
 use borrow.Author.Tests.{le-ltb}
 use Rattle.ternary.specs.Powers.{power-le}
 use Rattle.signed.specs.SignLaws.{sub-neg}
@@ -15,12 +15,11 @@ use Rattle.cell.specs.declared.Arrangement.{Arrangement}
 use Rattle.cell.specs.Cell.{IsCell}
 use Rattle.cell.specs.Neighbour.{rows, turnOf}
 use Rattle.cell.specs.Turns.{turn-of-face}
-use Rattle.root.specs.Floor.{square, plusAt, minusAt, rootFloor}
-use Rattle.locate.specs.Fix.{Point, quarter, inRange, eastOf, heightOf, startNorth, startSouth, turnedNorth, turnedSouth, capCell, northCell, southCell, fixCell}
+use Rattle.locate.specs.Fix.{Point, quarter, inRange, heightOf, startNorth, startSouth, turnedNorth, turnedSouth, capCell, northCell, southCell}
 use Rattle.locate.specs.FixLaws.{fix-north, fix-south, middleCell, pole-north, pole-south}
 use Rattle.nucleus.specs.Nucleus.{floorZ, capLongitude, northZ, southZ}
 use Rattle.nucleus.specs.FlooredLaws.{floor-at, floor-below, floor-plus, floor-minus}
-use Rattle.nucleus.specs.PlaceLaws.{in-range, east-back, outside-is}
+use Rattle.nucleus.specs.RuleLaws.{in-range, east-back, outside-is}
 use Rattle.nucleus.specs.BeltLaws.{Names}
 use Rattle.nucleus.specs.TriangleLaws.{middle, IsStart}
 use Rattle.nucleus.specs.StartLaws.{south-point}

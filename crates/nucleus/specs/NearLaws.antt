@@ -3,7 +3,7 @@ use mathlib.Core.Path.{_≡_, refl, sym, ap, _∙_, subst}
 use mathlib.Core.Bool.{Bool, true, false, not}
 use mathlib.Core.Logic.{⊎-elim}
 use Prim.Native.Nat.{ℕ, zero, suc, _+_, _-_, _*_, _/_, _≤_, _<_}
-use native.Mathlib.Nat.{le-of-lt, le-refl, mul-assoc, mul-comm, mul-left-comm, mul-add, add-mul, mul-le-mul, mul-le-mul-left, mul-le-mul-right, add-assoc, add-comm, div-lt-iff-lt-mul, le-div-iff-mul-le}
+use native.Mathlib.Nat.{le-of-lt, le-refl, mul-assoc, mul-comm, mul-left-comm, mul-add, add-mul, mul-le-mul, mul-le-mul-left, mul-le-mul-right, add-assoc, div-lt-iff-lt-mul, le-div-iff-mul-le}
 use native.Mathlib.Omega.{arith}
 use lib.IntN.{ℤ, pos, negℤ, subℕ, negℤ-negℤ}
 use Rattle.logic.specs.Order.{lt-or}
@@ -11,7 +11,7 @@ use Rattle.signed.specs.Sign.{withSign}
 use Rattle.signed.specs.SignLaws.{pos-sub, neg-sub, sub-same}
 use Rattle.signed.specs.TimesLaws.{sub-cross}
 use Rattle.division.specs.DivisionLaws.{low, high}
-use Rattle.root.specs.Floor.{square, plusAt, minusAt, rootFloor}
+use Rattle.root.specs.Floor.{square, rootFloor}
 use Rattle.root.specs.SquareLaws.{square-le, square-mul, plus-under, plus-square, plus-not, minus-is, minus-over, minus-not}
 use Rattle.root.specs.FloorLaws.{plus-exact, minus-exact}
 use Rattle.locate.specs.Fix.{Point, quarter, turnedNorth, turnedSouth}

@@ -1,10 +1,10 @@
 -- The ground nucleus (01 "From a fix to a cell"): "the real longitude and z that these rules, taken over real numbers, send to the nucleus, each
 -- then floored to a whole unit". Both are fractions: the longitude lies e/d units east of -1,800,000,000, and z is u/v. Assumes nothing.
-use mathlib.Core.Path.{_≡_}
+use mathlib.Core.Path.{_≡_, refl}
 use mathlib.Core.Bool.{Bool, _&&_, cond}
-use Prim.Native.Nat.{ℕ, zero, suc, _+_, _-_, _*_, _/_, _%_, _^_, _≤_, _<_}
+use Prim.Native.Nat.{ℕ, _+_, _-_, _*_, _/_, _%_, _^_, _≤_, _<_}
 use lib.IntN.{ℤ, pos, negsuc, negℤ, natAbs, subℕ, _+ℤ_, _-ℤ_, _*ℤ_}
-use lib.Signed.{leZ, ltZ, _≤ℤ_, _<ℤ_}
+use lib.Signed.{leZ, ltZ, _<ℤ_}
 use lib.Dec.{eqb}
 use Rattle.cell.specs.declared.Cell.{Cell}
 use Rattle.cell.specs.declared.Arrangement.{Arrangement}
@@ -29,7 +29,7 @@ pub record SentToBelt (c : Cell) (e d : ℕ) (u : ℤ) (v : ℕ) : Type 0 where
   pub row : pos (2 * rows c) *ℤ (pos (2 * 10 ^ 18 * v) -ℤ pos 3 *ℤ u) ≡ pos (4 * 10 ^ 18 * v * (2 * c .row + 1))
 
 -- caps: h = g/f with h^2 = 3 (1 - |z|/10^18), and the turned point (p, q), in multiples of h / (2 x 900,000,000 d), has
--- m (1/2 + p) = j + 1/2 and m (1/2 - q) = i + 1/2
+-- m (1/2 + p) = j + 1/2 and m (1/2 - q) = i + 1/2. One of p and q is h/2 or -h/2, so h is a fraction.
 pub record SentToCap (c : Cell) (x : Point) (d : ℕ) (u : ℤ) (v g f : ℕ) : Type 0 where
   pub positive : 0 < f
   pub far : 2 * 10 ^ 18 * v < 3 * natAbs u
@@ -45,7 +45,8 @@ northPoint n e d = turnedNorth (turnOf (quotient e d) n) (subℕ (2 * remainder 
 unfoldable pub southPoint : (s e d : ℕ) → Point
 southPoint s e d = turnedSouth (turnOf (quotient e d) s) (subℕ (2 * remainder e d) (d * quarter), pos (d * quarter))
 
--- the rules send the fractions e/d, u/v to the middle of the cell
+-- the rules send the fractions e/d, u/v to the middle of the cell. NucleusLaws shows that they send no others there, but at a pole, where every
+-- longitude will do
 pub record Sent (a : Arrangement) (c : Cell) (e d : ℕ) (u : ℤ) (v : ℕ) : Type 0 where
   pub longitude : 0 < d
   pub sine : 0 < v
@@ -143,3 +144,16 @@ groundNucleus a c =
     (northNucleus (a .north) (rows c) (middleOf (rows c) (c .row) (c .column)))
     (λ b. fix (beltLongitude (rows c) b (c .column)) (beltZ (rows c) (c .row)))
     (southNucleus (a .south) (rows c) (middleOf (rows c) (c .row) (c .column)))
+
+-- ---- two cells, (n, s) = (0, 0): N7, and S1, whose z is rounded away from 0
+
+plain : Arrangement
+plain = record { north = 0; south = 0 }
+
+n7 : groundNucleus plain (record { face = 0; resolution = 1; row = 2; column = 1 }) ≡ fix (negℤ (pos 1350000000)) (pos 851851851851851851)
+unfolding groundNucleus plain turnedNorth turnedSouth
+n7 = refl
+
+s1 : groundNucleus plain (record { face = 5; resolution = 1; row = 0; column = 1 }) ≡ fix (negℤ (pos 1350000000)) (negℤ (pos 851851851851851852))
+unfolding groundNucleus plain turnedNorth turnedSouth
+s1 = refl

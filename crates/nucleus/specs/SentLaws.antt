@@ -1,11 +1,11 @@
 -- The rules, taken over fractions, send the computing form's fractions to the middle of the cell. Assumes nothing.
 use mathlib.Core.Path.{_≡_, refl, sym, ap, ap₂, _∙_, subst}
-use mathlib.Core.Bool.{Bool, true, false}
+use mathlib.Core.Bool.{Bool, true}
 use Prim.Native.Nat.{ℕ, zero, suc, _+_, _-_, _*_, _/_, _%_, _^_, _≤_, _<_}
-use native.Mathlib.Nat.{mul-add, mul-assoc, mul-comm, mul-left-comm, mul-zero, mul-pos, mul-add-div-right}
+use native.Mathlib.Nat.{mul-add, mul-assoc, mul-comm, mul-left-comm, mul-zero, mul-add-div-right}
 use native.Mathlib.Omega.{arith}
 use lib.Arith.{digits-lt, digits-div, digits-mod}
-use lib.IntN.{ℤ, pos, negsuc, negℤ, natAbs, subℕ, zero-*ℤ, _+ℤ_, _-ℤ_, _*ℤ_}
+use lib.IntN.{ℤ, pos, negℤ, natAbs, subℕ, zero-*ℤ, _+ℤ_, _-ℤ_, _*ℤ_}
 use lib.Dec.{T}
 use lib.Signed.{_<ℤ_, ltZ-yes}
 use borrow.Author.Tests.{lt-ltb}
@@ -13,7 +13,6 @@ use Rattle.ternary.specs.Powers.{power-pos}
 use Rattle.signed.specs.SignLaws.{pos-sub, sub-same, sub-lt, sub-size}
 use Rattle.signed.specs.TimesLaws.{sub-times, times-neg, pos-more, pos-less}
 use Rattle.cell.specs.declared.Cell.{Cell}
-use Rattle.cell.specs.declared.Arrangement.{Arrangement}
 use Rattle.cell.specs.Cell.{IsCell}
 use Rattle.cell.specs.Neighbour.{belt, rows, turnOf}
 use Rattle.cell.specs.Turns.{turn-of-face}

@@ -1,15 +1,16 @@
 -- A cap's ground nucleus by its start: turned back, the middle of a cell is the start. The south is the north in a mirror. Assumes nothing.
 use mathlib.Core.Path.{_≡_, refl, sym, ap, ap₂, _∙_}
 use mathlib.Core.Bool.{Bool, true, false, _&&_, cond}
-use Prim.Native.Nat.{ℕ, zero, suc, _+_, _-_, _*_, _^_, _≤_, _<_}
+use Prim.Native.Nat.{ℕ, zero, suc, _+_, _-_, _*_, _^_, _≤_}
 use native.Mathlib.Omega.{arith}
-use lib.IntN.{ℤ, pos, negsuc, negℤ, natAbs, subℕ, negℤ-negℤ, _+ℤ_}
+use lib.IntN.{ℤ, pos, negℤ, natAbs, subℕ, negℤ-negℤ, _+ℤ_}
 use lib.Signed.{leZ, ltZ}
 use lib.Dec.{eqb}
 use borrow.Author.Tests.{eq-eqb, ne-eqb, eqb-true, eqb-false}
 use Rattle.logic.specs.Bools.{clash, not-both}
-use Rattle.signed.specs.SignLaws.{neg-sub, sub-same, sub-neg, sub-size, sub-more}
+use Rattle.signed.specs.SignLaws.{sub-same, sub-neg, sub-size, sub-more}
 use Rattle.locate.specs.Fix.{Point, turnedNorth, turnedSouth}
+use Rattle.locate.specs.TurnLaws.{opposite-size}
 use Rattle.nucleus.specs.declared.Fix.{Fix}
 use Rattle.nucleus.specs.Nucleus.{startsNorth, startsSouth, firstOf, turnsNorth, turnsSouth, tallOf, alongOf, centred, fix, capLongitude, northZ, southZ, northNucleus, southNucleus}
 use Rattle.nucleus.specs.TriangleLaws.{middle, OffCentre, IsStart}
@@ -82,10 +83,7 @@ off-centre m a b e p q = clash (sym (centred-yes m a b p q) ∙ e)
 
 -- ---- the ground nucleus by the start
 
--- a start's height and the place along it
-tall-is : (h : ℕ) → natAbs (negℤ (pos h)) ≡ h
-tall-is h = ap natAbs (neg-sub h) ∙ omega (arith, sub-size 0 h)
-
+-- the place along a start
 along-is : (e h : ℕ) → natAbs (subℕ e h +ℤ pos h) ≡ e
 along-is e h = ap natAbs (sub-more e h h) ∙ omega (arith, sub-size (e + h) h)
 
@@ -99,7 +97,7 @@ module _ (m a b r h e : ℕ) (s : IsStart m a b r h e) where
       ap (λ (t : Bool). cond t (fix (negℤ (pos 1800000000)) (pos (10 ^ 18))) (at (turnsNorth (middle m a b)) (turnedSouth (turnsNorth (middle m a b)) (middle m a b)))) (centred-no m a b (s .apart))
       ∙ ap (λ (t : ℕ). at t (turnedSouth t (middle m a b))) (s .turns)
       ∙ ap (at r) back
-      ∙ ap (λ (t : ℕ). fix (capLongitude n r t (natAbs (subℕ e h +ℤ pos t))) (northZ m t)) (tall-is h)
+      ∙ ap (λ (t : ℕ). fix (capLongitude n r t (natAbs (subℕ e h +ℤ pos t))) (northZ m t)) (opposite-size (pos h))
       ∙ ap (λ (t : ℕ). fix (capLongitude n r h t) (northZ m h)) (along-is e h)
     where
       at : ℕ → Point → Fix

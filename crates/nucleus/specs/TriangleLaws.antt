@@ -1,19 +1,18 @@
 -- Each cell of a cap but the middle one has its middle in one of four triangles: how often its start was turned, the start's height and the place
 -- along it. With a = 2j + 1 and b = 2i + 1 the middle is (a - m, m - b), and four comparisons of a with b and of a + b with 2m decide. Assumes nothing.
-use mathlib.Core.Path.{_≡_, refl, sym, ap, ap₂, _∙_, subst}
-use mathlib.Core.Bool.{Bool, true, false, _&&_, cond}
+use mathlib.Core.Path.{_≡_, refl, ap, ap₂, _∙_}
+use mathlib.Core.Bool.{Bool, true, false, _&&_}
 use mathlib.Core.Logic.{_⊎_, inl, inr, ⊎-elim}
-use Prim.Native.Nat.{ℕ, zero, suc, _+_, _-_, _*_, _^_, _≤_, _<_}
+use Prim.Native.Nat.{ℕ, _+_, _-_, _*_, _^_, _≤_, _<_}
 use native.Mathlib.Omega.{arith}
-use lib.IntN.{ℤ, pos, negsuc, negℤ, natAbs, subℕ, negℤ-negℤ, _+ℤ_}
-use lib.Signed.{leZ, ltZ}
-use lib.Dec.{leb, ltb, eqb}
-use borrow.Author.Tests.{le-leb, lt-leb, lt-ltb, le-ltb, eq-eqb}
-use Rattle.logic.specs.Bools.{not-both}
+use lib.IntN.{ℤ, pos, negℤ, subℕ, negℤ-negℤ}
+use lib.Signed.{ltZ}
+use lib.Dec.{leb, ltb}
+use borrow.Author.Tests.{le-leb, lt-leb, lt-ltb, le-ltb}
 use Rattle.logic.specs.Order.{lt-or, three-ways}
-use Rattle.signed.specs.SignLaws.{pos-sub, neg-sub, sub-same, sub-neg, sub-le, sub-lt, sub-size, sub-more}
+use Rattle.signed.specs.SignLaws.{pos-sub, neg-sub, sub-same, sub-neg, sub-le, sub-lt}
 use Rattle.locate.specs.Fix.{Point, turnedNorth, turnedSouth}
-use Rattle.nucleus.specs.Nucleus.{startsNorth, startsSouth, firstOf, turnsNorth, turnsSouth, tallOf, alongOf, centred}
+use Rattle.nucleus.specs.Nucleus.{startsNorth, turnsNorth}
 
 -- ---- a start's triangle, for differences of whole numbers
 
@@ -102,6 +101,10 @@ down h c d x = neg-sub h ∙ sub-same 0 h c d (omega arith)
 up : (h c d : ℕ) → h + d ≡ c → negℤ (negℤ (pos h)) ≡ subℕ c d
 up h c d x = negℤ-negℤ (pos h) ∙ pos-sub h ∙ sub-same h 0 c d (omega arith)
 
+-- on the seam of turns 2 and 3, which ends at the centre
+pub before-centre : (m a b : ℕ) → a + b ≤ 2 * m → a ≡ b → OffCentre m a b → a + b < 2 * m
+before-centre m a b h e n = ⊎-elim (λ l. l) (λ l. absurd (n (omega arith) (omega arith))) (lt-or (a + b) (2 * m))
+
 module _ (m a b : ℕ) (ha : 0 < a) (la : a < 2 * m) (hb : 0 < b) (lb : b < 2 * m) where
   pub start-0 : 2 * m ≤ a + b → a < b → IsStart m a b 0 (b - m) (a + b - 2 * m)
   unfolding turnedNorth
@@ -163,12 +166,6 @@ module _ (m a b : ℕ) (ha : 0 < a) (la : a < 2 * m) (hb : 0 < b) (lb : b < 2 * 
         point = λ i. ((negℤ-negℤ (negℤ (pos (m - a))) ∙ down (m - a) a m (omega arith)) i, turned e (m - a) m b (omega arith) i);
       }
 
-  -- on the seam of turns 2 and 3
-  pub start-seam : a + b ≤ 2 * m → a ≡ b → OffCentre m a b → IsStart m a b 3 (m - a) 0
-  start-seam h e n =
-      let l : a + b < 2 * m = ⊎-elim (λ l. l) (λ l. absurd (n (omega arith) (omega arith))) (lt-or (a + b) (2 * m)) in
-      subst (λ (x : ℕ). IsStart m a b 3 (m - a) x) (omega arith) (start-3 l (omega arith))
-
   -- one of the four holds
   pub start : OffCentre m a b → (r : ℕ) × (h : ℕ) × (e : ℕ) × IsStart m a b r h e
   start n =
@@ -178,7 +175,7 @@ module _ (m a b : ℕ) (ha : 0 < a) (la : a < 2 * m) (hb : 0 < b) (lb : b < 2 * 
       (lt-or (a + b) (2 * m)))
       (λ l.
       ⊎-elim (λ s. (1, a - m, a - b, start-1 s l))
-      (λ s. ⊎-elim (λ t. (2, m - b, 2 * m - (a + b), start-2 s t)) (λ t. (3, m - a, 0, start-seam s (omega arith) n)) (lt-or b a))
+      (λ s. ⊎-elim (λ t. (2, m - b, 2 * m - (a + b), start-2 s t)) (λ t. (3, m - a, b - a, start-3 (before-centre m a b s (omega arith) n) (omega arith))) (lt-or b a))
       (lt-or (2 * m) (a + b)))
       (lt-or a b)
 

@@ -96,11 +96,6 @@ fn start_of(m: u64, a: u64, b: u64) -> Start
                 along: sum - side,
             };
         }
-        return Start {
-            turn: 3,
-            height: m - a,
-            along: b - a,
-        };
     }
     if side < sum {
         return Start {
@@ -119,7 +114,7 @@ fn start_of(m: u64, a: u64, b: u64) -> Start
     Start {
         turn: 3,
         height: m - a,
-        along: 0,
+        along: b - a,
     }
 }
 

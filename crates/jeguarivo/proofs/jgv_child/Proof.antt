@@ -10,7 +10,8 @@ use Rattle.cell.specs.Hierarchy.{childOf, childRefusal}
 use Rattle.cell.specs.HierarchyLaws.{child-allowed}
 use Rattle.code.specs.Code.{codeOf}
 use Rattle.jeguarivo.specs.Entries.{codeAnswer, childCode}
-use Rattle.jeguarivo.proofs.Laws.{decoded, undecoded, four-first, code-refused, found-code, next-code}
+use Rattle.code.specs.DecodedLaws.{decoded, undecoded}
+use Rattle.jeguarivo.proofs.Laws.{four-first, code-refused, found-code, next-code}
 use native.Mathlib.Omega.{arith}
 use borrow.Author.Needs.{needs}
 use Rattle.jeguarivo.proofs.jgv_child.Statement.{statement}

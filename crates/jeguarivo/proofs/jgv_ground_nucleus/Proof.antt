@@ -6,7 +6,8 @@ use Rattle.cell.specs.CellLaws.{is-arrangement}
 use Rattle.code.specs.Code.{cellOf}
 use Rattle.nucleus.specs.Nucleus.{groundNucleus}
 use Rattle.jeguarivo.specs.Entries.{groundFix, noFix, aFix}
-use Rattle.jeguarivo.proofs.Laws.{decoded, undecoded, arrangement-first, four-second, placed, given-refusal, value-given}
+use Rattle.code.specs.DecodedLaws.{decoded, undecoded}
+use Rattle.jeguarivo.proofs.Laws.{arrangement-first, four-second, placed, given-refusal, value-given}
 use native.Mathlib.Omega.{arith}
 use borrow.Author.Needs.{needs}
 use Rattle.jeguarivo.proofs.jgv_ground_nucleus.Statement.{statement}

@@ -13,7 +13,8 @@ use Rattle.cell.specs.Neighbour.{neighbourOf, neighbourRefusal}
 use Rattle.cell.specs.NeighbourLaws.{neighbour-allowed}
 use Rattle.code.specs.Code.{codeOf, codeRefusal}
 use Rattle.jeguarivo.specs.Entries.{codeAnswer, neighbourCode}
-use Rattle.jeguarivo.proofs.Laws.{decoded, undecoded, code-refused, found-code}
+use Rattle.code.specs.DecodedLaws.{decoded, undecoded}
+use Rattle.jeguarivo.proofs.Laws.{code-refused, found-code}
 use native.Mathlib.Omega.{arith}
 use borrow.Author.Needs.{needs}
 use Rattle.jeguarivo.proofs.jgv_neighbour.Statement.{statement}

@@ -6,7 +6,8 @@ use Rattle.cell.specs.CellLaws.{is-arrangement}
 use Rattle.code.specs.Code.{cellOf}
 use Rattle.plane.specs.Plane.{nucleusOf}
 use Rattle.jeguarivo.specs.Entries.{cellNucleus, noPoint, aPoint}
-use Rattle.jeguarivo.proofs.Laws.{decoded, undecoded, arrangement-first, four-second, placed, given-refusal, value-given}
+use Rattle.code.specs.DecodedLaws.{decoded, undecoded}
+use Rattle.jeguarivo.proofs.Laws.{arrangement-first, four-second, placed, given-refusal, value-given}
 use native.Mathlib.Omega.{arith}
 use borrow.Author.Needs.{needs}
 use Rattle.jeguarivo.proofs.jgv_nucleus.Statement.{statement}

@@ -8,7 +8,8 @@ use Rattle.cell.specs.Hierarchy.{parentOf, parentRefusal}
 use Rattle.cell.specs.HierarchyLaws.{parent-allowed}
 use Rattle.code.specs.Code.{codeOf}
 use Rattle.jeguarivo.specs.Entries.{codeAnswer, parentCode}
-use Rattle.jeguarivo.proofs.Laws.{decoded, undecoded, four-first, code-refused, found-code, next-code}
+use Rattle.code.specs.DecodedLaws.{decoded, undecoded}
+use Rattle.jeguarivo.proofs.Laws.{four-first, code-refused, found-code, next-code}
 use native.Mathlib.Omega.{arith}
 use borrow.Author.Needs.{needs}
 use Rattle.jeguarivo.proofs.jgv_parent.Statement.{statement}

@@ -2,7 +2,8 @@
 use mathlib.Core.Path.{_≡_, sym, ap, ap₂, _∙_}
 use Rattle.code.specs.Code.{cellOf, sizeOf}
 use Rattle.jeguarivo.specs.Entries.{cellSize}
-use Rattle.jeguarivo.proofs.Laws.{decoded, undecoded, value-given, zero-given}
+use Rattle.code.specs.DecodedLaws.{decoded, undecoded}
+use Rattle.jeguarivo.proofs.Laws.{value-given, zero-given}
 use borrow.Author.Needs.{needs}
 use Rattle.jeguarivo.proofs.jgv_size.Statement.{statement}
 use Rattle.jeguarivo.proofs.jgv_size.Tie as tie

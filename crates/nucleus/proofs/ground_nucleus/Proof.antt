@@ -1,6 +1,6 @@
 -- `nucleus::ground_nucleus` meets its contract, by the face. Assumes nothing.
 use mathlib.Core.Path.{sym, ap, _∙_}
-use Prim.Native.Nat.{ℕ, _+_, _-_, _*_, _≤_}
+use Prim.Native.Nat.{ℕ, _+_, _-_, _*_}
 use native.Mathlib.Omega.{arith}
 use borrow.Author.Needs.{needs}
 use Rattle.ternary.specs.Powers.{power-le}
@@ -8,7 +8,7 @@ use Rattle.signed.specs.SignLaws.{back-as}
 use Rattle.cell.specs.CellLaws.{row-small, column-small}
 use Rattle.nucleus.specs.Nucleus.{fix, beltLongitude, beltZ, northNucleus, southNucleus}
 use Rattle.nucleus.specs.TriangleLaws.{middle, Inside}
-use Rattle.nucleus.specs.NucleusLaws.{on-north, on-belt, on-south}
+use Rattle.nucleus.specs.PlaceLaws.{on-north, on-belt, on-south}
 use Rattle.nucleus.proofs.ground_nucleus.Statement.{statement}
 use Rattle.nucleus.proofs.ground_nucleus.Tie as tie
 
@@ -48,7 +48,7 @@ module _ (p : tie.After-power) where
       record { small = omega arith; left = omega arith; right = omega arith; top = omega arith; bottom = omega arith }
 
 north-nucleus-requires : tie.Need-north-nucleus-requires
-north-nucleus-requires c κs = let p = c .before .before .before in (p .before .pre .0 .northern, inside p)
+north-nucleus-requires c κs = let p = c .before .before .before in (omega (arith, p .before .pre .0), inside p)
 
 returns : tie.Need-returns
 returns c =
@@ -78,7 +78,7 @@ returns-2 c =
     ∙ sym (on-belt (s .arrangement) (s .cell) (s .cell .face - 1) (omega arith) (omega arith))
 
 south-nucleus-requires : tie.Need-south-nucleus-requires
-south-nucleus-requires c κs = let p = c .before .before .before .before in (p .before .pre .0 .southern, inside p)
+south-nucleus-requires c κs = let p = c .before .before .before .before in (omega (arith, p .before .pre .0), inside p)
 
 returns-3 : tie.Need-returns-3
 returns-3 c =

@@ -1,0 +1,57 @@
+-- Asking "tells whether all of one cell's finest cells are covered" (01 "The coverage text"). AskLaws shows that this is what is computed here: a
+-- cell is covered whole exactly when one whole cell of the text has it inside. Assumes nothing.
+use mathlib.Core.Bool.{Bool, false, _&&_, _||_, not, cond}
+use mathlib.Core.List.{List, [], _∷_}
+use Prim.Native.Nat.{ℕ, zero, suc}
+use lib.Dec.{leb, eqb}
+use Rattle.logic.specs.Refusal.{refuse, _otherwise_}
+use Rattle.cell.specs.declared.Cell.{Cell}
+use Rattle.cell.specs.declared.Arrangement.{Arrangement}
+use Rattle.cell.specs.Cell.{arrangementRefusal}
+use Rattle.code.specs.Code.{cellOf, codeRefusal}
+use Rattle.code.specs.Inside.{startOf, endOf}
+use Rattle.reading.specs.Ground.{wholeCells}
+use Rattle.reading.specs.TextReading.{nodesOf, northOf, southOf}
+use Rattle.reader.specs.Check.{textRefusal, placeWith}
+use Rattle.asking.specs.declared.Asked.{Asked}
+use Rattle.asking.specs.declared.Asked.the-variants.{Covered, Refused}
+
+-- the finest cells of x are among those of q
+unfoldable pub within : Cell → Cell → Bool
+within q x = leb (startOf q) (startOf x) && leb (endOf x) (endOf q)
+
+-- of one of these cells
+unfoldable pub anyWithin : List Cell → Cell → Bool
+anyWithin [] x = false
+anyWithin (q ∷ qs) x = within q x || anyWithin qs x
+
+-- 5, 4: the arrangement and the code asked for. 13, 10, 9: the text's. 14: "asked arrangement differs from the heading's"
+unfoldable pub askRefusal : Arrangement → (t : List ℕ) (code : ℕ) → ℕ
+askRefusal a t code =
+    arrangementRefusal a otherwise
+    codeRefusal code otherwise
+    textRefusal t otherwise
+    refuse (not (eqb (a .north) (northOf t) && eqb (a .south) (southOf t))) 14
+
+-- yes or no, or the refusal and the place
+unfoldable pub asked : (r : ℕ) (t : List ℕ) (code : ℕ) → Asked
+unfolding anyWithin
+asked zero t code = Covered (anyWithin (wholeCells (nodesOf t)) (cellOf code))
+asked (suc r) t code = Refused (suc r) (placeWith (suc r) t)
+
+-- the answer of a text whose heading has these n and s
+unfoldable pub askedAs : Arrangement → (north south : ℕ) → Bool → Asked
+askedAs a north south b = cond (eqb (a .north) north && eqb (a .south) south) (Covered b) (Refused 14 0)
+
+-- what each case stands for
+abbrev pub refusalIn : Asked → ℕ
+refusalIn (Covered b) = 0
+refusalIn (Refused r p) = r
+
+abbrev pub placeIn : Asked → ℕ
+placeIn (Covered b) = 0
+placeIn (Refused r p) = p
+
+abbrev pub coveredIn : Asked → ℕ
+coveredIn (Covered b) = cond b 1 0
+coveredIn (Refused r p) = 0

@@ -1,0 +1,33 @@
+-- `code::end_as` meets its contract. Assumes nothing.
+use mathlib.Core.Path.{_≡_, ap}
+use Prim.Native.Nat.{ℕ, _+_, _*_, _≤_}
+use native.Mathlib.Omega.{arith}
+use borrow.Author.Needs.{needs}
+use Rattle.code.specs.Number.{startAs, endAs}
+use Rattle.code.specs.NumberLaws.{end-as-small}
+use Rattle.code.proofs.end_as.Statement.{statement}
+use Rattle.code.proofs.end_as.Tie as tie
+
+small : (c : tie.After-nine-power) → let a = c .before .args in a .number * c .nine-power .result + c .nine-power .result ≤ 1853020188851841
+small c =
+    let a = c .before .args in
+    rw (c .nine-power .ensures) (end-as-small (a .resolution) (a .number) (c .before .pre .0) (c .before .pre .1))
+
+sub-nine-power : tie.Need-sub-nine-power
+sub-nine-power c = search needs
+
+nine-power-requires : tie.Need-nine-power-requires
+nine-power-requires c κs = search needs
+
+mul-result : tie.Need-mul-result
+mul-result c = let s = small c in omega arith
+
+add-result : tie.Need-add-result
+add-result c = let s = small c in omega arith
+
+returns : tie.Need-returns
+unfolding startAs endAs
+returns c = ap (λ (x : ℕ). c .before .args .number * x + x) (c .nine-power .ensures)
+
+pub end-as-spec : {M : Type 1} → statement M
+end-as-spec = tie.close (tie.spec sub-nine-power nine-power-requires mul-result add-result returns)

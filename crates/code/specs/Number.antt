@@ -1,0 +1,20 @@
+-- A cell by its resolution and its number: the face and the digits of its name read in base nine (01 "Faces, rows, names, codes"). NumberLaws shows
+-- that its code and its first finest cell are these. Assumes nothing.
+use Prim.Native.Nat.{ℕ, _+_, _-_, _*_, _^_}
+use Rattle.cell.specs.declared.Cell.{Cell}
+use Rattle.code.specs.Code.{pathOf}
+
+unfoldable pub numberOf : Cell → ℕ
+numberOf c = c .face * 9 ^ c .resolution + pathOf c
+
+-- the number of the first finest cell, of resolution k and number n
+unfoldable pub startAs : (k n : ℕ) → ℕ
+startAs k n = n * 9 ^ (15 - k)
+
+-- the number after the last
+unfoldable pub endAs : (k n : ℕ) → ℕ
+endAs k n = startAs k n + 9 ^ (15 - k)
+
+-- the code
+unfoldable pub codeAs : (k n : ℕ) → ℕ
+codeAs k n = startAs k n * 16 + k

@@ -1,0 +1,4 @@
+mod Answers
+mod Head
+mod Readers
+mod Steps

@@ -1,0 +1,34 @@
+-- What checking a text answers (01 "The coverage text", "Refusal numbers"). Assumes nothing.
+use mathlib.Core.Bool.{Bool, _&&_, not, cond}
+use mathlib.Core.List.{List}
+use Prim.Native.Nat.{ℕ, zero, suc}
+use lib.Dec.{leb, ltb, eqb}
+use lib.ListN.{length}
+use Rattle.logic.specs.Refusal.{refuse, _otherwise_}
+use Rattle.reading.specs.Ground.{wholeCells, sizeSum}
+use Rattle.reading.specs.Place.{least, greatest, lead, placeOf}
+use Rattle.reading.specs.TextReading.{nodesOf, northOf, southOf, isText}
+use Rattle.reader.specs.declared.Checked.{Checked}
+use Rattle.reader.specs.declared.Checked.the-variants.{Text, Refused}
+
+-- 10: "five bytes or more, mark right, version not 1": three bytes at least are as in a heading, and not five
+unfoldable pub otherVersion : List ℕ → Bool
+otherVersion t = leb 5 (length t) && (leb 3 (lead least greatest t) && ltb (lead least greatest t) 5)
+
+-- 13: "text longer than 65,536 bytes". 10. 9: "text not of the grammar"
+unfoldable pub textRefusal : List ℕ → ℕ
+unfolding otherVersion
+textRefusal t = refuse (ltb 65536 (length t)) 13 otherwise refuse (otherVersion t) 10 otherwise refuse (not (isText t)) 9
+
+-- "For 9 the place is ..": 0 with any other number
+abbrev pub placeWith : ℕ → List ℕ → ℕ
+placeWith r t = cond (eqb r 9) (placeOf t) 0
+
+-- the arrangement, "the number of whole cells in the reading and the sum of their sizes"; or the refusal and the place
+abbrev pub answer : ℕ → List ℕ → Checked
+answer zero t = Text (northOf t) (southOf t) (length (wholeCells (nodesOf t))) (sizeSum (wholeCells (nodesOf t)))
+answer (suc r) t = Refused (suc r) (placeWith (suc r) t)
+
+unfoldable pub checkedOf : List ℕ → Checked
+unfolding textRefusal
+checkedOf t = answer (textRefusal t) t

@@ -1,0 +1,4 @@
+pub mod AnswerLaws
+pub mod Check
+pub mod CheckLaws
+pub mod Got

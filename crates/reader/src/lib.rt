@@ -1,0 +1,184 @@
+// Checking a coverage text: node reader and list reader call each other.
+use reading::Level;
+ghost use mathlib.Core.Path.{_≡_};
+ghost use Prim.Native.Nat.{_*_, _^_, _≤_, _<_};
+ghost use lib.ListN.{length};
+ghost use Rattle.reading.specs.Reading.{many};
+ghost use Rattle.reading.specs.Place.{least, greatest, lead};
+ghost use Rattle.reader.specs.Check.{checkedOf};
+ghost use Rattle.reader.specs.Got.{NodeIs, NodesIs};
+ghost use Rattle.reader.specs.declared.Checked.the-variants.{Refused as RefusedWith};
+
+// What checking answers: the heading's n and s, the number of whole cells and the sum of their sizes; or the refusal, with the place for 9.
+pub enum Checked {
+    Text {
+        north: u64,
+        south: u64,
+        cells: u64,
+        size: u64,
+    },
+    Refused {
+        refusal: u64,
+        place: u64,
+    },
+}
+
+// What was read: the place of the next byte, the number of whole cells, the sum of their sizes, and how many of the nodes stand whole.
+pub enum Got {
+    Bad,
+    Read(usize, u64, u64, u64),
+}
+
+// The node reader, past a node's letter or digit: the list that the node holds, or nothing. The node's own size is `size`, and `room` digits may lie
+// below it.
+fn node(text: &[u8], at: usize, room: u64, size: u64) -> Got
+    requires { ⌜ at ≤ length (now text) ⌝ }
+    ensures { λ r. ⌜ NodeIs (now (text .entry)) at room size r ⌝ }
+{
+    if at == text.len() {
+        return Got::Read(at, 1, size, 1);
+    }
+    if text[at] != 40 {
+        return Got::Read(at, 1, size, 1);
+    }
+    if room == 0 {
+        return Got::Bad;
+    }
+    let start = at + 1;
+    let Got::Read(next, cells, sum, wholes) = nodes(
+        text,
+        start,
+        0,
+        Level::Digits,
+        room - 1,
+        size / 9,
+    ) else {
+        return Got::Bad;
+    };
+    if next == start {
+        return Got::Bad;
+    }
+    if next == text.len() {
+        return Got::Bad;
+    }
+    if wholes == 9 {
+        return Got::Bad;
+    }
+    Got::Read(next + 1, cells, sum, 0)
+}
+
+// The list reader: nodes whose numbers rise from `low` on, up to a `)` or the end.
+fn nodes(text: &[u8], at: usize, low: u8, level: Level, room: u64, size: u64) -> Got
+    requires { ⌜ (at ≤ length (now text)) × (low ≤ many level) × (9 * size < 2 ^ 64) ⌝ }
+    ensures { λ r. ⌜ NodesIs (now (text .entry)) at low level room size r ⌝ }
+{
+    let length = text.len();
+    if at == length {
+        return Got::Read(at, 0, 0, 0);
+    }
+    let b = text[at];
+    if b == 41 {
+        return Got::Read(at, 0, 0, 0);
+    }
+    let base = reading::first_byte(level);
+    if b < base + low {
+        return Got::Bad;
+    }
+    if base + reading::how_many(level) <= b {
+        return Got::Bad;
+    }
+    let number = b - base;
+    let Got::Read(next, cells, sum, wholes) = node(
+        text,
+        at + 1,
+        reading::room_below(level, number, room),
+        size,
+    ) else {
+        return Got::Bad;
+    };
+    let Got::Read(end, more, rest, others) = nodes(text, next, number + 1, level, room, size) else {
+        return Got::Bad;
+    };
+    Got::Read(end, cells + more, sum + rest, wholes + others)
+}
+
+const LEAST: [u8; 7] = [67, 86, 82, 0, 1, 48, 48];
+
+const GREATEST: [u8; 7] = [67, 86, 82, 0, 1, 51, 51];
+
+// How many leading bytes are as in a heading.
+fn heading(text: &[u8]) -> usize
+    ensures { λ r. ⌜ r ≡ lead least greatest (now (text .entry)) ⌝ }
+{
+    let mut i: usize = 0;
+    while i < 7 {
+        if i == text.len() {
+            return i;
+        }
+        if text[i] < LEAST[i] {
+            return i;
+        }
+        if GREATEST[i] < text[i] {
+            return i;
+        }
+        i += 1;
+    }
+    7
+}
+
+fn refused(refusal: u64, place: u64) -> Checked
+    ensures { λ r. ⌜ r ≡ RefusedWith refusal place ⌝ }
+{
+    Checked::Refused { refusal, place }
+}
+
+// The answer where only `right` bytes of the heading are right: 10 "five bytes or more, mark right, version not 1", else 9.
+fn check_heading(text: &[u8], right: usize) -> Checked
+    requires { ⌜ (length (now text) ≤ 65536) × (right ≡ lead least greatest (now text)) × (right < 7) ⌝ }
+    ensures { λ r. ⌜ r ≡ checkedOf (now (text .entry)) ⌝ }
+{
+    if text.len() < 5 {
+        return refused(9, right as u64);
+    }
+    if right < 3 {
+        return refused(9, right as u64);
+    }
+    if right < 5 {
+        return refused(10, 0);
+    }
+    refused(9, right as u64)
+}
+
+// The answer where the heading is right. A face's size is 9^15.
+fn check_body(text: &[u8]) -> Checked
+    requires { ⌜ (length (now text) ≤ 65536) × (7 ≤ lead least greatest (now text)) ⌝ }
+    ensures { λ r. ⌜ r ≡ checkedOf (now (text .entry)) ⌝ }
+{
+    let Got::Read(next, cells, size, _) = nodes(text, 7, 0, Level::Faces, 15, 205891132094649)
+    else {
+        return refused(9, place::place(text, 7, Level::Faces, 15) as u64);
+    };
+    if next < text.len() {
+        return refused(9, place::place(text, 7, Level::Faces, 15) as u64);
+    }
+    Checked::Text {
+        north: (text[5] - 48) as u64,
+        south: (text[6] - 48) as u64,
+        cells,
+        size,
+    }
+}
+
+// Checking: the reader of coverage texts.
+pub fn check(text: &[u8]) -> Checked
+    ensures { λ r. ⌜ r ≡ checkedOf (now (text .entry)) ⌝ }
+{
+    if text.len() > 65536 {
+        return refused(13, 0);
+    }
+    let right = heading(text);
+    if right < 7 {
+        return check_heading(text, right);
+    }
+    check_body(text)
+}

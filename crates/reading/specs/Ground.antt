@@ -1,0 +1,62 @@
+-- The whole cells of a reading and its ground, over the cells of the grid (01 "The coverage text"). Ground is 01's word for the finest cells that a
+-- text covers. Assumes nothing.
+use mathlib.Core.Path.{_≡_}
+use mathlib.Core.Logic.{_⊎_}
+use mathlib.Core.List.{List, [], _∷_, map}
+use Prim.Native.Nat.{ℕ, _+_, _/_, _%_, _<_}
+use lib.ListN.{length}
+use Rattle.ternary.specs.Digits.{value}
+use Rattle.cell.specs.declared.Cell.{Cell}
+use Rattle.cell.specs.Cell.{IsCell}
+use Rattle.code.specs.Code.{codeOf, sizeOf}
+use Rattle.code.specs.Inside.{Inside}
+use Rattle.reading.specs.Reading.{Nodes, names}
+
+-- the cell with this name: a face's number, and digits, each 3 times that of the row plus that of the column
+unfoldable pub cellNamed : List ℕ → Cell
+cellNamed [] = record { face = 0; resolution = 0; row = 0; column = 0 }
+cellNamed (f ∷ ds) =
+    record { face = f; resolution = length ds; row = value 3 (map (λ d. d / 3) ds); column = value 3 (map (λ d. d % 3) ds) }
+
+-- "These are the text's whole cells."
+unfoldable pub wholeCells : Nodes → List Cell
+wholeCells ns = map cellNamed (names ns)
+
+-- "A finest cell is one of resolution 15"
+pub record Finest (x : Cell) : Type 0 where
+  pub cell : IsCell x
+  pub finest : x .resolution ≡ 15
+
+-- "It covers every finest cell inside any of them."
+abbrev pub Covers : List Cell → Cell → Type 0
+Covers [] x = ⊥
+Covers (q ∷ qs) x = Inside q x ⊎ Covers qs x
+
+-- two lists of cells have the same ground
+abbrev pub SameGround : List Cell → List Cell → Type 0
+SameGround qs ps = (x : Cell) → Finest x → (Covers qs x → Covers ps x) × (Covers ps x → Covers qs x)
+
+-- "any cells of the text's arrangement, at any resolutions, in any order, repeated or one inside another, or none at all"
+abbrev pub Cells : List Cell → Type 0
+Cells [] = Unit {0}
+Cells (q ∷ qs) = IsCell q × Cells qs
+
+-- each of them is so
+abbrev pub All : (Cell → Type 0) → List Cell → Type 0
+All P [] = Unit {0}
+All P (q ∷ qs) = P q × All P qs
+
+-- "the codes of the whole cells in rising order"
+abbrev pub Rising : List Cell → Type 0
+Rising [] = Unit {0}
+Rising (q ∷ qs) = All (λ (p : Cell). codeOf q < codeOf p) qs × Rising qs
+
+-- "none inside another"
+abbrev pub Apart : List Cell → Type 0
+Apart [] = Unit {0}
+Apart (q ∷ qs) = All (λ (p : Cell). (Inside q p → ⊥) × (Inside p q → ⊥)) qs × Apart qs
+
+-- the sum of sizes
+unfoldable pub sizeSum : List Cell → ℕ
+sizeSum [] = 0
+sizeSum (q ∷ qs) = sizeOf q + sizeSum qs

@@ -1,0 +1,3 @@
+pub mod EntrySteps
+pub mod MeasureSteps
+pub mod PutSteps

@@ -1,0 +1,96 @@
+-- What the measuring functions hand back at each end of theirs. Assumes nothing.
+use mathlib.Core.Path.{_≡_, refl, sym, ap, _∙_}
+use Prim.Native.Nat.{ℕ, zero, suc, _+_, _-_, _*_, _/_, _^_, _≤_, _<_}
+use mathlib.Core.List.{List}
+use native.Mathlib.Nat.{suc-mul, mul-le-mul-right}
+use native.Mathlib.Omega.{arith}
+use lib.ListN.{length, getD}
+use Rattle.writing.specs.declared.Taken.{Taken}
+use Rattle.writing.specs.Measure.{NodeAt, ListAt, NodeTakes, ListTakes, NodeMeasured, ListMeasured}
+use Rattle.writing.specs.MeasureLaws.{node-finest, node-exact, node-list, node-nine, node-held, list-none, list-node, list-rest, list-in, all-later, list-skip, list-out}
+
+-- ---- a node
+
+pub n-finest : {codes : List ℕ} {at cell size : ℕ} → at < length codes → 0 < size → size < 9 → NodeMeasured codes at cell size (record { next = at + 1; bytes = 1; wholes = 1 })
+n-finest {codes} {at} {cell} {size} h z l =
+    record { is = λ w k s. node-finest codes at w cell size k s h l; inside = omega arith; short = omega arith; few = omega arith; finest = λ l. refl }
+
+pub n-exact : {codes : List ℕ} {at cell size : ℕ} → at < length codes → 0 < size → getD codes at 0 ≡ cell → NodeMeasured codes at cell size (record { next = at + 1; bytes = 1; wholes = 1 })
+n-exact {codes} {at} {cell} {size} h z e =
+    record { is = λ w k s. node-exact codes at w cell size k s h e; inside = omega arith; short = omega arith; few = omega arith; finest = λ l. refl }
+
+module _ {codes : List ℕ} {at cell size : ℕ} {r : Taken} (h : at < length codes) (z : 9 ≤ size) (n : getD codes at 0 ≡ cell → ⊥) (m : ListMeasured codes at 9 (cell + 1) (size / 9) r) where
+  pub n-nine : r .wholes ≡ 9 → NodeMeasured codes at cell size (record { next = r .next; bytes = 1; wholes = 1 })
+  n-nine e = record { is = go; inside = m .inside; short = omega arith; few = omega arith; finest = λ l. refl }
+    where
+      go : (w : List ℕ) (k : ℕ) → NodeAt codes at w cell size k → NodeTakes codes at w k (r .next) 1 1
+      go w zero s = absurd (omega (arith, s .sized))
+      go w (suc k) s = node-nine codes at w cell size k s h n (r .next) (r .bytes) (r .wholes) (m .is w 0 k (node-list codes at w cell size k s h n)) e
+
+  pub n-held : (r .wholes ≡ 9 → ⊥) → NodeMeasured codes at cell size (record { next = r .next; bytes = 3 + r .bytes; wholes = 0 })
+  n-held e = record { is = go; inside = m .inside; short = omega (arith, m .short); few = omega arith; finest = λ l. absurd (omega arith) }
+    where
+      go : (w : List ℕ) (k : ℕ) → NodeAt codes at w cell size k → NodeTakes codes at w k (r .next) (3 + r .bytes) 0
+      go w zero s = absurd (omega (arith, s .sized))
+      go w (suc k) s = node-held codes at w cell size k s h n (r .next) (r .bytes) (r .wholes) (m .is w 0 k (node-list codes at w cell size k s h n)) e
+
+-- ---- a list
+
+pub l-none : {codes : List ℕ} {at left cell size : ℕ} → at ≤ length codes → left ≡ 0 → ListMeasured codes at left cell size (record { next = at; bytes = 0; wholes = 0 })
+l-none {codes} {at} {left} {cell} {size} h e =
+    rw e
+    (record { is = λ w c k s. list-none codes at w c cell size k s; inside = h; short = omega arith; few = omega arith })
+
+pub less : (n : ℕ) → suc n - 1 ≡ n
+less n = omega arith
+
+l-in-suc :
+    (codes : List ℕ) (at left cell size : ℕ) (n r : Taken) → at < length codes → getD codes at 0 / 16 < cell / 16 + size →
+    NodeMeasured codes at cell size n → ListMeasured codes (n .next) left (cell + 16 * size) size r →
+    ListMeasured codes at (suc left) cell size (record { next = r .next; bytes = n .bytes + r .bytes; wholes = n .wholes + r .wholes })
+l-in-suc codes at left cell size n r h l m u =
+    record {
+      is =
+          λ w c k s.
+          let t = m .is _ k (list-node codes at w c left cell size k s h l) in
+          list-in codes at w c left cell size k s t (u .is w (suc c) k (list-rest codes at w c left cell size k s t));
+      inside = u .inside;
+      short = omega (arith, m .short, u .short, suc-mul left (2 * size));
+      few = omega (arith, m .few, u .few);
+    }
+
+pub l-in :
+    {codes : List ℕ} {at : ℕ} (left : ℕ) {cell size : ℕ} {n r : Taken} → at < length codes → (left ≡ 0 → ⊥) → getD codes at 0 / 16 < cell / 16 + size →
+    NodeMeasured codes at cell size n → ListMeasured codes (n .next) (left - 1) (cell + 16 * size) size r →
+    ListMeasured codes at left cell size (record { next = r .next; bytes = n .bytes + r .bytes; wholes = n .wholes + r .wholes })
+l-in zero h z l m u = absurd (z refl)
+l-in {codes} {at} (suc left) {cell} {size} {n} {r} h z l m u = l-in-suc codes at left cell size n r h l m (rw (less left) at u)
+
+l-out-suc :
+    (codes : List ℕ) (at left cell size : ℕ) (r : Taken) → 0 < size → (at < length codes → getD codes at 0 / 16 < cell / 16 + size → ⊥) →
+    ListMeasured codes at left (cell + 16 * size) size r → ListMeasured codes at (suc left) cell size r
+l-out-suc codes at left cell size r z n u =
+    record {
+      is =
+          λ w c k s.
+          let p = all-later codes at w c left cell size k s n in
+          list-out codes at w c left cell size k s p (u .is w (suc c) k (list-skip codes at w c left cell size k s p));
+      inside = u .inside;
+      short = omega (arith, u .short, suc-mul left (2 * size));
+      few = omega (arith, u .few);
+    }
+
+pub l-out :
+    {codes : List ℕ} {at : ℕ} (left : ℕ) {cell size : ℕ} {r : Taken} → 0 < size → (left ≡ 0 → ⊥) → (at < length codes → getD codes at 0 / 16 < cell / 16 + size → ⊥) →
+    ListMeasured codes at (left - 1) (cell + 16 * size) size r → ListMeasured codes at left cell size r
+l-out zero z e n u = absurd (e refl)
+l-out {codes} {at} (suc left) {cell} {size} {r} z e n u = l-out-suc codes at left cell size r z n (rw (less left) at u)
+
+-- ---- products by what is left
+
+pub one-less : (left z : ℕ) → (left ≡ 0 → ⊥) → left * z ≡ (left - 1) * z + z
+one-less zero z h = absurd (h refl)
+one-less (suc n) z h = rw (less n) (suc-mul n z)
+
+pub at-most-nine : (left z : ℕ) → left ≤ 9 → left * z ≤ 9 * z
+at-most-nine left z h = mul-le-mul-right z h

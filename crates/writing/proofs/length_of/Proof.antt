@@ -1,0 +1,25 @@
+-- `writing::length_of` meets its contract. Assumes nothing.
+use native.Mathlib.Omega.{arith}
+use mathlib.Core.Path.{_≡_, refl, sym, ap, _∙_}
+use mathlib.Core.List.{[]}
+use Rattle.writing.specs.EntryLaws.{LengthIs, top-at, top-length}
+use borrow.Author.Needs.{needs}
+use Rattle.writing.proofs.length_of.Statement.{statement}
+use Rattle.writing.proofs.length_of.Tie as tie
+
+measure-list-requires : tie.Need-measure-list-requires
+measure-list-requires c κs = search needs
+
+add-result : tie.Need-add-result
+add-result c = search needs
+
+returns : tie.Need-returns
+returns c =
+    let m = c .before .measure-list .ensures in
+    record {
+      is = top-length (c .before .before .before .args .codes .now) _ _ _ (m .is [] 0 15 (top-at (c .before .before .before .args .codes .now) (c .before .before .before .pre)));
+      small = omega (arith, m .short);
+    }
+
+pub length-of-spec : {M : Type 1} → statement M
+length-of-spec = tie.close (tie.spec measure-list-requires add-result returns)

@@ -1,0 +1,12 @@
+pub mod BuiltLaws
+pub mod EntryLaws
+pub mod ListLaws
+pub mod Measure
+pub mod MeasureLaws
+pub mod Put
+pub mod PutLaws
+pub mod Take
+pub mod TakeLaws
+pub mod Write
+pub mod WriteEntry
+pub mod WriteLaws

@@ -1,0 +1,279 @@
+// The accepted text of a list of cells.
+ghost use mathlib.Core.Path.{_≡_};
+ghost use mathlib.Core.Bool.{true, _&&_, not};
+ghost use Prim.Native.Nat.{_+_, _-_, _*_, _^_, _≤_, _<_};
+ghost use lib.ListN.{length, set};
+ghost use Rattle.writing.specs.Measure.{NodeMeasured, ListMeasured};
+ghost use Rattle.writing.specs.Put.{laid, NodePut, ListPut};
+ghost use lib.Dec.{ltb};
+ghost use Rattle.logic.specs.Refusal.{given};
+ghost use Rattle.code.specs.Code.{isCode, cellOf};
+ghost use Rattle.reading.specs.Text.{heading};
+ghost use Rattle.writing.specs.WriteEntry.{allCodes, lies, ordered, listRefusal, textOf, writeRefusal, textIn, written};
+ghost use Rattle.writing.specs.EntryLaws.{LengthIs};
+use cell::Arrangement;
+
+// The length of a text that was written, or the number of the refusal.
+pub enum Written {
+    Length(u64),
+    Refused(u64),
+}
+
+// What was taken: the place of the next code, the bytes that the nodes make, and how many of them are whole.
+struct Taken {
+    next: usize,
+    bytes: u64,
+    wholes: u64,
+}
+
+// The node of a cell, given by its code and its size, that has the code at hand inside.
+fn measure_node(codes: &[u64], at: usize, cell: u64, size: u64) -> Taken
+    requires { ⌜ (at < length (now codes)) × (0 < size) × (size ≤ 9 ^ 15) × (cell + 17 * size ≤ 2 ^ 63) ⌝ }
+    ensures { λ r. ⌜ NodeMeasured (now (codes .entry)) at cell size r ⌝ }
+{
+    if size < 9 {
+        return Taken {
+            next: at + 1,
+            bytes: 1,
+            wholes: 1,
+        };
+    }
+    if codes[at] == cell {
+        return Taken {
+            next: at + 1,
+            bytes: 1,
+            wholes: 1,
+        };
+    }
+    let list = measure_list(codes, at, 9, cell + 1, size / 9);
+    if list.wholes == 9 {
+        return Taken {
+            next: list.next,
+            bytes: 1,
+            wholes: 1,
+        };
+    }
+    Taken {
+        next: list.next,
+        bytes: 3 + list.bytes,
+        wholes: 0,
+    }
+}
+
+// The nodes of the cells that are left of a list, from the one given on.
+fn measure_list(codes: &[u64], at: usize, left: u64, cell: u64, size: u64) -> Taken
+    requires { ⌜ (at ≤ length (now codes)) × (left ≤ 9) × (0 < size) × (size ≤ 9 ^ 15) × (cell + left * (16 * size) + 2 * size ≤ 2 ^ 63) ⌝ }
+    ensures { λ r. ⌜ ListMeasured (now (codes .entry)) at left cell size r ⌝ }
+{
+    if left == 0 {
+        return Taken {
+            next: at,
+            bytes: 0,
+            wholes: 0,
+        };
+    }
+    if at < codes.len() {
+        if codes[at] / 16 < cell / 16 + size {
+            let node = measure_node(codes, at, cell, size);
+            let rest = measure_list(codes, node.next, left - 1, cell + 16 * size, size);
+            return Taken {
+                next: rest.next,
+                bytes: node.bytes + rest.bytes,
+                wholes: node.wholes + rest.wholes,
+            };
+        }
+    }
+    measure_list(codes, at, left - 1, cell + 16 * size, size)
+}
+
+// A byte at a place of the text, if there is such a place.
+fn put(text: &mut [u8], place: usize, byte: u8)
+    ensures { λ r. ⌜ now (text .exit) ≡ set (now (text .entry)) place byte ⌝ }
+{
+    if place < text.len() {
+        text[place] = byte;
+    }
+}
+
+// What was written: the place of the next code, and the place of the next byte.
+struct Placed {
+    next: usize,
+    place: usize,
+}
+
+// Writes the node of a cell that has the code at hand inside: its letter or digit, and its list where it is not whole.
+fn put_node(
+    codes: &[u64],
+    at: usize,
+    cell: u64,
+    size: u64,
+    text: &mut [u8],
+    place: usize,
+    byte: u8,
+) -> Placed
+    requires { ⌜ (at < length (now codes)) × (0 < size) × (size ≤ 9 ^ 15) × (cell + 17 * size ≤ 2 ^ 63) × (place + (2 * size - 1) ≤ 2 ^ 63) ⌝ }
+    ensures { λ r. ⌜ NodePut (now (codes .entry)) at cell size place byte (now (text .entry)) (now (text .exit)) r ⌝ }
+{
+    let taken = measure_node(codes, at, cell, size);
+    put(text, place, byte);
+    if taken.wholes == 1 {
+        return Placed {
+            next: taken.next,
+            place: place + 1,
+        };
+    }
+    put(text, place + 1, 40);
+    let list = put_list(codes, at, 9, cell + 1, size / 9, text, place + 2, 48);
+    put(text, list.place, 41);
+    Placed {
+        next: list.next,
+        place: list.place + 1,
+    }
+}
+
+// Writes the nodes of the cells that are left of a list, from the one given on.
+fn put_list(
+    codes: &[u64],
+    at: usize,
+    left: u64,
+    cell: u64,
+    size: u64,
+    text: &mut [u8],
+    place: usize,
+    byte: u8,
+) -> Placed
+    requires { ⌜ (at ≤ length (now codes)) × (left ≤ 9) × (0 < size) × (size ≤ 9 ^ 15) × (cell + left * (16 * size) + 2 * size ≤ 2 ^ 63) × (place + left * (2 * size - 1) ≤ 2 ^ 63) × (byte + left ≤ 255) ⌝ }
+    ensures { λ r. ⌜ ListPut (now (codes .entry)) at left cell size place byte (now (text .entry)) (now (text .exit)) r ⌝ }
+{
+    if left == 0 {
+        return Placed { next: at, place };
+    }
+    if at < codes.len() {
+        if codes[at] / 16 < cell / 16 + size {
+            let node = put_node(codes, at, cell, size, text, place, byte);
+            return put_list(
+                codes,
+                node.next,
+                left - 1,
+                cell + 16 * size,
+                size,
+                text,
+                node.place,
+                byte + 1,
+            );
+        }
+    }
+    put_list(
+        codes,
+        at,
+        left - 1,
+        cell + 16 * size,
+        size,
+        text,
+        place,
+        byte + 1,
+    )
+}
+
+// Whether every code is a cell's.
+fn all_codes(codes: &[u64]) -> bool
+    ensures { λ r. ⌜ r ≡ allCodes (now (codes .entry)) ⌝ }
+{
+    let mut i: usize = 0;
+    while i < codes.len() {
+        if !code::is_code(codes[i]) {
+            return false;
+        }
+        i = i + 1;
+    }
+    true
+}
+
+// Whether the cell of the second code comes after that of the first and not inside.
+fn follows(code: u64, next: u64) -> bool
+    requires { ⌜ (isCode code ≡ true) × (isCode next ≡ true) ⌝ }
+    ensures { λ r. ⌜ r ≡ (ltb code next && not (lies (cellOf code) (cellOf next))) ⌝ }
+{
+    if next <= code {
+        return false;
+    }
+    code / 16 + ternary::nine_power(15 - code % 16) <= next / 16
+}
+
+// Whether the codes rise and no cell lies inside another.
+fn in_order(codes: &[u64]) -> bool
+    requires { ⌜ allCodes (now codes) ≡ true ⌝ }
+    ensures { λ r. ⌜ r ≡ ordered (now (codes .entry)) ⌝ }
+{
+    let mut i: usize = 0;
+    while i + 1 < codes.len() {
+        if !follows(codes[i], codes[i + 1]) {
+            return false;
+        }
+        i = i + 1;
+    }
+    true
+}
+
+// 4 or 11, or 0 where the codes make a good list.
+fn list_refusal(codes: &[u64]) -> u64
+    ensures { λ r. ⌜ r ≡ listRefusal (now (codes .entry)) ⌝ }
+{
+    if !all_codes(codes) {
+        return 4;
+    }
+    if !in_order(codes) {
+        return 11;
+    }
+    0
+}
+
+// The length of the text of a good list.
+fn length_of(codes: &[u64]) -> u64
+    requires { ⌜ listRefusal (now codes) ≡ 0 ⌝ }
+    ensures { λ r. ⌜ LengthIs (now (codes .entry)) r ⌝ }
+{
+    let taken = measure_list(codes, 0, 6, 0, 205_891_132_094_649);
+    taken.bytes + 7
+}
+
+// The seven bytes of heading.
+fn put_heading(text: &mut [u8], north: u64, south: u64)
+    requires { ⌜ (north ≤ 3) × (south ≤ 3) ⌝ }
+    ensures { λ r. ⌜ now (text .exit) ≡ laid 0 (heading north south) (now (text .entry)) ⌝ }
+{
+    put(text, 0, 67);
+    put(text, 1, 86);
+    put(text, 2, 82);
+    put(text, 3, 0);
+    put(text, 4, 1);
+    put(text, 5, (48 + north) as u8);
+    put(text, 6, (48 + south) as u8);
+}
+
+// The text of a list of codes, into `text`: 5, 4, 11, 13 or 8 where there is none.
+pub fn write(arrangement: Arrangement, codes: &[u64], text: &mut [u8]) -> Written
+    ensures { λ r. ⌜ r ≡ written (writeRefusal arrangement (now (codes .entry)) (length (now (text .entry)))) (length (textOf arrangement (now (codes .entry)))) ⌝ }
+    ensures { λ r. ⌜ now (text .exit) ≡ given (writeRefusal arrangement (now (codes .entry)) (length (now (text .entry)))) (textIn arrangement (now (codes .entry)) (now (text .entry))) (now (text .entry)) ⌝ }
+{
+    let north = arrangement.north;
+    let south = arrangement.south;
+    let wrong = arrangement.refusal();
+    if wrong != 0 {
+        return Written::Refused(wrong);
+    }
+    let refused = list_refusal(codes);
+    if refused != 0 {
+        return Written::Refused(refused);
+    }
+    let length = length_of(codes);
+    if length > 65536 {
+        return Written::Refused(13);
+    }
+    if (text.len() as u64) < length {
+        return Written::Refused(8);
+    }
+    put_heading(text, north, south);
+    put_list(codes, 0, 6, 0, 205_891_132_094_649, text, 7, 78);
+    Written::Length(length)
+}
