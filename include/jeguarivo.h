@@ -11,9 +11,15 @@
  *    6  longitude or z out of range
  *    7  planar point outside the image
  *    8  lent buffer shorter than the answer
+ *    9  text not of the grammar; `place` is then the length of the longest leading part that some accepted text begins with
+ *   10  five bytes or more, mark right, version not 1
+ *   11  list not strictly rising, or one cell inside another
  *   12  parent at resolution 0, child at 15
+ *   13  text longer than 65,536 bytes, read or to be written
+ *   14  asked arrangement differs from the heading's
  *
- * Where several apply, the order is 5, 2, 1, 3, 4, 6, 7, 12, 8. Faces 0 to 5 are N, O, P, Q, R, S; N lies above face n of O to R and S below
+ * Where several apply, the order is 5, 2, 1, 3, 4, 6, 7, 12, 13, 10, 9, 14, 11, 8; in
+ * writing 13 comes after 11. Faces 0 to 5 are N, O, P, Q, R, S; N lies above face n of O to R and S below
  * face s, both from 0 to 3.
  */
 #ifndef JEGUARIVO_H
@@ -36,6 +42,9 @@ typedef struct { uint64_t refusal; int64_t left, top, side; } jgv_square_answer;
 typedef struct { uint64_t refusal; int64_t x, y; } jgv_point;
 typedef struct { uint64_t refusal; int64_t x[4], y[4]; } jgv_vertices_answer;
 typedef struct { uint64_t refusal; int64_t longitude, z; } jgv_fix;
+typedef struct { uint64_t refusal, place, cells, size; } jgv_check;
+typedef struct { uint64_t refusal, place, count; } jgv_list;
+typedef struct { uint64_t refusal, place, covered; } jgv_ask;
 
 /* The code of a cell. Refusals 2, 1, 3. */
 jgv_code jgv_cell_code(uint64_t face, uint64_t resolution, uint64_t row, uint64_t column);
@@ -86,6 +95,18 @@ jgv_fix jgv_ground_nucleus(uint64_t n, uint64_t s, uint64_t code);
 
 /* The neighbour of a cell: direction 0 is up, 1 right, 2 down, 3 left. Refusals 5, 3, 4. */
 jgv_code jgv_neighbour(uint64_t n, uint64_t s, uint64_t code, uint64_t direction);
+
+/* Checks a coverage text: the number of its whole cells and the sum of their sizes. Refusals 13, 10, 9. */
+jgv_check jgv_coverage_check(const uint8_t *text, size_t length);
+
+/* The codes of a text's whole cells, in rising order, written to the first of `codes`. Refusals 13, 10, 9, 8. */
+jgv_list jgv_coverage_list(const uint8_t *text, size_t length, uint64_t *codes, size_t room);
+
+/* The coverage text of rising codes, none inside another, with nine whole siblings merged upwards. Refusals 5, 4, 11, 13, 8. */
+jgv_length jgv_coverage_write(uint64_t n, uint64_t s, const uint64_t *codes, size_t count, uint8_t *text, size_t room);
+
+/* Whether a text covers all finest cells of a cell: 1 or 0. Refusals 5, 4, 13, 10, 9, 14. */
+jgv_ask jgv_coverage_ask(uint64_t n, uint64_t s, const uint8_t *text, size_t length, uint64_t code);
 
 #ifdef __cplusplus
 }

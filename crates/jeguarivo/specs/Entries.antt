@@ -38,7 +38,7 @@ use Rattle.jeguarivo.specs.declared.VerticesAnswer.{VerticesAnswer}
 abbrev cell : ℕ → ℕ → ℕ → ℕ → Cell
 cell face resolution row column = record { face = face; resolution = resolution; row = row; column = column }
 
-abbrev arrangement : ℕ → ℕ → Arrangement
+abbrev pub arrangement : ℕ → ℕ → Arrangement
 arrangement n s = record { north = n; south = s }
 
 -- ---- codes

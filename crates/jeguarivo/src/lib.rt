@@ -1,17 +1,26 @@
 // The public entries, for C and whatever links a C library. Each takes any numbers and any bytes: what is bad gets its refusal number,
 // zeros for the other answers, and no lent byte changed.
 ghost use mathlib.Core.Path.{_≡_};
+ghost use mathlib.Core.Bool.{cond};
 ghost use lib.ListN.{length};
 ghost use Rattle.logic.specs.Refusal.{given};
 ghost use Rattle.cell.specs.Cell.{IsCell, refusalIn, cellIn};
 ghost use Rattle.code.specs.Code.{codeOf};
 ghost use Rattle.name.specs.Name.{codeNameRefusal, nameIn};
+ghost use Rattle.listing.specs.List.{listRefusal, codesIn};
+ghost use Rattle.jeguarivo.specs.Texts.{checkedText, listedText, askedText, writtenText};
+ghost use Rattle.jeguarivo.specs.Entries.{arrangement};
+ghost use Rattle.writing.specs.WriteEntry.{writeRefusal, textIn};
 ghost use Rattle.jeguarivo.specs.Entries.{codeAnswer, codedAnswer, cellCode, codeCell, nameAnswer, writtenName, parentCode, childCode, cellSize, cellShape, cornerCount, cellSquare, cellNucleus, cellVertices, pointCode, neighbourCode, fixCode, groundFix, noSquare, noPoint, noFix, noVertices};
+use asking::Asked;
 use cell::Arrangement;
 use cell::Cell;
 use cell::Found;
 use code::Coded;
+use listing::Listed;
 use name::Named;
+use reader::Checked;
+use writing::Written;
 
 #[repr(C)]
 pub struct CodeAnswer {
@@ -79,6 +88,28 @@ pub struct VerticesAnswer {
     pub refusal: u64,
     pub x: [i64; 4],
     pub y: [i64; 4],
+}
+
+#[repr(C)]
+pub struct CheckAnswer {
+    pub refusal: u64,
+    pub place: u64,
+    pub cells: u64,
+    pub size: u64,
+}
+
+#[repr(C)]
+pub struct ListAnswer {
+    pub refusal: u64,
+    pub place: u64,
+    pub count: u64,
+}
+
+#[repr(C)]
+pub struct AskAnswer {
+    pub refusal: u64,
+    pub place: u64,
+    pub covered: u64,
 }
 
 // A code, or its refusal, as numbers.
@@ -204,7 +235,7 @@ pub extern "C" fn jgv_size(code: u64) -> SizeAnswer
     let Found::At(cell) = code::cell_of(code) else {
         return SizeAnswer {
             refusal: 4, // every cell has a size
-            size: 0,
+            size: 0, // of no cell
         };
     };
     SizeAnswer {
@@ -238,7 +269,7 @@ pub extern "C" fn jgv_corner_count(code: u64) -> CountAnswer
     let Found::At(cell) = code::cell_of(code) else {
         return CountAnswer {
             refusal: 4, // every cell has corners
-            count: 0,
+            count: 0, // of no cell
         };
     };
     CountAnswer {
@@ -418,4 +449,94 @@ fn refused_vertices(refusal: u64) -> VerticesAnswer
         x: [0; 4],
         y: [0; 4],
     }
+}
+
+// 13 where the text is longer than 65,536 bytes, 10 where its version is not 1, 9 with the place where it is not of the grammar.
+#[no_mangle]
+pub extern "C" fn jgv_coverage_check(text: &[u8]) -> CheckAnswer
+    ensures { λ r. ⌜ r ≡ checkedText (now (text .entry)) ⌝ }
+{
+    match reader::check(text) {
+        Checked::Text {
+            north: _,
+            south: _,
+            cells,
+            size,
+        } => CheckAnswer {
+            refusal: 0,
+            place: 0,
+            cells,
+            size,
+        },
+        Checked::Refused { refusal, place } => CheckAnswer {
+            refusal,
+            place,
+            cells: 0, // of a text that is refused
+            size: 0,
+        },
+    }
+}
+
+// 13, 10 and 9 as in checking, 8 where the room is shorter than the list.
+#[no_mangle]
+pub extern "C" fn jgv_coverage_list(text: &[u8], codes: &mut [u64]) -> ListAnswer
+    ensures { λ r. ⌜ r ≡ listedText (now (text .entry)) (length (now (codes .entry))) ⌝ }
+    ensures { λ r. ⌜ now (codes .exit) ≡ given (listRefusal (now (text .entry)) (length (now (codes .entry)))) (codesIn (now (text .entry)) (now (codes .entry))) (now (codes .entry)) ⌝ }
+{
+    match listing::list(text, codes) {
+        Listed::Count(count) => ListAnswer {
+            refusal: 0,
+            place: 0,
+            count,
+        },
+        Listed::Refused { refusal, place } => ListAnswer {
+            refusal,
+            place,
+            count: 0, // of a list that is refused
+        },
+    }
+}
+
+// 5 where n or s is above 3, 4 where a code is no cell's, 11 where the list is not rising or nested, 13 where the text would be longer than
+// 65,536 bytes, 8 where the room is shorter than the text.
+#[no_mangle]
+pub extern "C" fn jgv_coverage_write(n: u64, s: u64, codes: &[u64], text: &mut [u8]) -> LengthAnswer
+    ensures { λ r. ⌜ r ≡ writtenText n s (now (codes .entry)) (length (now (text .entry))) ⌝ }
+    ensures { λ r. ⌜ now (text .exit) ≡ given (writeRefusal (arrangement n s) (now (codes .entry)) (length (now (text .entry)))) (textIn (arrangement n s) (now (codes .entry)) (now (text .entry))) (now (text .entry)) ⌝ }
+{
+    let arrangement = Arrangement { north: n, south: s }; // `write` tests it
+    match writing::write(arrangement, codes, text) {
+        Written::Length(length) => LengthAnswer { refusal: 0, length },
+        Written::Refused(refusal) => LengthAnswer {
+            refusal,
+            length: 0, // of a text that is refused
+        },
+    }
+}
+
+// 5 where n or s is above 3, 4 where the code is no cell's, 13, 10 and 9 as in checking, 14 where the heading has another n or s.
+#[no_mangle]
+pub extern "C" fn jgv_coverage_ask(n: u64, s: u64, text: &[u8], code: u64) -> AskAnswer
+    ensures { λ r. ⌜ r ≡ askedText n s (now (text .entry)) code ⌝ }
+{
+    let arrangement = Arrangement { north: n, south: s }; // `ask` tests it
+    match asking::ask(arrangement, text, code) {
+        Asked::Covered(covered) => AskAnswer {
+            refusal: 0,
+            place: 0,
+            covered: as_number(covered),
+        },
+        Asked::Refused { refusal, place } => AskAnswer {
+            refusal,
+            place,
+            covered: 0,
+        },
+    }
+}
+
+// 1 for yes, 0 for no.
+fn as_number(yes: bool) -> u64
+    ensures { λ r. ⌜ r ≡ cond yes 1 0 ⌝ }
+{
+    if yes { 1 } else { 0 }
 }

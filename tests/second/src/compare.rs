@@ -32,6 +32,7 @@ pub fn say(line: &str) {
 /// arrangement and resolution.
 #[derive(Default)]
 pub struct Tally {
+    least: u64,
     kinds: [u64; 3],
     refusals: BTreeMap<u64, u64>,
     arrangements: BTreeMap<(u64, u64), u64>,
@@ -39,6 +40,14 @@ pub struct Tally {
 }
 
 impl Tally {
+    /// A tally that wants each refusal, arrangement and resolution at least so often.
+    pub fn needing(least: u64) -> Tally {
+        Tally {
+            least,
+            ..Tally::default()
+        }
+    }
+
     pub fn count(&mut self, kind: Kind, refusal: u64, about: About) {
         self.kinds[kind as usize] += 1;
         *self.refusals.entry(refusal).or_default() += 1;
@@ -69,7 +78,8 @@ impl Tally {
         wanted.sort();
         assert_eq!(met, wanted, "{entry}: the refusals met");
         for (refusal, count) in &self.refusals {
-            assert!(*count >= LEAST, "{entry}: {refusal} only {count} times");
+            let least = self.least;
+            assert!(*count >= least, "{entry}: {refusal} only {count} times");
         }
         self.check_spread(entry, if refusals.contains(&12) { 15 } else { 16 });
     }
@@ -85,8 +95,8 @@ impl Tally {
             .values()
             .chain(self.resolutions.values())
             .min();
-        assert!(least >= Some(&LEAST), "{entry}: spread");
-        assert!(self.refusals[&0] >= 100 * LEAST, "{entry}: accepted");
+        assert!(least >= Some(&self.least), "{entry}: spread");
+        assert!(self.refusals[&0] >= 100 * self.least, "{entry}: accepted");
     }
 }
 
@@ -115,7 +125,7 @@ pub fn compare_mix<I: Debug, A: Refusing>(
     proved: impl Fn(&I) -> A,
 ) {
     let mut random = Random::for_test(entry);
-    let mut tally = Tally::default();
+    let mut tally = Tally::needing(LEAST);
     for _ in 0..inputs {
         let kind = random.pick(mix);
         let input = make(&mut random, kind);

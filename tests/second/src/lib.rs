@@ -3,20 +3,24 @@
 //! proved library, entry by entry. They prove nothing; the library's contracts do that.
 //!
 //! RATTLE_LIBS names the folder of libjeguarivo.a: `cargo test --release --offline`. Without it
-//! the tests `grid` and `ground` fail, and the others try this program alone. SECOND_SEED sets
-//! another seed for the inputs.
+//! the tests `grid`, `ground` and `coverage` fail, and the others try this program alone.
+//! SECOND_SEED sets another seed for the inputs. A library that has no coverage entries yet
+//! links with the tests `grid` and `ground`: `--test grid --test ground`.
 //!
 //! - `grid`: names, codes, the plane, shapes, neighbours
 //! - `ground`: the cell of a fix and the ground nucleus, over the whole numbers of `big`
+//! - `coverage`: the coverage text: check, list, write, ask
 //! - `proved`: the proved library's C entries
-//! - `random`: inputs, good, at borders, and bad; `fixes` for fixes
+//! - `random`: inputs, good, at borders, and bad; `fixes` for fixes, `texts` for coverage texts
 //! - `compare`: runs both programs on many inputs and counts what was met
 
 pub mod big;
 pub mod compare;
+pub mod coverage;
 pub mod fixes;
 pub mod grid;
 pub mod ground;
 #[cfg(proved)]
 pub mod proved;
 pub mod random;
+pub mod texts;

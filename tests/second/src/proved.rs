@@ -165,3 +165,75 @@ pub fn fix_code(n: u64, s: u64, resolution: u64, longitude: i64, z: i64) -> Code
 pub fn ground_nucleus(n: u64, s: u64, code: u64) -> Fix {
     unsafe { jgv_ground_nucleus(n, s, code) }
 }
+
+/// The coverage entries. They stand apart, and each wrapper is built only where it is called, so
+/// that the other tests link with a library that doesn't have them.
+pub mod coverage {
+    use super::Length;
+    use crate::compare::Refusing;
+    use crate::coverage::{Checked, TextAnswer};
+
+    answers! {
+        /// `jgv_check`
+        Check { place: u64, cells: u64, size: u64 }
+        /// The answer of `jgv_coverage_list`
+        List { place: u64, count: u64 }
+        /// The answer of `jgv_coverage_ask`
+        Ask { place: u64, covered: u64 }
+    }
+
+    /// The second program's answer in the form of the proved library's.
+    macro_rules! from_text_answer {
+        ($($name:ident, $value:ty, $found:pat => { $($field:ident: $part:expr),* };)*) => {$(
+            impl From<TextAnswer<$value>> for $name {
+                fn from(answer: TextAnswer<$value>) -> $name {
+                    match answer {
+                        Ok($found) => $name { refusal: 0, place: 0, $($field: $part),* },
+                        Err(no) => $name { place: no.place, ..$name::refused(no.refusal) },
+                    }
+                }
+            }
+        )*};
+    }
+
+    from_text_answer! {
+        Check, Checked, of => { cells: of.cells, size: of.size };
+        List, u64, count => { count: count };
+        Ask, bool, covered => { covered: u64::from(covered) };
+    }
+
+    extern "C" {
+        fn jgv_coverage_check(text: *const u8, length: usize) -> Check;
+        fn jgv_coverage_list(text: *const u8, length: usize, codes: *mut u64, room: usize) -> List;
+        fn jgv_coverage_write(
+            n: u64,
+            s: u64,
+            codes: *const u64,
+            count: usize,
+            text: *mut u8,
+            room: usize,
+        ) -> Length;
+        fn jgv_coverage_ask(n: u64, s: u64, text: *const u8, length: usize, code: u64) -> Ask;
+    }
+
+    #[inline]
+    pub fn check(text: &[u8]) -> Check {
+        unsafe { jgv_coverage_check(text.as_ptr(), text.len()) }
+    }
+
+    #[inline]
+    pub fn list(text: &[u8], codes: &mut [u64]) -> List {
+        unsafe { jgv_coverage_list(text.as_ptr(), text.len(), codes.as_mut_ptr(), codes.len()) }
+    }
+
+    #[inline]
+    pub fn write(n: u64, s: u64, codes: &[u64], text: &mut [u8]) -> Length {
+        let (from, to) = (codes.as_ptr(), text.as_mut_ptr());
+        unsafe { jgv_coverage_write(n, s, from, codes.len(), to, text.len()) }
+    }
+
+    #[inline]
+    pub fn ask(n: u64, s: u64, text: &[u8], code: u64) -> Ask {
+        unsafe { jgv_coverage_ask(n, s, text.as_ptr(), text.len(), code) }
+    }
+}

@@ -1,0 +1,46 @@
+-- `jgv_coverage_write` meets its contract. Assumes nothing.
+use mathlib.Core.Path.{_≡_, sym, ap, _∙_}
+use Rattle.jeguarivo.specs.Texts.{writtenNumbers, writtenText}
+use Rattle.jeguarivo.proofs.Texts.{write-numbers}
+use borrow.Author.Needs.{needs}
+use Rattle.jeguarivo.proofs.jgv_coverage_write.Statement.{statement}
+use Rattle.jeguarivo.proofs.jgv_coverage_write.Tie as tie
+
+write-requires : tie.Need-write-requires
+write-requires c κs = search needs
+
+enum-known-length : tie.Need-enum-known-length
+enum-known-length c = search needs
+
+enum-known-refusal : tie.Need-enum-known-refusal
+enum-known-refusal c = search needs
+
+same-length : tie.Need-same-length
+same-length c = search needs
+
+returns : tie.Need-returns
+unfolding writtenText
+returns c =
+    let w = c .before .before .before .before .before in
+    (sym (ap writtenNumbers (c .before .length .given .1)) ∙ ap writtenNumbers (w .write .ensures .0) ∙ write-numbers _ _, w .write .ensures .1)
+
+same-length-2 : tie.Need-same-length-2
+same-length-2 c = search needs
+
+returns-2 : tie.Need-returns-2
+unfolding writtenText
+returns-2 c =
+    let w = c .before .before .before .before .before in
+    (sym (ap writtenNumbers (c .before .refusal .given .1)) ∙ ap writtenNumbers (w .write .ensures .0) ∙ write-numbers _ _, w .write .ensures .1)
+
+pub jgv-coverage-write-spec : {M : Type 1} → statement M
+jgv-coverage-write-spec =
+    tie.close
+    (tie.spec
+    write-requires
+    enum-known-length
+    enum-known-refusal
+    same-length
+    returns
+    same-length-2
+    returns-2)

@@ -1,0 +1,391 @@
+//! Document 01's "The coverage text": checking, listing, asking and writing.
+//!
+//! A text is taken byte by byte by an automaton with a stack of what is open. The place of a bad
+//! text is found by its definition: a leading part counts where it can be completed to a text
+//! that the automaton accepts. Ground is ranges of finest cells, numbered in the order of codes.
+//! A text is written from the fewest cells of its ground by comparing each name with the one
+//! before it.
+
+use crate::grid::{code_of, finest_cells, Answer, Name, FINEST, LETTERS};
+use std::ops::Range;
+
+/// "Text longer than 65,536 bytes, read or to be written": refusal 13.
+pub const LONGEST: usize = 65_536;
+
+/// "Seven bytes of heading", here of the arrangement (0, 0).
+pub const HEADING: &[u8; 7] = b"CVR\0\x0100";
+
+/// The numbers of the grammar, so that the tests can try every text of a smaller one.
+#[derive(Clone, Copy, Debug)]
+pub struct Rules {
+    /// Digits go from 0 to one less, and "a list never consists of nine whole nodes".
+    pub digits: u8,
+    /// "Nothing lies deeper than 15 digits."
+    pub deepest: usize,
+}
+
+/// 01's own.
+pub const RULES: Rules = Rules {
+    digits: 9,
+    deepest: 15,
+};
+
+/// A refusal number, and the place where it is 9.
+#[derive(Clone, Copy, Debug, PartialEq, Eq)]
+pub struct Refused {
+    pub refusal: u64,
+    pub place: u64,
+}
+
+impl From<u64> for Refused {
+    fn from(refusal: u64) -> Refused {
+        Refused { refusal, place: 0 }
+    }
+}
+
+/// What an entry that reads a text answers.
+pub type TextAnswer<T> = Result<T, Refused>;
+
+/// "The number of whole cells in the reading and the sum of their sizes."
+#[derive(Clone, Copy, Debug, PartialEq, Eq)]
+pub struct Checked {
+    pub cells: u64,
+    pub size: u64,
+}
+
+// ---------------------------------------------------------------- the grammar
+
+/// Something open: the body, or a list.
+struct Open {
+    /// The least letter or digit that may still come: they are strictly rising.
+    least: u8,
+    /// The faces or nodes that have no list.
+    whole: u8,
+}
+
+/// What has been taken of a text.
+struct Automaton {
+    rules: Rules,
+    heading: usize,
+    /// The body, then the lists that are open, the outermost first.
+    open: Vec<Open>,
+    /// Was the last byte a letter or a digit? Only then may a list follow.
+    fresh: bool,
+}
+
+impl Automaton {
+    fn new(rules: Rules) -> Automaton {
+        let body = Open {
+            least: LETTERS[0],
+            whole: 0,
+        };
+        Automaton {
+            rules,
+            heading: 0,
+            open: vec![body],
+            fresh: false,
+        }
+    }
+
+    /// Takes one byte more, and tells whether it may stand there. No further byte is to be taken
+    /// after one that may not.
+    fn take(&mut self, byte: u8) -> bool {
+        if self.heading < HEADING.len() {
+            let at = self.heading;
+            self.heading += 1;
+            return match at {
+                5 | 6 => (b'0'..=b'3').contains(&byte),
+                _ => byte == HEADING[at],
+            };
+        }
+        let lists = self.open.len() - 1;
+        let digits = self.rules.digits;
+        let Some(here) = self.open.last_mut() else {
+            return false;
+        };
+        let fresh = std::mem::replace(&mut self.fresh, false);
+        match byte {
+            b'(' if fresh && lists < self.rules.deepest => {
+                here.whole -= 1;
+                self.open.push(Open {
+                    least: b'0',
+                    whole: 0,
+                });
+                true
+            }
+            // one node or more, so that 0 is past, and not nine whole ones
+            b')' if lists > 0 && here.least > b'0' && here.whole < digits => {
+                self.open.pop();
+                true
+            }
+            b'(' | b')' => false,
+            _ => {
+                let known = match lists {
+                    0 => LETTERS.contains(&byte),
+                    _ => (b'0'..b'0' + digits).contains(&byte),
+                };
+                let fits = known && byte >= here.least;
+                if fits {
+                    here.least = byte + 1;
+                    here.whole += 1;
+                    self.fresh = true;
+                }
+                fits
+            }
+        }
+    }
+
+    /// May the text end here?
+    fn may_end(&self) -> bool {
+        self.heading == HEADING.len() && self.open.len() == 1
+    }
+}
+
+/// Is this a text of the grammar, whatever its length?
+pub fn accepts(rules: Rules, text: &[u8]) -> bool {
+    let mut automaton = Automaton::new(rules);
+    text.iter().all(|&byte| automaton.take(byte)) && automaton.may_end()
+}
+
+/// Does some accepted text, whatever its length, begin with this part? If any does, so does the
+/// part with the rest of a heading, or with all its lists closed: at once, after a `0` where the
+/// last list is empty, or after a `(0)` where it has nine whole nodes. The lists around the last
+/// one hold a node that isn't whole, so nothing keeps them from closing.
+pub fn begins_some(rules: Rules, part: &[u8]) -> bool {
+    let rest = HEADING.get(part.len()..).unwrap_or(&[]);
+    let count = |bracket: u8| part.iter().skip(7).filter(|&&byte| byte == bracket).count();
+    let closing = vec![b')'; count(b'(').saturating_sub(count(b')'))];
+    let fills: [&[u8]; 3] = [b"", b"0", b"(0)"];
+    fills
+        .iter()
+        .any(|fill| accepts(rules, &[part, rest, fill, &closing].concat()))
+}
+
+/// "The length of the longest leading part that some accepted text begins with, length limit
+/// aside." A leading part of such a part is one too, so halving the doubt finds the longest.
+pub fn place(rules: Rules, text: &[u8]) -> u64 {
+    let (mut good, mut bad) = (0, text.len() + 1);
+    while good + 1 < bad {
+        let middle = good + (bad - good) / 2;
+        if begins_some(rules, &text[..middle]) {
+            good = middle;
+        } else {
+            bad = middle;
+        }
+    }
+    good as u64
+}
+
+/// Refuses 13, 10, 9.
+fn checked_text(text: &[u8]) -> TextAnswer<()> {
+    if text.len() > LONGEST {
+        return Err(13.into());
+    }
+    if text.len() >= 5 && text.starts_with(b"CVR") && text[3..5] != [0, 1] {
+        return Err(10.into());
+    }
+    if accepts(RULES, text) {
+        return Ok(());
+    }
+    Err(Refused {
+        refusal: 9,
+        place: place(RULES, text),
+    })
+}
+
+/// The names of an accepted text's whole cells, in the order they stand. "A whole digit stands
+/// for the cell whose name is the face letter, then the digits whose lists it stands in,
+/// outermost first, then itself": what a `(` follows has a list, and any other letter or digit
+/// is whole.
+pub fn whole_cells(text: &[u8]) -> Vec<Name> {
+    let mut lists = Name::new();
+    let mut cells = Vec::new();
+    for (at, &byte) in text.iter().enumerate().skip(HEADING.len()) {
+        match byte {
+            b'(' => (),
+            b')' => {
+                lists.pop();
+            }
+            _ if text.get(at + 1) == Some(&b'(') => lists.push(byte),
+            _ => cells.push([&lists[..], &[byte]].concat()),
+        }
+    }
+    cells
+}
+
+// ---------------------------------------------------------------- ground
+
+/// The finest cells of a cell, by their numbers: from 0 to 6 x 9^15, in the order of codes.
+pub type Span = Range<u64>;
+
+/// Finest cells as ranges, rising, with a gap between any two.
+pub type Ground = Vec<Span>;
+
+/// The finest cells of a code's cell, if it is some cell's. A code is 16 times the first finest
+/// cell's number, and the resolution; cells of one size begin at the multiples of the size.
+pub fn span_of(code: u64) -> Option<Span> {
+    let (first, size) = (code / 16, finest_cells(code % 16));
+    let is_cell = first % size == 0 && first < 6 * finest_cells(0);
+    is_cell.then(|| first..first + size)
+}
+
+/// The finest cells inside any of some cells, which may be nested, equal and in any order.
+pub fn ground_of(mut spans: Vec<Span>) -> Ground {
+    spans.sort_by_key(|span| span.start);
+    let mut ground = Ground::new();
+    for span in spans {
+        match ground.last_mut() {
+            Some(last) if span.start <= last.end => last.end = last.end.max(span.end),
+            _ => ground.push(span),
+        }
+    }
+    ground
+}
+
+/// The ground of an accepted text.
+pub fn ground_of_text(text: &[u8]) -> Ground {
+    let span = |name: &Name| span_of(code_of(name)).expect("a cell's code");
+    ground_of(whole_cells(text).iter().map(span).collect())
+}
+
+/// The number of finest cells.
+pub fn ground_size(ground: &Ground) -> u64 {
+    ground.iter().map(|range| range.end - range.start).sum()
+}
+
+/// The fewest cells that cover exactly this ground: in each range from its start on, the widest
+/// cell that begins there and ends inside the range.
+pub fn fewest(ground: &Ground) -> Vec<Span> {
+    let sizes: Vec<u64> = (0..=FINEST).map(finest_cells).collect();
+    let mut cells = Vec::new();
+    for range in ground {
+        let mut start = range.start;
+        while start < range.end {
+            let fits = |size: &&u64| start % **size == 0 && start + **size <= range.end;
+            let size = sizes.iter().find(fits).expect("a finest cell fits");
+            cells.push(start..start + size);
+            start += size;
+        }
+    }
+    cells
+}
+
+/// The name of the cell with these finest cells.
+pub fn name_of_span(span: &Span) -> Name {
+    let mut size = finest_cells(0);
+    let mut name = vec![LETTERS[(span.start / size) as usize]];
+    while size > span.end - span.start {
+        let before = span.start % size;
+        size /= 9;
+        name.push(b'0' + (before / size) as u8);
+    }
+    name
+}
+
+// ---------------------------------------------------------------- writing
+
+/// The heading of an arrangement.
+pub fn heading(n: u64, s: u64) -> Vec<u8> {
+    let mut heading = HEADING.to_vec();
+    heading[5] += n as u8;
+    heading[6] += s as u8;
+    heading
+}
+
+/// The text whose whole cells have these names, in byte order and none the beginning of another.
+/// A name of so many bytes stands in one list less. What it shares with the name before is open
+/// already, and what that one had more has to be closed.
+pub fn text_of(n: u64, s: u64, names: &[Name]) -> Vec<u8> {
+    let mut text = heading(n, s);
+    let mut before: &[u8] = &[];
+    for name in names {
+        let same = |(one, other): &(&u8, &u8)| one == other;
+        let shared = before.iter().zip(name).take_while(same).count();
+        text.extend((shared + 1..before.len()).map(|_| b')'));
+        text.push(name[shared]);
+        for &digit in &name[shared + 1..] {
+            text.extend([b'(', digit]);
+        }
+        before = name;
+    }
+    text.extend((1..before.len()).map(|_| b')'));
+    text
+}
+
+/// The text that some codes give; refuses 5, 4, 11, 13.
+pub fn written(n: u64, s: u64, codes: &[u64]) -> Answer<Vec<u8>> {
+    if n > 3 || s > 3 {
+        return Err(5);
+    }
+    let spans: Option<Vec<Span>> = codes.iter().map(|&code| span_of(code)).collect();
+    let spans = spans.ok_or(4u64)?;
+    let mut rising = codes.to_vec();
+    rising.sort();
+    rising.dedup();
+    if rising != codes {
+        return Err(11);
+    }
+    // two cells have no finest cell in common, or one lies inside the other
+    let sizes: u64 = spans.iter().map(|span| span.end - span.start).sum();
+    let ground = ground_of(spans);
+    if sizes != ground_size(&ground) {
+        return Err(11);
+    }
+    let names: Vec<Name> = fewest(&ground).iter().map(name_of_span).collect();
+    let text = text_of(n, s, &names);
+    if text.len() > LONGEST {
+        return Err(13);
+    }
+    Ok(text)
+}
+
+/// Puts an answer at the front of lent memory, and answers its length; refuses 8.
+fn lend<T: Copy>(answer: &[T], lent: &mut [T]) -> Answer<u64> {
+    let own = lent.get_mut(..answer.len()).ok_or(8u64)?;
+    own.copy_from_slice(answer);
+    Ok(answer.len() as u64)
+}
+
+// ---------------------------------------------------------------- the entries
+
+/// The number of whole cells and the sum of their sizes; refuses 13, 10, 9.
+pub fn check(text: &[u8]) -> TextAnswer<Checked> {
+    checked_text(text)?;
+    let cells = whole_cells(text);
+    let sizes = cells.iter().map(|name| finest_cells(name.len() as u64 - 1));
+    Ok(Checked {
+        cells: cells.len() as u64,
+        size: sizes.sum(),
+    })
+}
+
+/// "The codes of the whole cells in rising order", to the front of lent memory, and their number;
+/// refuses 13, 10, 9, 8.
+pub fn list(text: &[u8], lent: &mut [u64]) -> TextAnswer<u64> {
+    checked_text(text)?;
+    let mut codes: Vec<u64> = whole_cells(text).iter().map(|name| code_of(name)).collect();
+    codes.sort();
+    Ok(lend(&codes, lent)?)
+}
+
+/// "Takes rising codes, none inside another, and gives the accepted text of the same ground", to
+/// the front of lent memory, and its length; refuses 5, 4, 11, 13, 8.
+pub fn write(n: u64, s: u64, codes: &[u64], lent: &mut [u8]) -> Answer<u64> {
+    lend(&written(n, s, codes)?, lent)
+}
+
+/// "Whether all of one cell's finest cells are covered"; refuses 5, 4, 13, 10, 9, 14.
+pub fn ask(n: u64, s: u64, text: &[u8], code: u64) -> TextAnswer<bool> {
+    if n > 3 || s > 3 {
+        return Err(5.into());
+    }
+    let asked = span_of(code).ok_or(4u64)?;
+    checked_text(text)?;
+    if !text.starts_with(&heading(n, s)) {
+        return Err(14.into());
+    }
+    let ground = ground_of_text(text);
+    Ok(ground
+        .iter()
+        .any(|range| range.start <= asked.start && asked.end <= range.end))
+}

@@ -1,0 +1,496 @@
+//! Coverage texts and lists of codes for the comparisons: good, at the grammar's borders, and
+//! damaged. How they are found is no part of 01; a bad guess here only makes a dull input.
+
+use crate::coverage::{
+    accepts, heading, name_of_span, span_of, whole_cells, HEADING, LONGEST, RULES,
+};
+use crate::grid::{code_of, Name, LETTERS};
+use crate::random::{Kind, Random, GUARD};
+use std::fmt;
+
+/// The bytes of the grammar, and some next to them.
+const GRAMMAR: &[u8] = b"((()))012345678NOPQRS";
+const NEARBY: &[u8] = b"9/:*MTnos \0\n[]";
+
+/// A list with few bytes, or none: for the borders.
+const LISTS: [&[u8]; 8] = [
+    b"()",
+    b"(0)",
+    b"(8)",
+    b"(012345678)",
+    b"(01234567)",
+    b"(12345678)",
+    b"(01234567(8))",
+    b"(012345678(0))",
+];
+
+/// What an entry is given: numbers, bytes and codes. Of the bytes and of the codes only what is
+/// between the guards is lent.
+#[derive(Clone, PartialEq, Eq, Default)]
+pub struct Given {
+    pub n: u64,
+    pub s: u64,
+    pub code: u64,
+    pub bytes: Vec<u8>,
+    pub codes: Vec<u64>,
+}
+
+/// What is between the guards.
+pub fn lent<T>(memory: &[T]) -> &[T] {
+    &memory[GUARD..memory.len() - GUARD]
+}
+
+/// The same, to be changed.
+pub fn lent_mut<T>(memory: &mut [T]) -> &mut [T] {
+    let end = memory.len() - GUARD;
+    &mut memory[GUARD..end]
+}
+
+impl fmt::Debug for Given {
+    /// Long memory is cut; the seed makes it again.
+    fn fmt(&self, f: &mut fmt::Formatter) -> fmt::Result {
+        let Given {
+            n, s, code, bytes, ..
+        } = self;
+        write!(f, "n {n} s {s} code {code}; {} bytes", bytes.len())?;
+        write!(f, " \"{}\"", bytes[..bytes.len().min(600)].escape_ascii())?;
+        let codes = &self.codes[..self.codes.len().min(100)];
+        write!(f, "; {} codes {codes:?}", self.codes.len())
+    }
+}
+
+/// How the bytes of a text are spread.
+#[derive(Clone, Copy, PartialEq, Eq)]
+enum Style {
+    Deep,
+    Broad,
+    Mixed,
+}
+
+/// The most bytes that the nodes of a list may have at a depth, if not above a million.
+fn most_bytes(depth: usize) -> usize {
+    (depth..15).fold(8, |most, _| (9 * (3 + most)).min(1_000_000))
+}
+
+/// The names of a cell's nine children.
+fn children(name: &Name) -> Vec<Name> {
+    let child = |digit: u8| [&name[..], &[digit]].concat();
+    (b'0'..=b'8').map(child).collect()
+}
+
+impl Random {
+    /// So many parts that add up to a length: each is 0 (no node), 1 (a whole one), or from 4 to
+    /// `most` (a digit, two brackets and what is in them).
+    fn parts(&mut self, style: Style, parts: usize, most: usize, length: usize) -> Vec<usize> {
+        let fits = |parts: usize, length: usize| {
+            length <= parts || parts > 0 && (4..=parts * most).contains(&length)
+        };
+        assert!(fits(parts, length), "no {parts} parts make {length}");
+        let mut all = Vec::new();
+        let mut rest = length;
+        for left in (0..parts).rev() {
+            let good = |part: usize| {
+                part <= rest && (part < 2 || (4..=most).contains(&part)) && fits(left, rest - part)
+            };
+            let share = self.below(rest as u64 + 1) as usize;
+            let even = rest / (left + 1);
+            let tries = match style {
+                Style::Deep => [rest.min(most), share, 1, 0],
+                Style::Broad => [self.pick(&[1, even]), even, even + 1, 1],
+                Style::Mixed => [self.pick(&[0, 1, share, even, rest]), share, even, 1],
+            };
+            let part = tries.into_iter().find(|&part| good(part));
+            let part = part.or_else(|| (0..=rest).find(|&part| good(part)));
+            all.push(part.expect("a part that fits"));
+            rest -= all[all.len() - 1];
+        }
+        for nth in (1..all.len()).rev() {
+            all.swap(nth, self.below(nth as u64 + 1) as usize);
+        }
+        all
+    }
+
+    /// Faces (at depth 0) or a list's nodes of exactly so many bytes.
+    fn nodes(&mut self, style: Style, depth: usize, length: usize, text: &mut Vec<u8>) {
+        let marks: &[u8] = if depth == 0 { &LETTERS } else { b"012345678" };
+        let most = match depth {
+            15 => 0,
+            _ => 3 + most_bytes(depth + 1),
+        };
+        let mut parts = self.parts(style, marks.len(), most, length);
+        if depth > 0 && parts.iter().all(|&part| part == 1) {
+            parts = vec![0; 9];
+            parts[self.below(9) as usize] = 9;
+        }
+        for (&mark, part) in marks.iter().zip(parts) {
+            if part > 0 {
+                text.push(mark);
+            }
+            if part > 1 {
+                text.push(b'(');
+                self.nodes(style, depth + 1, part - 3, text);
+                text.push(b')');
+            }
+        }
+    }
+
+    /// A good text of exactly so many bytes.
+    pub fn text_of_length(&mut self, length: usize) -> Vec<u8> {
+        let style = self.pick(&[Style::Deep, Style::Broad, Style::Mixed, Style::Mixed]);
+        let mut text = heading(self.below(4), self.below(4));
+        self.nodes(style, 0, length - HEADING.len(), &mut text);
+        assert!(accepts(RULES, &text) && text.len() == length);
+        text
+    }
+
+    /// A good text, most often short.
+    fn good_text(&mut self) -> Vec<u8> {
+        let most = self.pick(&[3, 10, 30, 60, 60, 120, 120, 500]);
+        let length = 7 + self.below(most) as usize;
+        self.text_of_length(length)
+    }
+
+    /// A good text of one chain of lists down to a depth, not closed.
+    fn chain(&mut self, depth: usize) -> Vec<u8> {
+        let mut text = heading(self.below(4), self.below(4));
+        text.push(self.pick(&LETTERS));
+        for _ in 0..depth {
+            text.extend([b'(', self.pick(b"0123456788")]);
+        }
+        text
+    }
+
+    /// Any bytes of the grammar after a chain: near the deepest, or after eight whole nodes.
+    fn tail_text(&mut self) -> Vec<u8> {
+        let depth = self.pick(&[0, 0, 1, 2, 13, 14, 14, 15, 15]);
+        let mut text = self.chain(depth);
+        match self.below(4) {
+            0 if depth < 15 => text.extend_from_slice(b"(01234567"),
+            1 if depth > 0 => {
+                text.pop();
+                text.extend_from_slice(b"01234567");
+            }
+            2 => text.extend_from_slice(self.pick(&LISTS)),
+            _ => (),
+        }
+        for _ in 0..self.below(6) {
+            text.push(self.pick(b"(()))00178888S"));
+        }
+        if self.chance(2) {
+            self.close(&mut text);
+        }
+        text
+    }
+
+    /// Closes what is open, or one more or less.
+    fn close(&mut self, text: &mut Vec<u8>) {
+        let count = |bracket: u8| text.iter().filter(|&&byte| byte == bracket).count();
+        let open = count(b'(').saturating_sub(count(b')')) as i64;
+        let off = self.pick(&[0, 0, 0, 0, 1, -1]);
+        for _ in 0..open + off {
+            text.push(b')');
+        }
+    }
+
+    /// A text whose heading is cut, alone, or has a byte that is not good there.
+    fn heading_text(&mut self) -> Vec<u8> {
+        let mut text = match self.below(3) {
+            0 => heading(self.below(4), self.below(4)),
+            _ => self.good_text(),
+        };
+        match self.below(4) {
+            0 => text.truncate(self.below(9) as usize),
+            1 => {
+                text[self.below(7) as usize] = self.pick(b"CVR\0\x01\x02\xFF0123456/:cv\x80");
+                text.truncate(self.pick(&[3, 4, 5, 6, 7, 8, 1000]));
+            }
+            2 => {
+                let version = [self.pick(&[0, 1, 255]), self.pick(&[0, 1, 2, 129, 255])];
+                text[3..5].copy_from_slice(&version);
+                text.truncate(self.pick(&[4, 5, 6, 1000]));
+            }
+            _ => {
+                let arrangement = [self.pick(b"03/4\0\xB0"), self.pick(b"03/4\x03\xB3")];
+                text[5..7].copy_from_slice(&arrangement);
+            }
+        }
+        text
+    }
+
+    /// Bytes of the grammar in any order, after a heading.
+    fn jumble(&mut self) -> Vec<u8> {
+        let mut text = heading(self.below(4), self.below(4));
+        for _ in 0..self.below(12) {
+            text.push(self.pick(GRAMMAR));
+        }
+        text
+    }
+
+    /// A byte for a damaged text.
+    fn odd_byte(&mut self) -> u8 {
+        match self.below(8) {
+            0 => self.pick(NEARBY),
+            1 => 128 | self.any() as u8,
+            2 => self.any() as u8,
+            _ => self.pick(GRAMMAR),
+        }
+    }
+
+    /// A place in a text; two times in three in the body.
+    fn place_in(&mut self, text: &[u8]) -> usize {
+        let from = match self.below(3) {
+            0 => 0,
+            _ => 7.min(text.len()),
+        };
+        from + self.below((text.len() - from) as u64 + 1) as usize
+    }
+
+    /// One byte changed, inserted, dropped or doubled, or the text cut or doubled, or two bytes
+    /// exchanged, or a list put in, or a closing bracket dropped.
+    pub fn damage(&mut self, text: &mut Vec<u8>) {
+        let at = self.place_in(text);
+        let end = text.len();
+        match self.below(10) {
+            0 | 1 if at < end => text[at] = self.odd_byte(),
+            2 if at < end => {
+                text.remove(at);
+            }
+            3 if at < end => text.insert(at, text[at]),
+            4 => text.truncate(at),
+            5 if at + 1 < end => text.swap(at, at + 1),
+            6 => {
+                let list = self.pick(&LISTS);
+                text.splice(at..at, list.iter().copied());
+            }
+            7 => {
+                let again = text[at..].to_vec();
+                text.extend(again);
+            }
+            8 if at + 3 <= end => {
+                // one bit of a byte
+                text[at] ^= 1 << self.below(8);
+            }
+            _ => text.insert(at, self.odd_byte()),
+        }
+    }
+
+    /// A text.
+    pub fn text(&mut self, kind: Kind) -> Vec<u8> {
+        match kind {
+            Kind::Random => self.good_text(),
+            Kind::Border => match self.below(6) {
+                0 => self.heading_text(),
+                1 => self.jumble(),
+                _ => self.tail_text(),
+            },
+            Kind::Bad => {
+                let from = self.pick(&[Kind::Random, Kind::Random, Kind::Border]);
+                let mut text = self.text(from);
+                for _ in 0..self.pick(&[1, 1, 1, 2, 3]) {
+                    self.damage(&mut text);
+                }
+                text
+            }
+        }
+    }
+
+    /// A text about as long as a text may be: not longer, or longer. Damaged half of the time.
+    pub fn long_text(&mut self, longer: bool) -> Vec<u8> {
+        let lengths = match longer {
+            true => [1, 1, 2, 5000],
+            false => [0, 0, -1, -100],
+        };
+        let length = LONGEST as i64 + self.pick(&lengths);
+        let mut text = self.text_of_length(length as usize);
+        if self.chance(2) {
+            let at = self.place_in(&text).min(text.len() - 1);
+            text[at] = self.odd_byte();
+        } else if self.chance(4) {
+            // cut at the length limit, or one byte from it
+            text = self.text_of_length(70_000);
+            text.truncate(length as usize);
+        }
+        if longer && self.chance(8) {
+            text.splice(3..5, [0, 2]);
+        }
+        text
+    }
+
+    /// Memory with guards around what is to be lent. Bytes of the grammar stand in half of the
+    /// guards, so that reading on would find something to read.
+    pub fn guarded(&mut self, bytes: &[u8]) -> Vec<u8> {
+        let mut memory = self.memory(bytes.len());
+        if self.chance(2) {
+            let grammar = self.pick(&[&b")"[..], b"0", b"8", b"S", b"("]);
+            memory.fill(grammar[0]);
+        }
+        lent_mut(&mut memory).copy_from_slice(bytes);
+        memory
+    }
+
+    /// The same for codes.
+    pub fn guarded_codes(&mut self, codes: &[u64]) -> Vec<u64> {
+        let guards: Vec<u64> = (0..2 * GUARD).map(|_| self.code(Kind::Bad)).collect();
+        [&guards[..GUARD], codes, &guards[GUARD..]].concat()
+    }
+
+    /// A room for so much: too short, exact or longer.
+    pub fn room(&mut self, for_length: usize) -> usize {
+        let shorter = self.below(for_length as u64 + 1) as usize;
+        let longer = for_length + self.below(40) as usize;
+        let one_less = for_length.saturating_sub(1);
+        self.pick(&[
+            shorter, one_less, for_length, for_length, for_length, longer, longer,
+        ])
+    }
+
+    /// A code to ask about: a whole cell of the text, one that holds it, one in it, one beside
+    /// it, or any.
+    pub fn asked_code(&mut self, kind: Kind, text: &[u8]) -> u64 {
+        let cells = match accepts(RULES, text) {
+            true => whole_cells(text),
+            false => vec![],
+        };
+        if kind == Kind::Bad && self.chance(8) {
+            return self.bad_code();
+        }
+        if cells.is_empty() || self.chance(8) {
+            return self.code(Kind::Random);
+        }
+        let nth = self.below(cells.len() as u64) as usize;
+        let mut name = cells[nth].clone();
+        match self.below(5) {
+            0 => name.truncate(1 + self.below(name.len() as u64) as usize),
+            1 | 2 => {
+                let end = name.len() + self.below(17 - name.len() as u64) as usize;
+                while name.len() < end {
+                    name.push(self.pick(b"012345678"));
+                }
+            }
+            3 if name.len() > 1 => {
+                let at = 1 + self.below(name.len() as u64 - 1) as usize;
+                name[at] = self.pick(b"012345678");
+            }
+            _ => (),
+        }
+        code_of(&name)
+    }
+
+    /// The names with some cells split into their nine children, and theirs again.
+    fn split(&mut self, names: Vec<Name>, in_how_many: u64) -> Vec<Name> {
+        let mut split = Vec::new();
+        for name in names {
+            let into = name.len() < 16 && self.chance(in_how_many);
+            if into {
+                let deeper = in_how_many.max(3) * 3;
+                split.extend(self.split(children(&name), deeper));
+            } else {
+                split.push(name);
+            }
+        }
+        split
+    }
+
+    /// A good list of codes: the whole cells of a text, some of them split; at a border, with
+    /// one left out, or a whole family of some generations.
+    fn good_codes(&mut self, kind: Kind) -> Vec<u64> {
+        if kind == Kind::Border && self.chance(40) {
+            // all cells of a resolution in a cell
+            let mut names = vec![self.name(Kind::Border)];
+            for _ in 0..(16 - names[0].len() as u64).min(self.below(4)) {
+                names = names.iter().flat_map(children).collect();
+            }
+            return self.without_one(names);
+        }
+        let text = match kind {
+            Kind::Border => {
+                let text = self.tail_text();
+                match accepts(RULES, &text) {
+                    true => text,
+                    false => heading(0, 0),
+                }
+            }
+            _ => self.good_text(),
+        };
+        let split = self.pick(&[2, 5, 20, 1000]);
+        let names = self.split(whole_cells(&text), split);
+        match kind {
+            Kind::Border => self.without_one(names),
+            _ => names.iter().map(|name| code_of(name)).collect(),
+        }
+    }
+
+    /// The codes of names, sometimes without one of them.
+    fn without_one(&mut self, mut names: Vec<Name>) -> Vec<u64> {
+        if !names.is_empty() && self.chance(2) {
+            names.remove(self.below(names.len() as u64) as usize);
+        }
+        names.iter().map(|name| code_of(name)).collect()
+    }
+
+    /// A list of codes; a bad one has a code that is no cell's, one twice, two exchanged, one
+    /// inside another, or the wrong order.
+    pub fn codes(&mut self, kind: Kind) -> Vec<u64> {
+        if kind != Kind::Bad {
+            return self.good_codes(kind);
+        }
+        let mut codes = self.good_codes(Kind::Random);
+        for _ in 0..self.pick(&[0, 1, 1, 1, 2]) {
+            self.spoil(&mut codes);
+        }
+        codes
+    }
+
+    fn spoil(&mut self, codes: &mut Vec<u64>) {
+        let at = self.below(codes.len() as u64 + 1) as usize;
+        let end = codes.len();
+        let cell = codes.get(at).and_then(|&code| span_of(code));
+        match (self.below(9), cell) {
+            (0, _) => codes.insert(at, self.bad_code()),
+            (1, Some(_)) => codes[at] = self.bad_code(),
+            (2, Some(_)) => codes.insert(at, codes[at]),
+            (3, Some(_)) if at + 1 < end => codes.swap(at, at + 1),
+            (4, Some(_)) => {
+                let other = self.below(end as u64) as usize;
+                codes.swap(at, other);
+            }
+            (5, Some(span)) => {
+                // one that holds it, in its place by order
+                let mut name = name_of_span(&span);
+                name.truncate(1 + self.below(name.len() as u64) as usize);
+                codes.push(code_of(&name));
+                codes.sort();
+            }
+            (6, Some(span)) => {
+                // one inside it, in its place by order
+                let mut name = name_of_span(&span);
+                while name.len() < 16 && (name.len() as u64 == codes[at] % 16 + 1 || self.chance(2))
+                {
+                    name.push(self.pick(b"0123456788"));
+                }
+                codes.push(code_of(&name));
+                codes.sort();
+            }
+            (7, _) => codes.reverse(),
+            (8, Some(_)) => {
+                let again = codes[at..].to_vec();
+                codes.extend(again);
+            }
+            _ => codes.push(self.code(Kind::Random)),
+        }
+    }
+
+    /// A list whose text is about as long as a text may be: not longer, or longer. Some of the
+    /// cells are split, so that the text gets shorter by merging.
+    pub fn long_codes(&mut self, longer: bool) -> Vec<u64> {
+        let lengths = match longer {
+            true => [1, 1, 2, 5000],
+            false => [0, 0, -1, -100],
+        };
+        let length = LONGEST as i64 + self.pick(&lengths);
+        let text = self.text_of_length(length as usize);
+        let split = self.pick(&[50, 1000, 1_000_000]);
+        let names = self.split(whole_cells(&text), split);
+        names.iter().map(|name| code_of(name)).collect()
+    }
+}

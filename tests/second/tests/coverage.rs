@@ -1,0 +1,376 @@
+//! The proved coverage entries against the second program: each on more than a hundred thousand
+//! texts or lists, all short texts, and the values that 01 prints. A library that has no coverage
+//! entries doesn't link with this test.
+
+#[cfg(not(proved))]
+#[test]
+fn the_proved_library_is_linked() {
+    panic!("RATTLE_LIBS is not set, so nothing was compared");
+}
+
+/// Each entry on random, border, bad and long inputs.
+#[cfg(proved)]
+mod entries {
+    use second::compare::{About, Refusing, Tally};
+    use second::coverage::{self, accepts, whole_cells, written, RULES};
+    use second::grid::Answer;
+    use second::proved::coverage as proved;
+    use second::proved::Length;
+    use second::random::{Kind, Random, KINDS};
+    use second::texts::{lent, lent_mut, Given};
+
+    const INPUTS: u64 = 120_000;
+
+    /// The least number of times that each refusal, arrangement and resolution has to be met.
+    const LEAST: u64 = 100;
+
+    /// Is this input a long one: past the length limit, or at it?
+    fn long(nth: u64) -> Option<bool> {
+        match nth % 800 {
+            0 => Some(true),
+            400 => Some(false),
+            _ => None,
+        }
+    }
+
+    /// A text of a kind, or a long one.
+    fn text(random: &mut Random, kind: Kind, nth: u64) -> Vec<u8> {
+        match long(nth) {
+            Some(longer) => random.long_text(longer),
+            None => random.text(kind),
+        }
+    }
+
+    /// Compares whole answers and the whole memory afterwards, guards and text included.
+    fn compare<A: Refusing>(
+        entry: &str,
+        refusals: &[u64],
+        make: impl Fn(&mut Random, Kind, u64) -> Given,
+        about: impl Fn(&Given) -> About,
+        second: impl Fn(&mut Given) -> A,
+        proved: impl Fn(&mut Given) -> A,
+    ) {
+        let mut random = Random::for_test(entry);
+        let mut tally = Tally::needing(LEAST);
+        for nth in 0..INPUTS {
+            let kind = random.pick(&KINDS);
+            let given = make(&mut random, kind, nth);
+            let (mut wanted_after, mut found_after) = (given.clone(), given.clone());
+            let wanted = second(&mut wanted_after);
+            let found = proved(&mut found_after);
+            assert!(
+                wanted == found && wanted_after == found_after,
+                "{entry}\n input {nth} {given:?}\n second program {wanted:?}\n {wanted_after:?}\n \
+                 proved library {found:?}\n {found_after:?}"
+            );
+            tally.count(kind, wanted.refusal(), about(&given));
+        }
+        tally.finish(entry, refusals);
+    }
+
+    /// The arrangement and the deepest cell of a text, if it is accepted.
+    fn about_text(given: &Given) -> About {
+        let text = lent(&given.bytes);
+        let accepted = accepts(RULES, text);
+        let cells = if accepted { whole_cells(text) } else { vec![] };
+        let deepest = cells.iter().map(|name| name.len() as u64 - 1).max();
+        About {
+            arrangement: accepted.then(|| (u64::from(text[5] - b'0'), u64::from(text[6] - b'0'))),
+            resolution: deepest.unwrap_or(0),
+        }
+    }
+
+    #[test]
+    fn check() {
+        compare(
+            "jgv_coverage_check",
+            &[13, 10, 9],
+            |random, kind, nth| {
+                let text = text(random, kind, nth);
+                Given {
+                    bytes: random.guarded(&text),
+                    ..Given::default()
+                }
+            },
+            about_text,
+            |given| coverage::check(lent(&given.bytes)).into(),
+            |given| proved::check(lent(&given.bytes)),
+        );
+    }
+
+    #[test]
+    fn list() {
+        compare(
+            "jgv_coverage_list",
+            &[13, 10, 9, 8],
+            |random, kind, nth| {
+                let text = text(random, kind, nth);
+                let count = match accepts(RULES, &text) {
+                    true => whole_cells(&text).len(),
+                    false => 3,
+                };
+                let room = random.room(count);
+                let codes: Vec<u64> = (0..room).map(|_| random.any()).collect();
+                Given {
+                    bytes: random.guarded(&text),
+                    codes: random.guarded_codes(&codes),
+                    ..Given::default()
+                }
+            },
+            about_text,
+            |given| coverage::list(lent(&given.bytes), lent_mut(&mut given.codes)).into(),
+            |given| proved::list(lent(&given.bytes), lent_mut(&mut given.codes)),
+        );
+    }
+
+    #[test]
+    fn write() {
+        compare(
+            "jgv_coverage_write",
+            &[5, 4, 11, 13, 8],
+            |random, kind, nth| {
+                let (n, s) = random.arrangement(kind);
+                let codes = match long(nth) {
+                    Some(longer) => random.long_codes(longer),
+                    None => random.codes(kind),
+                };
+                let length = written(n, s, &codes).map_or(20, |text| text.len());
+                let room = random.room(length);
+                let bytes: Vec<u8> = (0..room).map(|_| random.any() as u8).collect();
+                Given {
+                    n,
+                    s,
+                    code: 0,
+                    bytes: random.guarded(&bytes),
+                    codes: random.guarded_codes(&codes),
+                }
+            },
+            |given| About {
+                arrangement: Some((given.n, given.s)),
+                resolution: lent(&given.codes).iter().map(|c| c % 16).max().unwrap_or(0),
+            },
+            |given| {
+                let (codes, bytes) = (lent(&given.codes), lent_mut(&mut given.bytes));
+                let answer: Answer<u64> = coverage::write(given.n, given.s, codes, bytes);
+                Length::from(answer)
+            },
+            |given| {
+                let (codes, bytes) = (lent(&given.codes), lent_mut(&mut given.bytes));
+                proved::write(given.n, given.s, codes, bytes)
+            },
+        );
+    }
+
+    #[test]
+    fn ask() {
+        compare(
+            "jgv_coverage_ask",
+            &[5, 4, 13, 10, 9, 14],
+            |random, kind, nth| {
+                let text = text(random, kind, nth);
+                let (mut n, mut s) = random.arrangement(kind);
+                let own = |at: usize| text.get(at).map_or(0, |byte| u64::from(byte & 3));
+                if n < 4 && s < 4 && !random.chance(10) {
+                    (n, s) = (own(5), own(6));
+                }
+                let code = random.asked_code(kind, &text);
+                Given {
+                    n,
+                    s,
+                    code,
+                    bytes: random.guarded(&text),
+                    codes: vec![],
+                }
+            },
+            |given| About {
+                arrangement: Some((given.n, given.s)),
+                resolution: given.code % 16,
+            },
+            |given| coverage::ask(given.n, given.s, lent(&given.bytes), given.code).into(),
+            |given| proved::ask(given.n, given.s, lent(&given.bytes), given.code),
+        );
+    }
+}
+
+/// Every string of some bytes up to a length, after some beginnings, checked and listed.
+#[cfg(proved)]
+mod all_short_texts {
+    use second::compare::say;
+    use second::coverage::{self, HEADING};
+    use second::proved::coverage as proved;
+
+    /// Compares each text, and each with so many closing brackets behind it.
+    fn same_after(beginning: &[u8], alphabet: &[u8], length: usize, closing: usize) -> [u64; 2] {
+        let mut counts = [0, 0];
+        let mut level = vec![[HEADING, beginning].concat()];
+        for longer in 0..=length {
+            for text in &level {
+                same(text, &mut counts);
+                if closing > 0 {
+                    same(&[text, &vec![b')'; closing][..]].concat(), &mut counts);
+                }
+            }
+            if longer < length {
+                let with = |text: &[u8], byte: u8| [text, &[byte]].concat();
+                let next = level
+                    .iter()
+                    .flat_map(|text| alphabet.iter().map(|&b| with(text, b)));
+                level = next.collect();
+            }
+        }
+        counts
+    }
+
+    fn same(text: &[u8], counts: &mut [u64; 2]) {
+        let wanted = proved::Check::from(coverage::check(text));
+        assert_eq!(proved::check(text), wanted, "{}", text.escape_ascii());
+        let (mut codes, mut wanted) = ([7; 9], [7; 9]);
+        let listed = proved::list(text, &mut codes);
+        let by_second = proved::List::from(coverage::list(text, &mut wanted));
+        assert_eq!((listed, codes), (by_second, wanted));
+        counts[0] += 1;
+        counts[1] += u64::from([0, 8].contains(&listed.refusal));
+    }
+
+    #[test]
+    fn after_a_heading() {
+        let counts = same_after(b"", b"NOS018()", 6, 0);
+        say(&format!("all short bodies (all, accepted): {counts:?}"));
+    }
+
+    #[test]
+    fn after_eight_whole_nodes_and_near_the_deepest() {
+        let mut counts = Vec::new();
+        for depth in [0, 1, 13, 14, 15] {
+            let chain = [&b"P"[..], &b"(3".repeat(depth)].concat();
+            counts.push(same_after(&chain, b"048()S", 4, depth));
+            if depth < 15 {
+                let eight = [&chain[..], b"(01234567"].concat();
+                counts.push(same_after(&eight, b"08()S", 5, depth + 1));
+            }
+        }
+        say(&format!("all short tails (all, accepted): {counts:?}"));
+    }
+
+    /// Each byte of a heading and of a short text as any byte, and each length of it.
+    #[test]
+    fn one_byte_of_a_text_as_any_byte() {
+        let text = b"CVR\0\x0123N(1(08)4)PR(8)";
+        for length in 0..=text.len() {
+            for at in 0..length {
+                for byte in 0..=255 {
+                    let mut text = text[..length].to_vec();
+                    text[at] = byte;
+                    let wanted = proved::Check::from(coverage::check(&text));
+                    assert_eq!(proved::check(&text), wanted, "{}", text.escape_ascii());
+                }
+            }
+        }
+    }
+}
+
+/// The values that 01 and the readings print, from both programs.
+#[cfg(proved)]
+mod printed {
+    use second::coverage::{self, HEADING, LONGEST};
+    use second::grid::{code_of, finest_cells};
+    use second::proved::coverage as proved;
+    use second::proved::Length;
+
+    /// Both programs check a text to this refusal, place, number of cells and sum of sizes.
+    fn is(text: &[u8], refusal: u64, place: u64, cells: u64, size: u64) {
+        let wanted = proved::Check {
+            refusal,
+            place,
+            cells,
+            size,
+        };
+        assert_eq!(proved::Check::from(coverage::check(text)), wanted);
+        assert_eq!(proved::check(text), wanted, "{}", text.escape_ascii());
+    }
+
+    fn body(body: &[u8]) -> Vec<u8> {
+        [HEADING, body].concat()
+    }
+
+    /// Both programs write these cells as this body.
+    fn writes(names: &[&str], wanted: &[u8]) {
+        let codes: Vec<u64> = names.iter().map(|name| code_of(name.as_bytes())).collect();
+        let wanted = body(wanted);
+        assert_eq!(coverage::written(0, 0, &codes).as_ref(), Ok(&wanted));
+        let mut lent = vec![0xEE; wanted.len() + 1];
+        let length = wanted.len() as u64;
+        let answer = proved::write(0, 0, &codes, &mut lent);
+        assert_eq!(answer, Length { refusal: 0, length });
+        assert_eq!(lent, [&wanted[..], &[0xEE]].concat());
+    }
+
+    #[test]
+    fn given_whole() {
+        writes(
+            &["O", "P0", "P1", "P2", "P3", "P4", "P5", "P6", "P7", "P8"],
+            b"OP",
+        );
+        writes(&["P3", "P41"], b"P(34(1))");
+        is(&body(b"P(34(1))"), 0, 0, 2, 25_418_658_283_290);
+        writes(&[], b"");
+        writes(&["N", "O", "P", "Q", "R", "S"], b"NOPQRS");
+        is(&body(b"NOPQRS"), 0, 0, 6, 6 * 9u64.pow(15));
+    }
+
+    /// 01, proved table, lines 10 and 11, and the errors a builder will be drawn to.
+    #[test]
+    fn lines_10_and_11() {
+        is(&body(b"O()"), 9, 9, 0, 0);
+        is(&body(b"O(012345678)"), 9, 18, 0, 0);
+        is(&body(b"O(012345678"), 9, 18, 0, 0);
+        is(
+            &body(b"O(012345678(0))"),
+            0,
+            0,
+            9,
+            8 * 9u64.pow(14) + 9u64.pow(13),
+        );
+        let deep = [&b"O"[..], &b"(0".repeat(14)].concat();
+        is(
+            &body(&[&deep[..], b"(012345678"].concat()),
+            9,
+            7 + 29 + 9,
+            0,
+            0,
+        );
+        is(&body(&[&deep[..], b"(0("].concat()), 9, 7 + 29 + 2, 0, 0);
+    }
+
+    #[test]
+    fn headings() {
+        is(b"", 9, 0, 0, 0);
+        is(b"CVR\x01", 9, 3, 0, 0);
+        is(b"CVR\0", 9, 4, 0, 0);
+        is(b"CVR\x01\x01", 10, 0, 0, 0);
+        is(b"CVX\0\x02", 9, 2, 0, 0);
+        is(b"CVR\0\x0140", 9, 5, 0, 0);
+        is(b"CVR\0\x0100", 0, 0, 0, 0);
+    }
+
+    /// Past the length limit nothing else is looked at, and at it all is.
+    #[test]
+    fn longest() {
+        is(&vec![b'X'; LONGEST + 1], 13, 0, 0, 0);
+        is(&vec![b'X'; LONGEST], 9, 0, 0, 0);
+    }
+
+    /// "13 is judged on the merged text": all 354,294 cells of resolution 5, and all but one.
+    #[test]
+    fn many_codes_that_merge() {
+        let size = finest_cells(5);
+        let many: Vec<u64> = (0..6 * 9u64.pow(5)).map(|i| i * size * 16 + 5).collect();
+        for codes in [&many[..], &many[1..]] {
+            let (mut lent, mut wanted) = ([9; 80], [9; 80]);
+            let answer = proved::write(0, 0, codes, &mut lent);
+            let by_second = Length::from(coverage::write(0, 0, codes, &mut wanted));
+            assert_eq!((answer, lent), (by_second, wanted));
+            assert_eq!(answer.refusal, 0);
+        }
+    }
+}
