@@ -1,6 +1,6 @@
 -- Listing (01 "The coverage text"): "Listing gives the codes of the whole cells in rising order." Assumes nothing.
 use mathlib.Core.List.{List, [], _∷_, _++_, map}
-use Prim.Native.Nat.{ℕ, zero, suc, _<_}
+use Prim.Native.Nat.{ℕ, zero, suc}
 use lib.Dec.{ltb}
 use lib.ListN.{length, drop}
 use Rattle.logic.specs.Refusal.{refuse, _otherwise_}
@@ -41,12 +41,3 @@ placeIn (Refused r p) = p
 abbrev pub countIn : Listed → ℕ
 countIn (Count n) = n
 countIn (Refused r p) = 0
-
--- "in rising order": each is below all that come later
-abbrev pub Above : ℕ → List ℕ → Type 0
-Above n [] = Unit {0}
-Above n (x ∷ xs) = (n < x) × Above n xs
-
-abbrev pub Rise : List ℕ → Type 0
-Rise [] = Unit {0}
-Rise (x ∷ xs) = Above x xs × Rise xs

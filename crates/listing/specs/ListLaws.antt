@@ -5,6 +5,7 @@ use mathlib.Core.List.{List, [], _∷_, map}
 use Prim.Native.Nat.{ℕ, _<_}
 use native.Mathlib.Omega.{arith}
 use lib.ListN.{length, drop, length-map}
+use Rattle.logic.specs.Rise.{Above, Rise}
 use Rattle.cell.specs.declared.Cell.{Cell}
 use Rattle.code.specs.Code.{codeOf, cellOf}
 use Rattle.code.specs.CodeLaws.{cell-code}
@@ -16,7 +17,7 @@ use Rattle.reading.specs.DemandLaws.{whole-cells}
 use Rattle.walk.specs.declared.Spot.{Spot}
 use Rattle.walk.specs.Walk.{origin, spotOf, walk}
 use Rattle.walk.specs.WalkLaws.{text-reads, walk-text}
-use Rattle.listing.specs.List.{codesOf, Above, Rise}
+use Rattle.listing.specs.List.{codesOf}
 
 -- the code of the cell where the walk stands
 abbrev pub spotCode : Spot → ℕ

@@ -3,3 +3,4 @@ pub mod Choice
 pub mod Order
 pub mod Refusal
 pub mod RefusalLaws
+pub mod Rise

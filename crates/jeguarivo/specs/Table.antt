@@ -1,0 +1,69 @@
+-- 01's proved table: its twelve lines as one table, over what the entries answer, and one statement. Assumes nothing.
+use mathlib.Core.Path.{_≡_, refl}
+use mathlib.Core.List.{List, [], _∷_, _++_}
+use Prim.Native.Nat.{ℕ, zero, suc, _*_, _^_}
+use lib.IntN.{ℤ, pos, negℤ}
+use Rattle.ternary.specs.Digits.{value}
+use Rattle.ternary.specs.Weave.{rowIn, columnIn}
+use Rattle.root.specs.Floor.{rootFloor}
+use Rattle.logic.specs.Refusal.{_otherwise_, given}
+use Rattle.cell.specs.Cell.{arrangementRefusal}
+use Rattle.cell.specs.Neighbour.{neighbourOf}
+use Rattle.code.specs.Code.{codeOf, cellOf, codeRefusal}
+use Rattle.plane.specs.Plane.{pointRefusal}
+use Rattle.locate.specs.Fix.{fixCell, fixRefusal}
+use Rattle.name.specs.Name.{nameRefusal, nameCode}
+use Rattle.reading.specs.Text.{heading}
+use Rattle.reading.specs.Parse.{parse}
+use Rattle.reading.specs.Scan.{scan}
+use Rattle.reading.specs.Place.{lead, placeOf, toEnd, readText}
+use Rattle.reading.specs.TextReading.{isText}
+use Rattle.reader.specs.Check.{textRefusal}
+use Rattle.jeguarivo.specs.Entries.{fixCode, pointCode, neighbourCode, nameAnswer, codeAnswer}
+use Rattle.jeguarivo.specs.Texts.{checkedText}
+
+-- A line of the table. Names and bodies are bytes; n, s, k, then what is asked, then what 01 says.
+pub data Line : Type 0 where
+  fix : (n s k : ℕ) (L z : ℤ) (name : List ℕ) → Line
+  step : (n s : ℕ) (name : List ℕ) (direction : ℕ) (neighbour : List ℕ) → Line
+  body : (n s : ℕ) (bytes : List ℕ) (refusal place : ℕ) → Line
+  point : (n s k : ℕ) (x y : ℤ) (refusal : ℕ) → Line
+
+-- what the line says of the entries' answers
+abbrev pub Holds : Line → Type 0
+Holds (fix n s k L z name) = (nameRefusal name ≡ 0) × (fixCode n s k L z ≡ nameAnswer name)
+Holds (step n s name d next) = (nameRefusal next ≡ 0) × (neighbourCode n s (nameCode name) d ≡ nameAnswer next)
+Holds (body n s bytes refusal place) = checkedText (heading n s ++ bytes) ≡ record { refusal = refusal; place = place; cells = 0; size = 0 }
+Holds (point n s k x y refusal) = pointCode n s k x y ≡ record { refusal = refusal; code = 0 }
+
+abbrev pub AllHold : List Line → Type 0
+AllHold [] = Unit {0}
+AllHold (l ∷ ls) = Holds l × AllHold ls
+
+abbrev west : ℕ → ℤ
+west L = negℤ (pos L)
+
+-- (n, s) = (0, 0) unless said; line 9 has four directions
+pub table : List Line
+table =
+    fix 0 0 2 (pos 0) (pos 0) (81 ∷ 51 ∷ 51 ∷ []) ∷  -- 1: Q33
+    fix 0 0 1 (pos 123456789) (pos (10 ^ 18)) (78 ∷ 52 ∷ []) ∷  -- 2: N4
+    fix 0 0 1 (west 1350000000) (pos 666666666666666666) (79 ∷ 49 ∷ []) ∷  -- 3: O1
+    fix 0 0 1 (west 1350000000) (pos 666666666666666667) (78 ∷ 55 ∷ []) ∷  -- 4: N7
+    fix 0 0 1 (west 900000000) (pos 880000000000000000) (78 ∷ 56 ∷ []) ∷  -- 5: N8
+    fix 1 0 1 (west 900000000) (pos 880000000000000000) (78 ∷ 54 ∷ []) ∷  -- 6: N6
+    fix 0 0 1 (west 900000000) (negℤ (pos 880000000000000000)) (83 ∷ 50 ∷ []) ∷  -- 7: S2
+    fix 0 0 2 (west 1350000000) (pos 970000000000000000) (78 ∷ 52 ∷ 55 ∷ []) ∷  -- 8: N47
+    step 0 0 (80 ∷ 48 ∷ []) 0 (78 ∷ 56 ∷ []) ∷  -- 9: P0 up, N8
+    step 0 0 (80 ∷ 48 ∷ []) 1 (80 ∷ 49 ∷ []) ∷  -- right, P1
+    step 0 0 (80 ∷ 48 ∷ []) 2 (80 ∷ 51 ∷ []) ∷  -- down, P3
+    step 0 0 (80 ∷ 48 ∷ []) 3 (79 ∷ 50 ∷ []) ∷  -- left, O2
+    body 0 0 (79 ∷ 40 ∷ 41 ∷ []) 9 9 ∷  -- 10: `O()`
+    body 0 0 (79 ∷ 40 ∷ 48 ∷ 49 ∷ 50 ∷ 51 ∷ 52 ∷ 53 ∷ 54 ∷ 55 ∷ 56 ∷ 41 ∷ []) 9 18 ∷  -- 11: `O(012345678)`
+    point 0 0 0 (pos (4 * 28697814)) (pos 0) 7 ∷  -- 12: X 4M, Y 0
+    []
+
+pub proved-table : AllHold table
+unfolding table _otherwise_ given value rowIn columnIn codeAnswer codeOf cellOf codeRefusal arrangementRefusal nameAnswer nameRefusal nameCode fixCode fixRefusal fixCell rootFloor neighbourCode neighbourOf pointCode pointRefusal checkedText textRefusal isText readText toEnd parse placeOf lead scan
+proved-table =
+    ((refl, refl), ((refl, refl), ((refl, refl), ((refl, refl), ((refl, refl), ((refl, refl), ((refl, refl), ((refl, refl), ((refl, refl), ((refl, refl), ((refl, refl), ((refl, refl), (refl, (refl, (refl, tt)))))))))))))))
