@@ -1,0 +1,221 @@
+/* A tour of every entry, on examples of the scope paper. The tours in Rust and Python print the same lines.
+ * Each line begins with the entry's name, without jgv_. The arrangement (n, s) is (0, 0) where no other is said. */
+#include "jeguarivo.h"
+
+#include <inttypes.h>
+#include <stdio.h>
+#include <stdlib.h>
+#include <string.h>
+
+/* Read `refusal` first: where it isn't 0, every other field is 0, and 0 is also the code of the cell N. */
+static void expect_answer(uint64_t refusal) {
+    if (refusal) {
+        fprintf(stderr, "tour: refused with %" PRIu64 "\n", refusal);
+        exit(1);
+    }
+}
+
+static uint64_t code_in(jgv_code answer) {
+    expect_answer(answer.refusal);
+    return answer.code;
+}
+
+static uint64_t code_of(const char *name) {
+    return code_in(jgv_name_code((const uint8_t *)name, strlen(name)));
+}
+
+typedef struct {
+    char text[17];
+} cell_name;
+
+/* A name has at most 16 bytes, and no zero byte follows it: the 17th here stays 0. */
+static cell_name name_of(uint64_t code) {
+    cell_name name = {{0}};
+    expect_answer(jgv_code_name(code, (uint8_t *)name.text, 16).refusal);
+    return name;
+}
+
+/* A cell is a face, a resolution, a row from the top and a column from the left. It has one code and one name. */
+static void codes_and_names(void) {
+    uint64_t n1 = code_in(jgv_cell_code(0, 1, 0, 1));
+    printf("cell_code: face 0, resolution 1, row 0, column 1 -> %" PRIu64 "\n", n1);
+    jgv_cell cell = jgv_code_cell(n1);
+    expect_answer(cell.refusal);
+    printf("code_cell: %" PRIu64 " -> face %" PRIu64 ", resolution %" PRIu64 ", row %" PRIu64 ", column %" PRIu64 "\n", n1, cell.face,
+           cell.resolution, cell.row, cell.column);
+    printf("code_name: %" PRIu64 " -> %s\n", n1, name_of(n1).text);
+
+    static const char *const names[] = {"N", "N0", "N1", "O", "S888888888888888"};
+    for (size_t i = 0; i < 5; i++)
+        printf("name_code: %s -> %" PRIu64 "\n", names[i], code_of(names[i]));
+
+    /* Bad input is refused with a number; the header says what each number means. */
+    jgv_code bad = jgv_name_code((const uint8_t *)"X1", 2);
+    printf("name_code: X1 -> refused with %" PRIu64 "\n", bad.refusal);
+}
+
+/* Each cell but the finest has nine children, 0 top left to 8 bottom right. The size is the number of finest cells inside. */
+static void families(void) {
+    printf("parent: P41 -> %s\n", name_of(code_in(jgv_parent(code_of("P41")))).text);
+    printf("child: P, digit 0 -> %s\n", name_of(code_in(jgv_child(code_of("P"), 0))).text);
+
+    static const char *const names[] = {"O", "N1", "S888888888888888"};
+    for (size_t i = 0; i < 3; i++) {
+        jgv_size_answer answer = jgv_size(code_of(names[i]));
+        expect_answer(answer.refusal);
+        printf("size: %s -> %" PRIu64 "\n", names[i], answer.size);
+    }
+}
+
+/* Four shapes of cells; a dart has one corner neighbour less than the others. */
+static void shapes(void) {
+    static const char *const words[] = {"quad", "cap", "dart", "skew quad"};
+    static const char *const names[] = {"P0", "N4", "N0", "N1"};
+    for (size_t i = 0; i < 4; i++) {
+        jgv_shape_answer shape = jgv_shape(code_of(names[i]));
+        expect_answer(shape.refusal);
+        printf("shape: %s -> %s\n", names[i], words[shape.shape]);
+        jgv_count corners = jgv_corner_count(code_of(names[i]));
+        expect_answer(corners.refusal);
+        printf("corner_count: %s -> %" PRIu64 "\n", names[i], corners.count);
+    }
+}
+
+static void print_square(uint64_t n, const char *name, const char *shown) {
+    jgv_square_answer square = jgv_square(n, 0, code_of(name));
+    expect_answer(square.refusal);
+    printf("square: %s -> left %" PRId64 ", top %" PRId64 ", side %" PRId64 "\n", shown, square.left, square.top, square.side);
+}
+
+static void print_point(int64_t x, int64_t y) {
+    printf("point_code: (%" PRId64 ", %" PRId64 "), resolution 1 -> %s\n", x, y, name_of(code_in(jgv_point_code(0, 0, 1, x, y))).text);
+}
+
+/* The plane, in whole units: x runs east from the left edge of O, y up from the equator. N lies above face n, S below face s. */
+static void plane(void) {
+    print_square(0, "N", "N, n 0");
+    print_square(3, "N", "N, n 3");
+    print_square(0, "P0", "P0");
+
+    jgv_point nucleus = jgv_nucleus(0, 0, code_of("P0"));
+    expect_answer(nucleus.refusal);
+    printf("nucleus: P0 -> (%" PRId64 ", %" PRId64 ")\n", nucleus.x, nucleus.y);
+    jgv_vertices_answer corners = jgv_vertices(0, 0, code_of("P0"));
+    expect_answer(corners.refusal);
+    printf("vertices: P0 ->");
+    for (size_t i = 0; i < 4; i++)
+        printf(" (%" PRId64 ", %" PRId64 ")", corners.x[i], corners.y[i]);
+    putchar('\n');
+
+    /* A cell owns its left and top edges: the top left corner of P0 is in P0, the bottom right one in P4. */
+    print_point(nucleus.x, nucleus.y);
+    print_point(corners.x[0], corners.y[0]);
+    print_point(corners.x[2], corners.y[2]);
+    const int64_t four_sides = 4 * 28697814;
+    jgv_code outside = jgv_point_code(0, 0, 0, four_sides, 0);
+    printf("point_code: (%" PRId64 ", 0), resolution 0 -> refused with %" PRIu64 "\n", four_sides, outside.refusal);
+}
+
+static void print_fix(uint64_t n, uint64_t resolution, int64_t longitude, int64_t z) {
+    printf("fix_code: longitude %" PRId64 ", z %" PRId64 ", resolution %" PRIu64 "%s -> %s\n", longitude, z, resolution, n == 1 ? ", n 1" : "",
+           name_of(code_in(jgv_fix_code(n, 0, resolution, longitude, z))).text);
+}
+
+static void print_ground_nucleus(const char *name) {
+    jgv_fix fix = jgv_ground_nucleus(0, 0, code_of(name));
+    expect_answer(fix.refusal);
+    printf("ground_nucleus: %s -> longitude %" PRId64 ", z %" PRId64 "\n", name, fix.longitude, fix.z);
+}
+
+/* A fix is a longitude in units of 10^-7 degree and z, the sine of the authalic latitude, in units of 10^-18. */
+static void ground(void) {
+    print_fix(0, 2, 0, 0);
+    print_fix(0, 1, 0, 1000000000000000000);
+    print_fix(0, 1, -1350000000, 666666666666666666);
+    print_fix(0, 1, -1350000000, 666666666666666667);
+    print_fix(0, 1, -900000000, 880000000000000000);
+    print_fix(1, 1, -900000000, 880000000000000000);
+    print_fix(0, 1, -900000000, -880000000000000000);
+    print_fix(0, 2, -1350000000, 970000000000000000);
+
+    /* Back from a cell to the fix of its middle; both numbers are floored, so P6 is no mirror of P0. */
+    print_ground_nucleus("Q");
+    print_ground_nucleus("P0");
+    print_ground_nucleus("P6");
+    print_ground_nucleus("N4");
+}
+
+static void neighbours(void) {
+    static const char *const directions[] = {"up", "right", "down", "left"};
+    for (uint64_t direction = 0; direction < 4; direction++)
+        printf("neighbour: P0, %s -> %s\n", directions[direction], name_of(code_in(jgv_neighbour(0, 0, code_of("P0"), direction))).text);
+}
+
+/* Writes the text of rising cells to `text` and shows its bytes; answers its length. No text is longer than 65,536 bytes. */
+static size_t write_text(const char *const *names, size_t count, uint8_t *text, size_t room) {
+    uint64_t codes[10];
+    printf("coverage_write:");
+    for (size_t i = 0; i < count; i++) {
+        codes[i] = code_of(names[i]);
+        printf(" %s", names[i]);
+    }
+    jgv_length written = jgv_coverage_write(0, 0, codes, count, text, room);
+    expect_answer(written.refusal);
+    printf(" ->");
+    for (size_t i = 0; i < written.length; i++)
+        printf(" %02X", text[i]);
+    putchar('\n');
+    return (size_t)written.length;
+}
+
+static void print_ask(const uint8_t *text, size_t length, const char *name) {
+    jgv_ask answer = jgv_coverage_ask(0, 0, text, length, code_of(name));
+    expect_answer(answer.refusal);
+    printf("coverage_ask: %s, %s -> %s\n", "P(34(1))", name, answer.covered ? "yes" : "no");
+}
+
+/* A text that is not of the grammar is refused with 9; `place` says how much of it some good text begins with. */
+static void print_bad_text(const char *body) {
+    uint8_t text[32] = {'C', 'V', 'R', 0, 1, '0', '0'};
+    memcpy(text + 7, body, strlen(body));
+    jgv_check check = jgv_coverage_check(text, 7 + strlen(body));
+    printf("coverage_check: %s -> refused with %" PRIu64 " at place %" PRIu64 "\n", body, check.refusal, check.place);
+}
+
+/* A coverage text is a heading of seven bytes, with the version and n and s, and the whole cells as a tree of digits. */
+static void coverage(void) {
+    static const char *const whole[] = {"O", "P0", "P1", "P2", "P3", "P4", "P5", "P6", "P7", "P8"};
+    static const char *const two[] = {"P3", "P41"};
+    uint8_t text[32];
+    write_text(whole, 10, text, sizeof text); /* nine whole siblings become their parent */
+    size_t length = write_text(two, 2, text, sizeof text);
+
+    jgv_check check = jgv_coverage_check(text, length);
+    expect_answer(check.refusal);
+    printf("coverage_check: P(34(1)) -> %" PRIu64 " whole cells, size %" PRIu64 "\n", check.cells, check.size);
+    uint64_t codes[32]; /* a text has fewer whole cells than bytes */
+    jgv_list list = jgv_coverage_list(text, length, codes, 32);
+    expect_answer(list.refusal);
+    printf("coverage_list: P(34(1)) ->");
+    for (size_t i = 0; i < list.count; i++)
+        printf(" %s", name_of(codes[i]).text);
+    putchar('\n');
+
+    print_ask(text, length, "P3");
+    print_ask(text, length, "P41");
+    print_ask(text, length, "P418");
+    print_ask(text, length, "P4"); /* covered in part only */
+    print_bad_text("O()");
+    print_bad_text("O(012345678)");
+}
+
+int main(void) {
+    codes_and_names();
+    families();
+    shapes();
+    plane();
+    ground();
+    neighbours();
+    coverage();
+    return 0;
+}
