@@ -1,0 +1,163 @@
+//! A tour of every entry, on examples of the scope paper. The tours in C and Python print the same lines.
+//! Each line begins with the entry's name, without jgv_. The arrangement (n, s) is (0, 0) where no other is said.
+
+mod jeguarivo;
+
+use jeguarivo::*;
+
+/// The name of a cell; 16 bytes are enough for any.
+fn name_of(code: u64) -> Answer<String> {
+    let mut room = [0; 16];
+    let name = code_name(code, &mut room)?;
+    Ok(String::from_utf8_lossy(name).into_owned())
+}
+
+fn code_of(name: &str) -> Answer<u64> {
+    name_code(name.as_bytes())
+}
+
+/// A cell is a face, a resolution, a row from the top and a column from the left. It has one code and one name.
+fn codes_and_names() -> Answer<()> {
+    let n1 = cell_code(0, 1, 0, 1)?;
+    println!("cell_code: face 0, resolution 1, row 0, column 1 -> {n1}");
+    let Cell { face, resolution, row, column, .. } = code_cell(n1)?;
+    println!("code_cell: {n1} -> face {face}, resolution {resolution}, row {row}, column {column}");
+    println!("code_name: {n1} -> {}", name_of(n1)?);
+    for name in ["N", "N0", "N1", "O", "S888888888888888"] {
+        println!("name_code: {name} -> {}", code_of(name)?);
+    }
+    // Bad input is refused with a number; the header says what each number means.
+    match name_code(b"X1") {
+        Ok(code) => println!("name_code: X1 -> {code}"),
+        Err(refused) => println!("name_code: X1 -> refused with {}", refused.number),
+    }
+    Ok(())
+}
+
+/// Each cell but the finest has nine children, 0 top left to 8 bottom right. The size is the number of finest cells inside.
+fn families() -> Answer<()> {
+    println!("parent: P41 -> {}", name_of(parent(code_of("P41")?)?)?);
+    println!("child: P, digit 0 -> {}", name_of(child(code_of("P")?, 0)?)?);
+    for name in ["O", "N1", "S888888888888888"] {
+        println!("size: {name} -> {}", size(code_of(name)?)?);
+    }
+    Ok(())
+}
+
+/// Four shapes of cells; a dart has one corner neighbour less than the others.
+fn shapes() -> Answer<()> {
+    let words = ["quad", "cap", "dart", "skew quad"];
+    for name in ["P0", "N4", "N0", "N1"] {
+        println!("shape: {name} -> {}", words[shape(code_of(name)?)? as usize]);
+        println!("corner_count: {name} -> {}", corner_count(code_of(name)?)?);
+    }
+    Ok(())
+}
+
+fn print_square(n: u64, name: &str, shown: &str) -> Answer<()> {
+    let Square { left, top, side, .. } = square(n, 0, code_of(name)?)?;
+    println!("square: {shown} -> left {left}, top {top}, side {side}");
+    Ok(())
+}
+
+/// The plane, in whole units: x runs east from the left edge of O, y up from the equator. N lies above face n, S below face s.
+fn plane() -> Answer<()> {
+    print_square(0, "N", "N, n 0")?;
+    print_square(3, "N", "N, n 3")?;
+    print_square(0, "P0", "P0")?;
+
+    let middle = nucleus(0, 0, code_of("P0")?)?;
+    println!("nucleus: P0 -> ({}, {})", middle.x, middle.y);
+    let Vertices { x, y, .. } = vertices(0, 0, code_of("P0")?)?;
+    let corners: Vec<String> = (0..4).map(|i| format!("({}, {})", x[i], y[i])).collect();
+    println!("vertices: P0 -> {}", corners.join(" "));
+
+    // A cell owns its left and top edges: the top left corner of P0 is in P0, the bottom right one in P4.
+    for (x, y) in [(middle.x, middle.y), (x[0], y[0]), (x[2], y[2])] {
+        println!("point_code: ({x}, {y}), resolution 1 -> {}", name_of(point_code(0, 0, 1, x, y)?)?);
+    }
+    let four_sides = 4 * 28_697_814;
+    match point_code(0, 0, 0, four_sides, 0) {
+        Ok(code) => println!("point_code: ({four_sides}, 0), resolution 0 -> {code}"),
+        Err(refused) => println!("point_code: ({four_sides}, 0), resolution 0 -> refused with {}", refused.number),
+    }
+    Ok(())
+}
+
+/// A fix is a longitude in units of 10^-7 degree and z, the sine of the authalic latitude, in units of 10^-18.
+fn ground() -> Answer<()> {
+    let fixes = [
+        (0, 2, 0, 0),
+        (0, 1, 0, 1_000_000_000_000_000_000),
+        (0, 1, -1_350_000_000, 666_666_666_666_666_666),
+        (0, 1, -1_350_000_000, 666_666_666_666_666_667),
+        (0, 1, -900_000_000, 880_000_000_000_000_000),
+        (1, 1, -900_000_000, 880_000_000_000_000_000),
+        (0, 1, -900_000_000, -880_000_000_000_000_000),
+        (0, 2, -1_350_000_000, 970_000_000_000_000_000),
+    ];
+    for (n, resolution, longitude, z) in fixes {
+        let name = name_of(fix_code(n, 0, resolution, longitude, z)?)?;
+        let turned = if n == 1 { ", n 1" } else { "" };
+        println!("fix_code: longitude {longitude}, z {z}, resolution {resolution}{turned} -> {name}");
+    }
+    // Back from a cell to the fix of its middle; both numbers are floored, so P6 is no mirror of P0.
+    for name in ["Q", "P0", "P6", "N4"] {
+        let Fix { longitude, z, .. } = ground_nucleus(0, 0, code_of(name)?)?;
+        println!("ground_nucleus: {name} -> longitude {longitude}, z {z}");
+    }
+    Ok(())
+}
+
+fn neighbours() -> Answer<()> {
+    for (direction, word) in (0..).zip(["up", "right", "down", "left"]) {
+        println!("neighbour: P0, {word} -> {}", name_of(neighbour(0, 0, code_of("P0")?, direction)?)?);
+    }
+    Ok(())
+}
+
+/// Writes the text of rising cells to `room` and shows its bytes. No text is longer than 65,536 bytes.
+fn write_text<'a>(names: &[&str], room: &'a mut [u8]) -> Answer<&'a [u8]> {
+    let codes = names.iter().map(|name| code_of(name)).collect::<Answer<Vec<u64>>>()?;
+    let text = coverage_write(0, 0, &codes, room)?;
+    let bytes: Vec<String> = text.iter().map(|byte| format!("{byte:02X}")).collect();
+    println!("coverage_write: {} -> {}", names.join(" "), bytes.join(" "));
+    Ok(text)
+}
+
+/// A coverage text is a heading of seven bytes, with the version and n and s, and the whole cells as a tree of digits.
+fn coverage() -> Answer<()> {
+    let mut room = [0; 32];
+    // Nine whole siblings become their parent.
+    write_text(&["O", "P0", "P1", "P2", "P3", "P4", "P5", "P6", "P7", "P8"], &mut room)?;
+    let text = write_text(&["P3", "P41"], &mut room)?;
+
+    let check = coverage_check(text)?;
+    println!("coverage_check: P(34(1)) -> {} whole cells, size {}", check.cells, check.size);
+    let mut codes = [0; 32]; // a text has fewer whole cells than bytes
+    let listed = coverage_list(text, &mut codes)?;
+    let names = listed.iter().map(|&code| name_of(code)).collect::<Answer<Vec<String>>>()?;
+    println!("coverage_list: P(34(1)) -> {}", names.join(" "));
+    for name in ["P3", "P41", "P418", "P4"] {
+        let covered = coverage_ask(0, 0, text, code_of(name)?)?; // P4 is covered in part only: no
+        println!("coverage_ask: P(34(1)), {name} -> {}", if covered { "yes" } else { "no" });
+    }
+    // A text that is not of the grammar is refused with 9; `place` says how much of it some good text begins with.
+    for body in ["O()", "O(012345678)"] {
+        match coverage_check(format!("CVR\0\x0100{body}").as_bytes()) {
+            Ok(check) => println!("coverage_check: {body} -> {} whole cells, size {}", check.cells, check.size),
+            Err(Refused { number, place }) => println!("coverage_check: {body} -> refused with {number} at place {place}"),
+        }
+    }
+    Ok(())
+}
+
+fn main() -> Answer<()> {
+    codes_and_names()?;
+    families()?;
+    shapes()?;
+    plane()?;
+    ground()?;
+    neighbours()?;
+    coverage()
+}
