@@ -1,0 +1,269 @@
+"""Jeguarivo's entries for Python: a function for each entry of include/jeguarivo.h, on a shared object made from the archive.
+
+    gcc -shared -o libjeguarivo.so -Wl,--whole-archive libjeguarivo.a -Wl,--no-whole-archive
+
+JEGUARIVO_SO names the shared object; without it, the one that examples/tour builds is taken.
+
+A cell is given as its code, a whole number. Each function answers the value, or raises Refused with the header's number. A
+number that does not fit in 64 bits raises ctypes.ArgumentError: ctypes alone would cut it in silence.
+"""
+
+import ctypes
+import operator
+import os
+import pathlib
+from ctypes import c_char_p, c_int64, c_size_t, c_uint64
+from typing import Iterable, List, NamedTuple, Tuple, Union
+
+UP, RIGHT, DOWN, LEFT = range(4)
+SHAPES = ("quad", "cap", "dart", "skew quad")
+LONGEST_NAME, LONGEST_TEXT = 16, 65536
+
+REASONS = {
+    1: "a face above 5, an empty name, or a name that does not start with N to S",
+    2: "a resolution above 15, or a name over 16 bytes",
+    3: "a name byte that is no digit 0 to 8, a row or column outside the face, a child digit above 8, or a direction above 3",
+    4: "a number that is no cell's code",
+    5: "n or s above 3",
+    6: "a longitude or z out of range",
+    7: "a point outside the image of the plane",
+    8: "a buffer shorter than the answer",
+    9: "a text that is not of the grammar",
+    10: "a text of another version",
+    11: "a list of codes that does not rise strictly, or with one cell inside another",
+    12: "the parent of a cell of resolution 0, or a child of one of resolution 15",
+    13: "a text longer than 65,536 bytes",
+    14: "the asked arrangement differs from the text's",
+}
+
+
+class Refused(ValueError):
+    """An entry refused its input: `number` says why. With 9, `place` is how much of the text some good text begins with."""
+
+    def __init__(self, number: int, place: int = 0):
+        words = REASONS.get(number, "an unknown reason") + (f", at place {place}" if number == 9 else "")
+        super().__init__(f"refused with {number}: {words}")
+        self.number, self.place = number, place
+
+
+class Cell(NamedTuple):
+    face: int
+    resolution: int
+    row: int
+    column: int
+
+
+class Square(NamedTuple):
+    left: int
+    top: int
+    side: int
+
+
+class Point(NamedTuple):
+    x: int
+    y: int
+
+
+class Fix(NamedTuple):
+    longitude: int
+    z: int
+
+
+class Check(NamedTuple):
+    cells: int
+    size: int
+
+
+def _struct(name: str, **fields) -> type:
+    """The struct of an answer: `refusal`, then the fields in the header's order."""
+    return type(name, (ctypes.Structure,), {"_fields_": [("refusal", c_uint64), *fields.items()]})
+
+
+_Code = _struct("jgv_code", code=c_uint64)
+_Cell = _struct("jgv_cell", face=c_uint64, resolution=c_uint64, row=c_uint64, column=c_uint64)
+_Length = _struct("jgv_length", length=c_uint64)
+_Size = _struct("jgv_size_answer", size=c_uint64)
+_Shape = _struct("jgv_shape_answer", shape=c_uint64)
+_Count = _struct("jgv_count", count=c_uint64)
+_Square = _struct("jgv_square_answer", left=c_int64, top=c_int64, side=c_int64)
+_Point = _struct("jgv_point", x=c_int64, y=c_int64)
+_Vertices = _struct("jgv_vertices_answer", x=c_int64 * 4, y=c_int64 * 4)
+_Fix = _struct("jgv_fix", longitude=c_int64, z=c_int64)
+_Check = _struct("jgv_check", place=c_uint64, cells=c_uint64, size=c_uint64)
+_List = _struct("jgv_list", place=c_uint64, count=c_uint64)
+_Ask = _struct("jgv_ask", place=c_uint64, covered=c_uint64)
+
+
+class _U64:
+    """An argument from 0 to 2^64 - 1."""
+
+    @staticmethod
+    def from_param(value):
+        if not 0 <= operator.index(value) < 1 << 64:
+            raise OverflowError(f"{value} is not from 0 to 2^64 - 1")
+        return c_uint64(value)
+
+
+class _I64:
+    """An argument from -2^63 to 2^63 - 1."""
+
+    @staticmethod
+    def from_param(value):
+        if not -1 << 63 <= operator.index(value) < 1 << 63:
+            raise OverflowError(f"{value} is not from -2^63 to 2^63 - 1")
+        return c_int64(value)
+
+
+_BYTES, _ROOM, _CODES = c_char_p, ctypes.POINTER(ctypes.c_char), ctypes.POINTER(c_uint64)
+
+_here = pathlib.Path(__file__).resolve().parent
+_library = ctypes.CDLL(os.environ.get("JEGUARIVO_SO") or str(_here.parent.parent / "target/examples/libjeguarivo.so"))
+
+
+def _entry(name: str, answer: type, *arguments):
+    """The entry as a function that answers its struct, or raises Refused."""
+    function = getattr(_library, name)
+    function.argtypes, function.restype = arguments, answer
+
+    def call(*values):
+        got = function(*values)
+        if got.refusal:
+            raise Refused(got.refusal, getattr(got, "place", 0))
+        return got
+
+    return call
+
+
+_cell_code = _entry("jgv_cell_code", _Code, _U64, _U64, _U64, _U64)
+_code_cell = _entry("jgv_code_cell", _Cell, _U64)
+_name_code = _entry("jgv_name_code", _Code, _BYTES, c_size_t)
+_code_name = _entry("jgv_code_name", _Length, _U64, _ROOM, c_size_t)
+_parent = _entry("jgv_parent", _Code, _U64)
+_child = _entry("jgv_child", _Code, _U64, _U64)
+_size = _entry("jgv_size", _Size, _U64)
+_shape = _entry("jgv_shape", _Shape, _U64)
+_corner_count = _entry("jgv_corner_count", _Count, _U64)
+_square = _entry("jgv_square", _Square, _U64, _U64, _U64)
+_nucleus = _entry("jgv_nucleus", _Point, _U64, _U64, _U64)
+_vertices = _entry("jgv_vertices", _Vertices, _U64, _U64, _U64)
+_point_code = _entry("jgv_point_code", _Code, _U64, _U64, _U64, _I64, _I64)
+_fix_code = _entry("jgv_fix_code", _Code, _U64, _U64, _U64, _I64, _I64)
+_ground_nucleus = _entry("jgv_ground_nucleus", _Fix, _U64, _U64, _U64)
+_neighbour = _entry("jgv_neighbour", _Code, _U64, _U64, _U64, _U64)
+_coverage_check = _entry("jgv_coverage_check", _Check, _BYTES, c_size_t)
+_coverage_list = _entry("jgv_coverage_list", _List, _BYTES, c_size_t, _CODES, c_size_t)
+_coverage_write = _entry("jgv_coverage_write", _Length, _U64, _U64, _CODES, c_size_t, _ROOM, c_size_t)
+_coverage_ask = _entry("jgv_coverage_ask", _Ask, _U64, _U64, _BYTES, c_size_t, _U64)
+
+
+def cell_code(face: int, resolution: int, row: int, column: int) -> int:
+    """The code of a cell."""
+    return _cell_code(face, resolution, row, column).code
+
+
+def code_cell(code: int) -> Cell:
+    """The face, resolution, row and column of a code."""
+    got = _code_cell(code)
+    return Cell(got.face, got.resolution, got.row, got.column)
+
+
+def name_code(name: Union[str, bytes]) -> int:
+    """The code of a name, such as "P41"."""
+    name = name.encode() if isinstance(name, str) else bytes(name)
+    return _name_code(name, len(name)).code
+
+
+def code_name(code: int) -> str:
+    """The name of a code."""
+    room = ctypes.create_string_buffer(LONGEST_NAME)
+    length = _code_name(code, room, LONGEST_NAME).length
+    return room.raw[:length].decode("ascii")
+
+
+def parent(code: int) -> int:
+    """The cell of the next coarser resolution around a cell."""
+    return _parent(code).code
+
+
+def child(code: int, digit: int) -> int:
+    """The child of a cell: 0 is top left, 8 bottom right."""
+    return _child(code, digit).code
+
+
+def size(code: int) -> int:
+    """The number of finest cells in a cell."""
+    return _size(code).size
+
+
+def shape(code: int) -> str:
+    """One of SHAPES."""
+    return SHAPES[_shape(code).shape]
+
+
+def corner_count(code: int) -> int:
+    """How many cells touch a cell at a corner only."""
+    return _corner_count(code).count
+
+
+def square(n: int, s: int, code: int) -> Square:
+    """The square of a cell in the plane."""
+    got = _square(n, s, code)
+    return Square(got.left, got.top, got.side)
+
+
+def nucleus(n: int, s: int, code: int) -> Point:
+    """The middle of a cell in the plane."""
+    got = _nucleus(n, s, code)
+    return Point(got.x, got.y)
+
+
+def vertices(n: int, s: int, code: int) -> Tuple[Point, ...]:
+    """The corners of a cell in the plane: top left, top right, bottom right, bottom left."""
+    got = _vertices(n, s, code)
+    return tuple(map(Point, got.x, got.y))
+
+
+def point_code(n: int, s: int, resolution: int, x: int, y: int) -> int:
+    """The cell of a resolution that owns a point of the plane."""
+    return _point_code(n, s, resolution, x, y).code
+
+
+def fix_code(n: int, s: int, resolution: int, longitude: int, z: int) -> int:
+    """The cell in which a fix lies: longitude in units of 10^-7 degree, z (the sine of the authalic latitude) in units of 10^-18."""
+    return _fix_code(n, s, resolution, longitude, z).code
+
+
+def ground_nucleus(n: int, s: int, code: int) -> Fix:
+    """The fix of a cell's middle, each number floored."""
+    got = _ground_nucleus(n, s, code)
+    return Fix(got.longitude, got.z)
+
+
+def neighbour(n: int, s: int, code: int, direction: int) -> int:
+    """The neighbour of a cell: UP, RIGHT, DOWN or LEFT."""
+    return _neighbour(n, s, code, direction).code
+
+
+def coverage_check(text: bytes) -> Check:
+    """The number of a text's whole cells and the sum of their sizes."""
+    got = _coverage_check(text, len(text))
+    return Check(got.cells, got.size)
+
+
+def coverage_list(text: bytes) -> List[int]:
+    """The codes of a text's whole cells, rising. A text has fewer whole cells than bytes."""
+    codes = (c_uint64 * len(text))()
+    return codes[: _coverage_list(text, len(text), codes, len(text)).count]
+
+
+def coverage_write(n: int, s: int, codes: Iterable[int]) -> bytes:
+    """The coverage text of rising codes, none inside another."""
+    given = [_U64.from_param(code) for code in codes]
+    room = ctypes.create_string_buffer(LONGEST_TEXT)
+    length = _coverage_write(n, s, (c_uint64 * len(given))(*given), len(given), room, LONGEST_TEXT).length
+    return room.raw[:length]
+
+
+def coverage_ask(n: int, s: int, text: bytes, code: int) -> bool:
+    """Whether a text covers all finest cells of a cell."""
+    return _coverage_ask(n, s, text, len(text), code).covered == 1

@@ -1,0 +1,117 @@
+"""A tour of every entry, on examples of the scope paper. The tours in C and Rust print the same lines.
+
+Each line begins with the entry's name, without jgv_. The arrangement (n, s) is (0, 0) where no other is said.
+"""
+
+import jeguarivo as jgv
+from jeguarivo import code_name, name_code
+
+
+def codes_and_names():
+    """A cell is a face, a resolution, a row from the top and a column from the left. It has one code and one name."""
+    n1 = jgv.cell_code(face=0, resolution=1, row=0, column=1)
+    print(f"cell_code: face 0, resolution 1, row 0, column 1 -> {n1}")
+    cell = jgv.code_cell(n1)
+    print(f"code_cell: {n1} -> face {cell.face}, resolution {cell.resolution}, row {cell.row}, column {cell.column}")
+    print(f"code_name: {n1} -> {code_name(n1)}")
+    for name in ("N", "N0", "N1", "O", "S888888888888888"):
+        print(f"name_code: {name} -> {name_code(name)}")
+    try:  # bad input is refused with a number; jgv.REASONS says what each number means
+        print(f"name_code: X1 -> {name_code('X1')}")
+    except jgv.Refused as refused:
+        print(f"name_code: X1 -> refused with {refused.number}")
+
+
+def families():
+    """Each cell but the finest has nine children, 0 top left to 8 bottom right. The size is the number of finest cells inside."""
+    print(f"parent: P41 -> {code_name(jgv.parent(name_code('P41')))}")
+    print(f"child: P, digit 0 -> {code_name(jgv.child(name_code('P'), 0))}")
+    for name in ("O", "N1", "S888888888888888"):
+        print(f"size: {name} -> {jgv.size(name_code(name))}")
+
+
+def shapes():
+    """Four shapes of cells; a dart has one corner neighbour less than the others."""
+    for name in ("P0", "N4", "N0", "N1"):
+        print(f"shape: {name} -> {jgv.shape(name_code(name))}")
+        print(f"corner_count: {name} -> {jgv.corner_count(name_code(name))}")
+
+
+def plane():
+    """The plane, in whole units: x runs east from the left edge of O, y up from the equator. N lies above face n, S below face s."""
+    for n, name, shown in ((0, "N", "N, n 0"), (3, "N", "N, n 3"), (0, "P0", "P0")):
+        square = jgv.square(n, 0, name_code(name))
+        print(f"square: {shown} -> left {square.left}, top {square.top}, side {square.side}")
+
+    middle = jgv.nucleus(0, 0, name_code("P0"))
+    print(f"nucleus: P0 -> ({middle.x}, {middle.y})")
+    corners = jgv.vertices(0, 0, name_code("P0"))
+    print("vertices: P0 ->", *(f"({x}, {y})" for x, y in corners))
+
+    # A cell owns its left and top edges: the top left corner of P0 is in P0, the bottom right one in P4.
+    for x, y in (middle, corners[0], corners[2]):
+        print(f"point_code: ({x}, {y}), resolution 1 -> {code_name(jgv.point_code(0, 0, 1, x, y))}")
+    four_sides = 4 * 28_697_814
+    try:
+        print(f"point_code: ({four_sides}, 0), resolution 0 -> {jgv.point_code(0, 0, 0, four_sides, 0)}")
+    except jgv.Refused as refused:
+        print(f"point_code: ({four_sides}, 0), resolution 0 -> refused with {refused.number}")
+
+
+def ground():
+    """A fix is a longitude in units of 10^-7 degree and z, the sine of the authalic latitude, in units of 10^-18."""
+    fixes = (
+        (0, 2, 0, 0),
+        (0, 1, 0, 1_000_000_000_000_000_000),
+        (0, 1, -1_350_000_000, 666_666_666_666_666_666),
+        (0, 1, -1_350_000_000, 666_666_666_666_666_667),
+        (0, 1, -900_000_000, 880_000_000_000_000_000),
+        (1, 1, -900_000_000, 880_000_000_000_000_000),
+        (0, 1, -900_000_000, -880_000_000_000_000_000),
+        (0, 2, -1_350_000_000, 970_000_000_000_000_000),
+    )
+    for n, resolution, longitude, z in fixes:
+        name = code_name(jgv.fix_code(n, 0, resolution, longitude, z))
+        turned = ", n 1" if n == 1 else ""
+        print(f"fix_code: longitude {longitude}, z {z}, resolution {resolution}{turned} -> {name}")
+
+    # Back from a cell to the fix of its middle; both numbers are floored, so P6 is no mirror of P0.
+    for name in ("Q", "P0", "P6", "N4"):
+        fix = jgv.ground_nucleus(0, 0, name_code(name))
+        print(f"ground_nucleus: {name} -> longitude {fix.longitude}, z {fix.z}")
+
+
+def neighbours():
+    for direction, word in ((jgv.UP, "up"), (jgv.RIGHT, "right"), (jgv.DOWN, "down"), (jgv.LEFT, "left")):
+        print(f"neighbour: P0, {word} -> {code_name(jgv.neighbour(0, 0, name_code('P0'), direction))}")
+
+
+def write_text(names):
+    """The text of rising cells; shows its bytes."""
+    text = jgv.coverage_write(0, 0, map(name_code, names))
+    print(f"coverage_write: {' '.join(names)} -> {text.hex(' ').upper()}")
+    return text
+
+
+def coverage():
+    """A coverage text is a heading of seven bytes, with the version and n and s, and the whole cells as a tree of digits."""
+    write_text(["O", "P0", "P1", "P2", "P3", "P4", "P5", "P6", "P7", "P8"])  # nine whole siblings become their parent
+    text = write_text(["P3", "P41"])
+    check = jgv.coverage_check(text)
+    print(f"coverage_check: P(34(1)) -> {check.cells} whole cells, size {check.size}")
+    print("coverage_list: P(34(1)) ->", *map(code_name, jgv.coverage_list(text)))
+    for name in ("P3", "P41", "P418", "P4"):  # P4 is covered in part only: no
+        covered = jgv.coverage_ask(0, 0, text, name_code(name))
+        print(f"coverage_ask: P(34(1)), {name} -> {'yes' if covered else 'no'}")
+
+    # A text that is not of the grammar is refused with 9; `place` says how much of it some good text begins with.
+    for body in ("O()", "O(012345678)"):
+        try:
+            print(f"coverage_check: {body} -> {jgv.coverage_check(b'CVR' + bytes([0, 1]) + b'00' + body.encode())}")
+        except jgv.Refused as refused:
+            print(f"coverage_check: {body} -> refused with {refused.number} at place {refused.place}")
+
+
+if __name__ == "__main__":
+    for part in (codes_and_names, families, shapes, plane, ground, neighbours, coverage):
+        part()
