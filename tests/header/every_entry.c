@@ -1,0 +1,695 @@
+/* Calls every entry through the header alone, with good and with refused input, and checks every field of the answers and what lent
+ * memory holds afterwards. What is expected comes from the scope paper ("01"), never from what the library answers.
+ * Each number that an entry takes is also given one that 32 bits don't hold, which a narrower declaration would change. */
+#include "jeguarivo.h"
+
+#include <inttypes.h>
+#include <stdio.h>
+#include <string.h>
+
+/* The layout of the answers: the refusal first, each field of eight bytes, in the order of the header. */
+#ifdef __cplusplus
+#define ASSERT(test) static_assert(test, #test)
+#else
+#define ASSERT(test) _Static_assert(test, #test)
+#endif
+#define KIND(type, field) __typeof__(((type *)0)->field)
+#define FIELD(type, field, offset) ASSERT(offsetof(type, field) == (offset) && sizeof(((type *)0)->field) == 8)
+#define UNSIGNED(type, field, offset) FIELD(type, field, offset); ASSERT((KIND(type, field))-1 > 0)
+#define SIGNED(type, field, offset) FIELD(type, field, offset); ASSERT(!((KIND(type, field))-1 > 0))
+#define ANSWER(type, size) ASSERT(sizeof(type) == (size)); UNSIGNED(type, refusal, 0)
+
+ANSWER(jgv_code, 16); UNSIGNED(jgv_code, code, 8);
+ANSWER(jgv_cell, 40); UNSIGNED(jgv_cell, face, 8); UNSIGNED(jgv_cell, resolution, 16);
+UNSIGNED(jgv_cell, row, 24); UNSIGNED(jgv_cell, column, 32);
+ANSWER(jgv_length, 16); UNSIGNED(jgv_length, length, 8);
+ANSWER(jgv_size_answer, 16); UNSIGNED(jgv_size_answer, size, 8);
+ANSWER(jgv_shape_answer, 16); UNSIGNED(jgv_shape_answer, shape, 8);
+ANSWER(jgv_count, 16); UNSIGNED(jgv_count, count, 8);
+ANSWER(jgv_square_answer, 32); SIGNED(jgv_square_answer, left, 8); SIGNED(jgv_square_answer, top, 16); SIGNED(jgv_square_answer, side, 24);
+ANSWER(jgv_point, 24); SIGNED(jgv_point, x, 8); SIGNED(jgv_point, y, 16);
+ANSWER(jgv_vertices_answer, 72); SIGNED(jgv_vertices_answer, x[0], 8); SIGNED(jgv_vertices_answer, x[3], 32);
+SIGNED(jgv_vertices_answer, y[0], 40); SIGNED(jgv_vertices_answer, y[3], 64);
+ANSWER(jgv_fix, 24); SIGNED(jgv_fix, longitude, 8); SIGNED(jgv_fix, z, 16);
+ANSWER(jgv_check, 32); UNSIGNED(jgv_check, place, 8); UNSIGNED(jgv_check, cells, 16); UNSIGNED(jgv_check, size, 24);
+ANSWER(jgv_list, 24); UNSIGNED(jgv_list, place, 8); UNSIGNED(jgv_list, count, 16);
+ANSWER(jgv_ask, 24); UNSIGNED(jgv_ask, place, 8); UNSIGNED(jgv_ask, covered, 16);
+
+/* Counting checks. */
+static unsigned long passed, failed;
+
+static void check(uint64_t got, uint64_t want, const char *what, int line) {
+    if (got == want) {
+        passed++;
+    } else {
+        failed++;
+        printf("every_entry.c:%d: %s is %" PRId64 ", not %" PRId64 "\n", line, what, (int64_t)got, (int64_t)want);
+    }
+}
+
+#define CHECK(got, want, what) check((uint64_t)(got), (uint64_t)(want), what, __LINE__)
+#define CHECK_ONE(type, field, call, want_refusal, want)                      \
+    do {                                                                      \
+        type got = (call);                                                    \
+        CHECK(got.refusal, want_refusal, #call ": refusal");                  \
+        CHECK(got.field, want, #call ": " #field);                            \
+    } while (0)
+#define CODE(call, want) CHECK_ONE(jgv_code, code, call, 0, want)
+#define NO_CODE(call, number) CHECK_ONE(jgv_code, code, call, number, 0)
+
+/* What 01 says of numbers. */
+#define NINE_15 UINT64_C(205891132094649)
+#define NINE_14 UINT64_C(22876792454961)
+#define NINE_13 UINT64_C(2541865828329)
+#define GREATEST UINT64_C(19765548681086303)
+#define SIDE INT64_C(28697814) /* M, of a face */
+#define ONE INT64_C(1000000000000000000) /* z at the north pole */
+#define WIDE (UINT64_C(1) << 32)
+static const uint64_t no_code = GREATEST + 1;
+
+/* 01: "(face x 9^15 + path x 9^(15-k)) x 16 + k, where path is the digits read in base nine". */
+static uint64_t code(const char *name) {
+    uint64_t k = strlen(name) - 1, path = 0;
+    for (uint64_t i = 1; i <= 15; i++)
+        path = 9 * path + (i <= k ? (uint64_t)(name[i] - '0') : 0);
+    return ((uint64_t)(name[0] - 'N') * NINE_15 + path) * 16 + k;
+}
+
+/* Lent memory: guards before and after, all filled with a byte that no name and no text has. */
+enum { GUARD = 16, ROOM = 64, FILL = 0xA5 };
+static uint8_t lent[GUARD + ROOM + GUARD];
+static uint64_t lent_codes[GUARD + ROOM + GUARD];
+
+static uint8_t *lend(void) {
+    memset(lent, FILL, sizeof lent);
+    return lent + GUARD;
+}
+
+static uint64_t *lend_codes(void) {
+    memset(lent_codes, FILL, sizeof lent_codes);
+    return lent_codes + GUARD;
+}
+
+/* How many filled bytes from the first to the last but one have changed. */
+static size_t changes(const void *first, const void *last) {
+    size_t count = 0;
+    for (const uint8_t *at = (const uint8_t *)first; at < (const uint8_t *)last; at++)
+        count += *at != FILL;
+    return count;
+}
+
+/* How many lent bytes have changed that are not of the answer's own length. */
+static size_t strays(size_t length) {
+    return changes(lent, lent + GUARD) + changes(lent + GUARD + length, lent + sizeof lent);
+}
+
+static size_t code_strays(size_t count) {
+    return changes(lent_codes, lent_codes + GUARD) + changes(lent_codes + GUARD + count, lent_codes + GUARD + ROOM + GUARD);
+}
+
+static void cell_code(void) {
+    CODE(jgv_cell_code(0, 0, 0, 0), 0);
+    CODE(jgv_cell_code(0, 1, 0, 0), 1);
+    CODE(jgv_cell_code(0, 1, 0, 1), UINT64_C(366028679279377));
+    CODE(jgv_cell_code(1, 0, 0, 0), UINT64_C(3294258113514384));
+    CODE(jgv_cell_code(5, 15, 14348906, 14348906), GREATEST);
+    CODE(jgv_cell_code(2, 2, 3, 4), code("P41")); /* rows 1 0 and columns 1 1 in base three: digits 4 and 1 */
+    NO_CODE(jgv_cell_code(6, 0, 0, 0), 1);
+    NO_CODE(jgv_cell_code(256, 0, 0, 0), 1);
+    NO_CODE(jgv_cell_code(WIDE, 0, 0, 0), 1);
+    NO_CODE(jgv_cell_code(0, 16, 0, 0), 2);
+    NO_CODE(jgv_cell_code(0, WIDE, 0, 0), 2);
+    NO_CODE(jgv_cell_code(0, 1, 3, 0), 3);
+    NO_CODE(jgv_cell_code(0, 1, 0, 3), 3);
+    NO_CODE(jgv_cell_code(0, 15, 14348907, 0), 3);
+    NO_CODE(jgv_cell_code(0, 1, WIDE, 0), 3);
+    NO_CODE(jgv_cell_code(0, 1, 0, WIDE), 3);
+    NO_CODE(jgv_cell_code(6, 16, 3, 3), 2); /* the order is 2, 1, 3 */
+    NO_CODE(jgv_cell_code(6, 1, 3, 3), 1);
+    NO_CODE(jgv_cell_code(UINT64_MAX, UINT64_MAX, UINT64_MAX, UINT64_MAX), 2);
+}
+
+#define CELL(call, want_refusal, want_face, want_resolution, want_row, want_column) \
+    do {                                                                            \
+        jgv_cell got = (call);                                                      \
+        CHECK(got.refusal, want_refusal, #call ": refusal");                        \
+        CHECK(got.face, want_face, #call ": face");                                 \
+        CHECK(got.resolution, want_resolution, #call ": resolution");               \
+        CHECK(got.row, want_row, #call ": row");                                    \
+        CHECK(got.column, want_column, #call ": column");                           \
+    } while (0)
+
+static void code_cell(void) {
+    CELL(jgv_code_cell(0), 0, 0, 0, 0, 0);
+    CELL(jgv_code_cell(1), 0, 0, 1, 0, 0);
+    CELL(jgv_code_cell(UINT64_C(366028679279377)), 0, 0, 1, 0, 1);
+    CELL(jgv_code_cell(UINT64_C(3294258113514384)), 0, 1, 0, 0, 0);
+    CELL(jgv_code_cell(code("P41")), 0, 2, 2, 3, 4);
+    CELL(jgv_code_cell(GREATEST), 0, 5, 15, 14348906, 14348906);
+    CELL(jgv_code_cell(no_code), 4, 0, 0, 0, 0);
+    CELL(jgv_code_cell(16), 4, 0, 0, 0, 0);
+    CELL(jgv_code_cell(code("O") + WIDE), 4, 0, 0, 0, 0);
+    CELL(jgv_code_cell(UINT64_MAX), 4, 0, 0, 0, 0);
+}
+
+static jgv_code named(const char *name) {
+    memcpy(lend(), name, strlen(name));
+    jgv_code answer = jgv_name_code(lent + GUARD, strlen(name));
+    CHECK(memcmp(lent + GUARD, name, strlen(name)), 0, "jgv_name_code: the name afterwards");
+    CHECK(strays(strlen(name)), 0, "jgv_name_code: bytes about the name");
+    return answer;
+}
+
+static void name_code(void) {
+    CODE(named("N"), 0);
+    CODE(named("N0"), 1);
+    CODE(named("N1"), UINT64_C(366028679279377));
+    CODE(named("O"), UINT64_C(3294258113514384));
+    CODE(named("P41"), code("P41"));
+    CODE(named("S888888888888888"), GREATEST);
+    NO_CODE(named(""), 1);
+    NO_CODE(named("M"), 1);
+    NO_CODE(named("T"), 1);
+    NO_CODE(named("n1"), 1);
+    NO_CODE(named("X9"), 1);
+    NO_CODE(named("N9"), 3);
+    NO_CODE(named("N/"), 3);
+    NO_CODE(named("S88888888888888O"), 3);
+    NO_CODE(named("S0000000000000000"), 2);
+    NO_CODE(named("X0000000000000009"), 2);
+    NO_CODE(jgv_name_code((const uint8_t *)"N\0", 2), 3);
+    NO_CODE(jgv_name_code((const uint8_t *)"N", 0), 1);
+    NO_CODE(jgv_name_code(NULL, 0), 1);
+}
+
+static void written_name(uint64_t of, const char *name, size_t room) {
+    jgv_length got = jgv_code_name(of, lend(), room);
+    CHECK(got.refusal, 0, "jgv_code_name: refusal");
+    CHECK(got.length, strlen(name), "jgv_code_name: length");
+    CHECK(memcmp(lent + GUARD, name, strlen(name)), 0, "jgv_code_name: the name");
+    CHECK(strays(strlen(name)), 0, "jgv_code_name: bytes about the name");
+}
+
+static void no_name(uint64_t of, size_t room, uint64_t refusal) {
+    jgv_length got = jgv_code_name(of, lend(), room);
+    CHECK(got.refusal, refusal, "jgv_code_name: refusal");
+    CHECK(got.length, 0, "jgv_code_name: length");
+    CHECK(strays(0), 0, "jgv_code_name: lent bytes");
+}
+
+static void code_name(void) {
+    static const char *const names[] = {"N", "N0", "N1", "O", "P41", "Q333333333333333", "S888888888888888"};
+    for (size_t i = 0; i < sizeof names / sizeof *names; i++) {
+        written_name(code(names[i]), names[i], strlen(names[i]));
+        written_name(code(names[i]), names[i], ROOM);
+        no_name(code(names[i]), strlen(names[i]) - 1, 8);
+    }
+    no_name(no_code, 16, 4);
+    no_name(no_code, 0, 4); /* the order is 4, 8 */
+    no_name(UINT64_MAX, ROOM, 4);
+    no_name(code("O") + WIDE, ROOM, 4);
+    CHECK_ONE(jgv_length, length, jgv_code_name(0, NULL, 0), 8, 0);
+}
+
+static void families(void) {
+    CODE(jgv_parent(code("N1")), 0);
+    CODE(jgv_parent(code("P41")), code("P4"));
+    CODE(jgv_parent(GREATEST), code("S88888888888888"));
+    NO_CODE(jgv_parent(code("O")), 12);
+    NO_CODE(jgv_parent(no_code), 4);
+    NO_CODE(jgv_parent(code("O1") + WIDE), 4);
+    CODE(jgv_child(0, 0), 1);
+    CODE(jgv_child(0, 1), UINT64_C(366028679279377));
+    CODE(jgv_child(code("P4"), 1), code("P41"));
+    CODE(jgv_child(code("S88888888888888"), 8), GREATEST);
+    NO_CODE(jgv_child(0, 9), 3);
+    NO_CODE(jgv_child(0, WIDE), 3);
+    NO_CODE(jgv_child(no_code, 0), 4);
+    NO_CODE(jgv_child(code("O") + WIDE, 0), 4);
+    NO_CODE(jgv_child(GREATEST, 0), 12);
+    NO_CODE(jgv_child(no_code, 9), 3); /* the order is 3, 4, 12 */
+    NO_CODE(jgv_child(GREATEST, 9), 3);
+}
+
+#define SIZE(call, want_refusal, want) CHECK_ONE(jgv_size_answer, size, call, want_refusal, want)
+#define SHAPE(call, want_refusal, want) CHECK_ONE(jgv_shape_answer, shape, call, want_refusal, want)
+#define COUNT(call, want_refusal, want) CHECK_ONE(jgv_count, count, call, want_refusal, want)
+
+static void shapes(void) {
+    SIZE(jgv_size(0), 0, NINE_15);
+    SIZE(jgv_size(code("N1")), 0, NINE_14);
+    SIZE(jgv_size(code("P41")), 0, NINE_13);
+    SIZE(jgv_size(GREATEST), 0, 1);
+    SIZE(jgv_size(no_code), 4, 0);
+    SIZE(jgv_size(code("O") + WIDE), 4, 0);
+    SHAPE(jgv_shape(code("P0")), 0, 0);
+    SHAPE(jgv_shape(code("N")), 0, 1);
+    SHAPE(jgv_shape(code("S444")), 0, 1);
+    SHAPE(jgv_shape(code("N0")), 0, 2);
+    SHAPE(jgv_shape(code("S42")), 0, 2);
+    SHAPE(jgv_shape(code("N1")), 0, 3);
+    SHAPE(jgv_shape(code("S45")), 0, 3);
+    SHAPE(jgv_shape(no_code), 4, 0);
+    SHAPE(jgv_shape(code("N1") + WIDE), 4, 0);
+    COUNT(jgv_corner_count(code("P0")), 0, 4);
+    COUNT(jgv_corner_count(code("N4")), 0, 4);
+    COUNT(jgv_corner_count(code("N0")), 0, 3);
+    COUNT(jgv_corner_count(code("S1")), 0, 4);
+    COUNT(jgv_corner_count(no_code), 4, 0);
+    COUNT(jgv_corner_count(code("N0") + WIDE), 4, 0);
+}
+
+#define SQUARE(call, want_refusal, want_left, want_top, want_side) \
+    do {                                                           \
+        jgv_square_answer got = (call);                            \
+        CHECK(got.refusal, want_refusal, #call ": refusal");       \
+        CHECK(got.left, want_left, #call ": left");                \
+        CHECK(got.top, want_top, #call ": top");                   \
+        CHECK(got.side, want_side, #call ": side");                \
+    } while (0)
+#define POINT(call, want_refusal, want_x, want_y)            \
+    do {                                                     \
+        jgv_point got = (call);                              \
+        CHECK(got.refusal, want_refusal, #call ": refusal"); \
+        CHECK(got.x, want_x, #call ": x");                   \
+        CHECK(got.y, want_y, #call ": y");                   \
+    } while (0)
+
+/* Half a side is 14,348,907 units, a third 9,565,938, a sixth 4,782,969. */
+static void squares(void) {
+    SQUARE(jgv_square(0, 0, code("O")), 0, 0, 14348907, SIDE);
+    SQUARE(jgv_square(0, 0, code("P0")), 0, 28697814, 14348907, 9565938);
+    SQUARE(jgv_square(0, 0, code("N")), 0, 0, 43046721, SIDE);
+    SQUARE(jgv_square(3, 0, code("N")), 0, 86093442, 43046721, SIDE);
+    SQUARE(jgv_square(0, 2, code("S")), 0, 57395628, -14348907, SIDE);
+    SQUARE(jgv_square(0, 0, GREATEST), 0, SIDE - 2, -43046719, 2);
+    SQUARE(jgv_square(4, 0, code("O")), 5, 0, 0, 0);
+    SQUARE(jgv_square(0, 4, code("O")), 5, 0, 0, 0);
+    SQUARE(jgv_square(WIDE, 0, code("O")), 5, 0, 0, 0);
+    SQUARE(jgv_square(0, WIDE, code("O")), 5, 0, 0, 0);
+    SQUARE(jgv_square(0, 0, no_code), 4, 0, 0, 0);
+    SQUARE(jgv_square(0, 0, code("O") + WIDE), 4, 0, 0, 0);
+    SQUARE(jgv_square(4, 0, no_code), 5, 0, 0, 0);
+    POINT(jgv_nucleus(0, 0, code("O")), 0, 14348907, 0);
+    POINT(jgv_nucleus(0, 0, code("P0")), 0, 33480783, 9565938);
+    POINT(jgv_nucleus(1, 0, code("N4")), 0, 43046721, SIDE);
+    POINT(jgv_nucleus(0, 3, code("S")), 0, 100442349, -SIDE);
+    POINT(jgv_nucleus(4, 0, code("O")), 5, 0, 0);
+    POINT(jgv_nucleus(WIDE, 0, code("O")), 5, 0, 0);
+    POINT(jgv_nucleus(0, WIDE, code("O")), 5, 0, 0);
+    POINT(jgv_nucleus(0, 0, no_code), 4, 0, 0);
+    POINT(jgv_nucleus(0, 0, code("O") + WIDE), 4, 0, 0);
+    POINT(jgv_nucleus(0, 4, no_code), 5, 0, 0);
+}
+
+static void corners(uint64_t n, uint64_t s, uint64_t of, int64_t left, int64_t top, int64_t side) {
+    jgv_vertices_answer got = jgv_vertices(n, s, of);
+    CHECK(got.refusal, 0, "jgv_vertices: refusal");
+    CHECK(got.x[0], left, "jgv_vertices: top left x");
+    CHECK(got.y[0], top, "jgv_vertices: top left y");
+    CHECK(got.x[1], left + side, "jgv_vertices: top right x");
+    CHECK(got.y[1], top, "jgv_vertices: top right y");
+    CHECK(got.x[2], left + side, "jgv_vertices: bottom right x");
+    CHECK(got.y[2], top - side, "jgv_vertices: bottom right y");
+    CHECK(got.x[3], left, "jgv_vertices: bottom left x");
+    CHECK(got.y[3], top - side, "jgv_vertices: bottom left y");
+}
+
+static void no_corners(jgv_vertices_answer got, uint64_t refusal) {
+    CHECK(got.refusal, refusal, "jgv_vertices: refusal");
+    for (size_t i = 0; i < 4; i++) {
+        CHECK(got.x[i], 0, "jgv_vertices: x of a refusal");
+        CHECK(got.y[i], 0, "jgv_vertices: y of a refusal");
+    }
+}
+
+static void vertices(void) {
+    corners(0, 0, code("P0"), 28697814, 14348907, 9565938);
+    corners(3, 0, code("N"), 86093442, 43046721, SIDE);
+    corners(0, 2, code("S"), 57395628, -14348907, SIDE);
+    no_corners(jgv_vertices(4, 0, code("O")), 5);
+    no_corners(jgv_vertices(WIDE, 0, code("O")), 5);
+    no_corners(jgv_vertices(0, WIDE, code("O")), 5);
+    no_corners(jgv_vertices(0, 0, no_code), 4);
+    no_corners(jgv_vertices(0, 0, code("O") + WIDE), 4);
+    no_corners(jgv_vertices(0, 4, no_code), 5);
+}
+
+static void point_code(void) {
+    const int64_t half = 14348907;
+    CODE(jgv_point_code(0, 0, 1, 33480783, 9565938), code("P0"));
+    CODE(jgv_point_code(0, 0, 1, SIDE, half), code("P0")); /* the top left corner is owned */
+    CODE(jgv_point_code(0, 0, 1, 38263752, 4782969), code("P4")); /* the bottom right one of P0 is not */
+    CODE(jgv_point_code(0, 0, 1, 0, -half), code("O6")); /* the bottom edge of a face is */
+    CODE(jgv_point_code(0, 0, 1, half, SIDE), code("N4"));
+    CODE(jgv_point_code(2, 0, 1, 2 * SIDE + 1, half + 1), code("N6"));
+    CODE(jgv_point_code(0, 3, 1, 4 * SIDE - 1, -half - 1), code("S2"));
+    CODE(jgv_point_code(0, 0, 15, 0, 0), code("O333333333333333"));
+    NO_CODE(jgv_point_code(0, 0, 0, 4 * SIDE, 0), 7); /* line 12 of the proved table */
+    NO_CODE(jgv_point_code(0, 0, 0, -1, 0), 7);
+    NO_CODE(jgv_point_code(0, 0, 0, 0, half + 1), 7);
+    NO_CODE(jgv_point_code(0, 0, 0, SIDE, half + 1), 7);
+    NO_CODE(jgv_point_code(0, 0, 0, 1, 3 * half), 7);
+    NO_CODE(jgv_point_code(0, 0, 0, 1, -3 * half), 7);
+    NO_CODE(jgv_point_code(0, 0, 0, INT64_C(1) << 32, 0), 7);
+    NO_CODE(jgv_point_code(0, 0, 0, 0, -(INT64_C(1) << 32)), 7);
+    NO_CODE(jgv_point_code(0, 0, 0, INT64_MIN, INT64_MAX), 7);
+    NO_CODE(jgv_point_code(4, 0, 0, 0, 0), 5);
+    NO_CODE(jgv_point_code(WIDE, 0, 0, 0, 0), 5);
+    NO_CODE(jgv_point_code(0, WIDE, 0, 0, 0), 5);
+    NO_CODE(jgv_point_code(0, 0, 16, 0, 0), 2);
+    NO_CODE(jgv_point_code(0, 0, WIDE, 0, 0), 2);
+    NO_CODE(jgv_point_code(0, 4, 16, -1, 0), 5); /* the order is 5, 2, 7 */
+    NO_CODE(jgv_point_code(0, 0, 16, -1, 0), 2);
+}
+
+/* Lines 1 to 8 of the proved table; then other arrangements, and positions a hair from an edge. */
+static void fix_code(void) {
+    CODE(jgv_fix_code(0, 0, 2, 0, 0), code("Q33"));
+    CODE(jgv_fix_code(0, 0, 1, 0, ONE), code("N4"));
+    CODE(jgv_fix_code(0, 0, 1, -1350000000, 666666666666666666), code("O1"));
+    CODE(jgv_fix_code(0, 0, 1, -1350000000, 666666666666666667), code("N7"));
+    CODE(jgv_fix_code(0, 0, 1, -900000000, 880000000000000000), code("N8"));
+    CODE(jgv_fix_code(1, 0, 1, -900000000, 880000000000000000), code("N6"));
+    CODE(jgv_fix_code(0, 0, 1, -900000000, -880000000000000000), code("S2"));
+    CODE(jgv_fix_code(0, 0, 2, -1350000000, 970000000000000000), code("N47"));
+    CODE(jgv_fix_code(2, 0, 1, -900000000, 880000000000000000), code("N0"));
+    CODE(jgv_fix_code(0, 1, 1, -900000000, -880000000000000000), code("S0"));
+    CODE(jgv_fix_code(0, 3, 1, -900000000, -880000000000000000), code("S8"));
+    CODE(jgv_fix_code(0, 0, 1, -1350000000, 962962962962962962), code("N7"));
+    CODE(jgv_fix_code(0, 0, 1, -1350000000, 962962962962962963), code("N4"));
+    CODE(jgv_fix_code(0, 0, 1, -1350000000, -962962962962962962), code("S1"));
+    CODE(jgv_fix_code(0, 0, 1, -1350000000, -962962962962962963), code("S4"));
+}
+
+static void no_fix_code(void) {
+    NO_CODE(jgv_fix_code(0, 0, 0, 1800000000, 0), 6);
+    NO_CODE(jgv_fix_code(0, 0, 0, -1800000001, 0), 6);
+    NO_CODE(jgv_fix_code(0, 0, 0, 0, ONE + 1), 6);
+    NO_CODE(jgv_fix_code(0, 0, 0, 0, -ONE - 1), 6);
+    NO_CODE(jgv_fix_code(0, 0, 0, INT64_C(1) << 32, 0), 6);
+    NO_CODE(jgv_fix_code(0, 0, 0, INT64_MIN, INT64_MIN), 6);
+    NO_CODE(jgv_fix_code(4, 0, 0, 0, 0), 5);
+    NO_CODE(jgv_fix_code(WIDE, 0, 0, 0, 0), 5);
+    NO_CODE(jgv_fix_code(0, WIDE, 0, 0, 0), 5);
+    NO_CODE(jgv_fix_code(0, 0, 16, 0, 0), 2);
+    NO_CODE(jgv_fix_code(0, 0, WIDE, 0, 0), 2);
+    NO_CODE(jgv_fix_code(0, 4, 16, INT64_MAX, 0), 5); /* the order is 5, 2, 6 */
+    NO_CODE(jgv_fix_code(0, 0, 16, INT64_MAX, 0), 2);
+}
+
+#define GROUND(call, want_refusal, want_longitude, want_z)   \
+    do {                                                     \
+        jgv_fix got = (call);                                \
+        CHECK(got.refusal, want_refusal, #call ": refusal"); \
+        CHECK(got.longitude, want_longitude, #call ": longitude"); \
+        CHECK(got.z, want_z, #call ": z");                   \
+    } while (0)
+
+/* In the belt z is (2m - 4i - 2)/(3m); the middles of the outer cells of a cap at resolution 1 have h = 2/3, z = 23/27. All floored. */
+static void ground_nucleus(void) {
+    GROUND(jgv_ground_nucleus(0, 0, code("Q")), 0, 450000000, 0);
+    GROUND(jgv_ground_nucleus(0, 0, code("P0")), 0, -750000000, 444444444444444444);
+    GROUND(jgv_ground_nucleus(0, 0, code("P6")), 0, -750000000, -444444444444444445);
+    GROUND(jgv_ground_nucleus(0, 0, code("O000")), 0, -1783333334, 641975308641975308);
+    GROUND(jgv_ground_nucleus(0, 0, code("N")), 0, -1800000000, ONE);
+    GROUND(jgv_ground_nucleus(2, 1, code("N4")), 0, -1800000000, ONE);
+    GROUND(jgv_ground_nucleus(1, 2, code("S44")), 0, -1800000000, -ONE);
+    GROUND(jgv_ground_nucleus(0, 0, code("N7")), 0, -1350000000, 851851851851851851);
+    GROUND(jgv_ground_nucleus(0, 0, code("S1")), 0, -1350000000, -851851851851851852);
+    GROUND(jgv_ground_nucleus(0, 0, code("N8")), 0, -900000000, 851851851851851851); /* on the seam of O and P: the edge of P */
+    GROUND(jgv_ground_nucleus(1, 0, code("N8")), 0, 0, 851851851851851851);
+    GROUND(jgv_ground_nucleus(0, 0, code("S2")), 0, -900000000, -851851851851851852);
+    GROUND(jgv_ground_nucleus(4, 0, code("O")), 5, 0, 0);
+    GROUND(jgv_ground_nucleus(WIDE, 0, code("O")), 5, 0, 0);
+    GROUND(jgv_ground_nucleus(0, WIDE, code("O")), 5, 0, 0);
+    GROUND(jgv_ground_nucleus(0, 0, no_code), 4, 0, 0);
+    GROUND(jgv_ground_nucleus(0, 0, code("O") + WIDE), 4, 0, 0);
+    GROUND(jgv_ground_nucleus(0, 4, no_code), 5, 0, 0);
+}
+
+static void about(uint64_t n, uint64_t s, const char *name, const char *const *names) {
+    for (uint64_t direction = 0; direction < 4; direction++)
+        CODE(jgv_neighbour(n, s, code(name), direction), code(names[direction]));
+}
+
+static void neighbour(void) {
+    static const char *const p0[] = {"N8", "P1", "P3", "O2"}; /* line 9 of the proved table */
+    static const char *const p0_turned[] = {"N6", "P1", "P3", "O2"};
+    static const char *const p6[] = {"P3", "P7", "S2", "O8"};
+    static const char *const n0[] = {"Q2", "N1", "N3", "R0"};
+    static const char *const s8[] = {"S5", "P8", "Q6", "S7"};
+    static const char *const r5[] = {"R2", "O3", "R8", "R4"};
+    about(0, 0, "P0", p0);
+    about(1, 0, "P0", p0_turned);
+    about(0, 0, "P6", p6);
+    about(0, 0, "N0", n0);
+    about(0, 0, "S8", s8);
+    about(3, 2, "R5", r5);
+    NO_CODE(jgv_neighbour(0, 0, code("P0"), 4), 3);
+    NO_CODE(jgv_neighbour(0, 0, code("P0"), WIDE), 3);
+    NO_CODE(jgv_neighbour(4, 0, code("P0"), 0), 5);
+    NO_CODE(jgv_neighbour(WIDE, 0, code("P0"), 0), 5);
+    NO_CODE(jgv_neighbour(0, WIDE, code("P0"), 0), 5);
+    NO_CODE(jgv_neighbour(0, 0, no_code, 0), 4);
+    NO_CODE(jgv_neighbour(0, 0, code("P0") + WIDE, 0), 4);
+    NO_CODE(jgv_neighbour(0, 4, no_code, 4), 5); /* the order is 5, 3, 4 */
+    NO_CODE(jgv_neighbour(0, 0, no_code, 4), 3);
+}
+
+/* Coverage texts. HEAD is the heading of version 1 and (0, 0). */
+#define HEAD "CVR\0\1" "00"
+#define TEXT(literal) (const uint8_t *)(literal), sizeof(literal) - 1
+#define DEEP_14 "(0(0(0(0(0(0(0(0(0(0(0(0(0(0" /* fourteen lists, each within the one before */
+enum { LONGEST = 65536, MANY = 40000, TOO_MANY = 50000 };
+static uint8_t long_text[GUARD + LONGEST + 1 + GUARD];
+static uint64_t many[TOO_MANY], listed[TOO_MANY];
+
+/* Checks a copy of the text between guards; the copy has to stay as it is. */
+static jgv_check checked(const uint8_t *text, size_t length) {
+    memcpy(lend(), text, length);
+    jgv_check got = jgv_coverage_check(lent + GUARD, length);
+    CHECK(memcmp(lent + GUARD, text, length), 0, "jgv_coverage_check: the text afterwards");
+    CHECK(strays(length), 0, "jgv_coverage_check: bytes about the text");
+    return got;
+}
+
+#define TEXT_ANSWER(call, want_refusal, want_place, want_cells, want_size) \
+    do {                                                                   \
+        jgv_check got = (call);                                            \
+        CHECK(got.refusal, want_refusal, #call ": refusal");               \
+        CHECK(got.place, want_place, #call ": place");                     \
+        CHECK(got.cells, want_cells, #call ": cells");                     \
+        CHECK(got.size, want_size, #call ": size");                        \
+    } while (0)
+
+static void coverage_check(void) {
+    TEXT_ANSWER(checked(TEXT(HEAD)), 0, 0, 0, 0);
+    TEXT_ANSWER(checked(TEXT(HEAD "OP")), 0, 0, 2, 2 * NINE_15);
+    TEXT_ANSWER(checked(TEXT(HEAD "P(34(1))")), 0, 0, 2, UINT64_C(25418658283290));
+    TEXT_ANSWER(checked(TEXT("CVR\0\1" "32" "NOPQRS")), 0, 0, 6, 6 * NINE_15);
+    TEXT_ANSWER(checked(TEXT(HEAD "O(012345678(0))")), 0, 0, 9, 8 * NINE_14 + NINE_13);
+    TEXT_ANSWER(checked(TEXT(HEAD "N" DEEP_14 "(0" ")))))))))))))))")), 0, 0, 1, 1);
+    TEXT_ANSWER(checked(TEXT(HEAD "O()")), 9, 9, 0, 0); /* line 10 of the proved table */
+    TEXT_ANSWER(checked(TEXT(HEAD "O(012345678)")), 9, 18, 0, 0); /* line 11 */
+    TEXT_ANSWER(checked(TEXT(HEAD "O(012345678")), 9, 18, 0, 0); /* cut: its whole length */
+    TEXT_ANSWER(checked(TEXT(HEAD "N" DEEP_14 "(012345678")), 9, 45, 0, 0); /* at depth 15 the last 8 can't stand */
+    TEXT_ANSWER(checked(TEXT(HEAD "N" DEEP_14 "(0(")), 9, 38, 0, 0);
+    TEXT_ANSWER(checked(TEXT(HEAD "PO")), 9, 8, 0, 0);
+    TEXT_ANSWER(checked(TEXT(HEAD "P(33)")), 9, 10, 0, 0);
+    TEXT_ANSWER(checked(TEXT("")), 9, 0, 0, 0);
+    TEXT_ANSWER(checked(TEXT("CVR\1")), 9, 3, 0, 0);
+    TEXT_ANSWER(checked(TEXT("CVR\0")), 9, 4, 0, 0);
+    TEXT_ANSWER(checked(TEXT("CVX\0\2")), 9, 2, 0, 0);
+    TEXT_ANSWER(checked(TEXT("CVR\0\1" "40")), 9, 5, 0, 0);
+    TEXT_ANSWER(checked(TEXT("CVR\0\1" "04")), 9, 6, 0, 0);
+    TEXT_ANSWER(checked(TEXT("CVR\1\1")), 10, 0, 0, 0);
+    TEXT_ANSWER(checked(TEXT("CVR\0\2" "00O()")), 10, 0, 0, 0);
+    TEXT_ANSWER(jgv_coverage_check(NULL, 0), 9, 0, 0, 0);
+    TEXT_ANSWER(jgv_coverage_check(long_text, LONGEST), 9, 0, 0, 0); /* zeros */
+    TEXT_ANSWER(jgv_coverage_check(long_text, LONGEST + 1), 13, 0, 0, 0);
+}
+
+/* Lists the text into lent codes and checks the answer, the codes and their guards. */
+static void lists(const uint8_t *text, size_t length, size_t room, const char *const *names, size_t count) {
+    memcpy(lend(), text, length);
+    jgv_list got = jgv_coverage_list(lent + GUARD, length, lend_codes(), room);
+    CHECK(got.refusal, 0, "jgv_coverage_list: refusal");
+    CHECK(got.place, 0, "jgv_coverage_list: place");
+    CHECK(got.count, count, "jgv_coverage_list: count");
+    for (size_t i = 0; i < count; i++)
+        CHECK(lent_codes[GUARD + i], code(names[i]), "jgv_coverage_list: a code");
+    CHECK(code_strays(count), 0, "jgv_coverage_list: bytes about the codes");
+    CHECK(memcmp(lent + GUARD, text, length), 0, "jgv_coverage_list: the text afterwards");
+    CHECK(strays(length), 0, "jgv_coverage_list: bytes about the text");
+}
+
+static void lists_nothing(const uint8_t *text, size_t length, size_t room, uint64_t refusal, uint64_t place) {
+    jgv_list got = jgv_coverage_list(text, length, lend_codes(), room);
+    CHECK(got.refusal, refusal, "jgv_coverage_list: refusal");
+    CHECK(got.place, place, "jgv_coverage_list: place");
+    CHECK(got.count, 0, "jgv_coverage_list: count");
+    CHECK(code_strays(0), 0, "jgv_coverage_list: lent codes");
+}
+
+static void coverage_list(void) {
+    static const char *const two[] = {"P3", "P41"}, *const faces[] = {"O", "P"}, *const finest[] = {"N000000000000000"};
+    lists(TEXT(HEAD "P(34(1))"), 2, two, 2);
+    lists(TEXT(HEAD "P(34(1))"), ROOM, two, 2);
+    lists(TEXT("CVR\0\1" "32" "OP"), ROOM, faces, 2);
+    lists(TEXT(HEAD "N" DEEP_14 "(0" ")))))))))))))))"), 1, finest, 1);
+    lists(TEXT(HEAD), 0, two, 0);
+    lists_nothing(TEXT(HEAD "P(34(1))"), 1, 8, 0);
+    lists_nothing(TEXT(HEAD "P(34(1))"), 0, 8, 0);
+    lists_nothing(TEXT(HEAD "O()"), ROOM, 9, 9);
+    lists_nothing(TEXT(HEAD "O(012345678)"), 0, 9, 18); /* the order is 13, 10, 9, 8 */
+    lists_nothing(TEXT("CVR\0\2" "00P(34(1))"), 0, 10, 0);
+    lists_nothing(long_text, LONGEST + 1, 0, 13, 0);
+    jgv_list got = jgv_coverage_list(TEXT(HEAD), NULL, 0);
+    CHECK(got.refusal, 0, "jgv_coverage_list to no memory: refusal");
+    CHECK(got.count, 0, "jgv_coverage_list to no memory: count");
+    got = jgv_coverage_list(NULL, 0, lend_codes(), ROOM);
+    CHECK(got.refusal, 9, "jgv_coverage_list of no memory: refusal");
+    CHECK(got.place, 0, "jgv_coverage_list of no memory: place");
+}
+
+/* Fills the lent codes with those of the names and writes their text to the lent bytes; the codes have to stay as they are. */
+static jgv_length writing(uint64_t n, uint64_t s, const char *const *names, size_t count, size_t room) {
+    lend_codes();
+    for (size_t i = 0; i < count; i++)
+        lent_codes[GUARD + i] = strcmp(names[i], "none") ? code(names[i]) : no_code;
+    static uint64_t before[GUARD + ROOM + GUARD];
+    memcpy(before, lent_codes, sizeof before);
+    jgv_length got = jgv_coverage_write(n, s, lent_codes + GUARD, count, lend(), room);
+    CHECK(memcmp(before, lent_codes, sizeof before), 0, "jgv_coverage_write: the codes afterwards");
+    return got;
+}
+
+static void writes(uint64_t n, uint64_t s, const char *const *names, size_t count, const uint8_t *text, size_t length) {
+    for (size_t spare = 0; spare <= 1; spare++) {
+        jgv_length got = writing(n, s, names, count, spare ? (size_t)ROOM : length);
+        CHECK(got.refusal, 0, "jgv_coverage_write: refusal");
+        CHECK(got.length, length, "jgv_coverage_write: length");
+        CHECK(memcmp(lent + GUARD, text, length), 0, "jgv_coverage_write: the text");
+        CHECK(strays(length), 0, "jgv_coverage_write: bytes about the text");
+    }
+}
+
+static void writes_nothing(uint64_t n, uint64_t s, const char *const *names, size_t count, size_t room, uint64_t refusal) {
+    jgv_length got = writing(n, s, names, count, room);
+    CHECK(got.refusal, refusal, "jgv_coverage_write: refusal");
+    CHECK(got.length, 0, "jgv_coverage_write: length");
+    CHECK(strays(0), 0, "jgv_coverage_write: lent bytes");
+}
+
+static void coverage_write(void) {
+    static const char *const whole[] = {"O", "P0", "P1", "P2", "P3", "P4", "P5", "P6", "P7", "P8"};
+    static const char *const two[] = {"P3", "P41"}, *const falling[] = {"P41", "P3"}, *const twice[] = {"P3", "P3"};
+    static const char *const inside[] = {"P4", "P41"}, *const bad[] = {"P3", "none"}, *const bad_falling[] = {"P4", "P3", "none"};
+    writes(0, 0, whole, 10, TEXT("\x43\x56\x52\x00\x01\x30\x30\x4F\x50"));
+    writes(0, 0, two, 2, TEXT(HEAD "P(34(1))"));
+    writes(3, 2, two, 2, TEXT("CVR\0\1" "32" "P(34(1))"));
+    writes(0, 0, two, 0, TEXT(HEAD));
+    writes_nothing(0, 0, two, 2, 14, 8);
+    writes_nothing(0, 0, two, 2, 0, 8);
+    writes_nothing(0, 0, two, 0, 6, 8);
+    writes_nothing(0, 0, falling, 2, ROOM, 11);
+    writes_nothing(0, 0, twice, 2, ROOM, 11);
+    writes_nothing(0, 0, inside, 2, 0, 11); /* the order is 5, 4, 11, 13, 8 */
+    writes_nothing(0, 0, bad, 2, 0, 4);
+    writes_nothing(0, 0, bad_falling, 3, ROOM, 4);
+    writes_nothing(4, 0, bad, 2, ROOM, 5);
+    writes_nothing(0, 4, two, 2, ROOM, 5);
+    const uint64_t wide = code("O") + WIDE;
+    CHECK_ONE(jgv_length, length, jgv_coverage_write(WIDE, 0, &wide, 1, lend(), ROOM), 5, 0);
+    CHECK_ONE(jgv_length, length, jgv_coverage_write(0, WIDE, &wide, 1, lend(), ROOM), 5, 0);
+    CHECK_ONE(jgv_length, length, jgv_coverage_write(0, 0, &wide, 1, lend(), ROOM), 4, 0);
+    CHECK_ONE(jgv_length, length, jgv_coverage_write(0, 0, NULL, 0, lend(), ROOM), 0, 7);
+    CHECK_ONE(jgv_length, length, jgv_coverage_write(0, 0, &many[0], 1, NULL, 0), 8, 0);
+}
+
+#define ASK(call, want_refusal, want_place, want_covered)      \
+    do {                                                       \
+        jgv_ask got = (call);                                  \
+        CHECK(got.refusal, want_refusal, #call ": refusal");   \
+        CHECK(got.place, want_place, #call ": place");         \
+        CHECK(got.covered, want_covered, #call ": covered");   \
+    } while (0)
+
+static jgv_ask asked(uint64_t n, uint64_t s, const uint8_t *text, size_t length, uint64_t of) {
+    memcpy(lend(), text, length);
+    jgv_ask got = jgv_coverage_ask(n, s, lent + GUARD, length, of);
+    CHECK(memcmp(lent + GUARD, text, length), 0, "jgv_coverage_ask: the text afterwards");
+    CHECK(strays(length), 0, "jgv_coverage_ask: bytes about the text");
+    return got;
+}
+
+static void coverage_ask(void) {
+    ASK(asked(0, 0, TEXT(HEAD "P(34(1))"), code("P3")), 0, 0, 1);
+    ASK(asked(0, 0, TEXT(HEAD "P(34(1))"), code("P41")), 0, 0, 1);
+    ASK(asked(0, 0, TEXT(HEAD "P(34(1))"), code("P418")), 0, 0, 1);
+    ASK(asked(0, 0, TEXT(HEAD "P(34(1))"), code("P4")), 0, 0, 0); /* covered in part */
+    ASK(asked(0, 0, TEXT(HEAD "P(34(1))"), code("P")), 0, 0, 0);
+    ASK(asked(0, 0, TEXT(HEAD "P(34(1))"), code("P40")), 0, 0, 0);
+    ASK(asked(0, 0, TEXT(HEAD), 0), 0, 0, 0);
+    ASK(asked(3, 2, TEXT("CVR\0\1" "32" "NS"), GREATEST), 0, 0, 1);
+    ASK(asked(4, 0, TEXT(HEAD "P"), no_code), 5, 0, 0); /* the order is 5, 4, 13, 10, 9, 14 */
+    ASK(asked(WIDE, 0, TEXT(HEAD "P"), code("P")), 5, 0, 0);
+    ASK(asked(0, WIDE, TEXT(HEAD "P"), code("P")), 5, 0, 0);
+    ASK(asked(0, 0, TEXT(HEAD "O()"), no_code), 4, 0, 0);
+    ASK(asked(0, 0, TEXT(HEAD "P"), code("P") + WIDE), 4, 0, 0);
+    ASK(jgv_coverage_ask(0, 0, long_text, LONGEST + 1, no_code), 4, 0, 0);
+    ASK(jgv_coverage_ask(0, 0, long_text, LONGEST + 1, code("P")), 13, 0, 0);
+    ASK(asked(1, 0, TEXT("CVR\0\2" "00P"), code("P")), 10, 0, 0);
+    ASK(asked(1, 0, TEXT(HEAD "O()"), code("P")), 9, 9, 0);
+    ASK(asked(0, 0, TEXT(HEAD "O(012345678)"), code("P")), 9, 18, 0);
+    ASK(asked(1, 0, TEXT(HEAD "P"), code("P")), 14, 0, 0);
+    ASK(asked(0, 1, TEXT(HEAD "P"), code("P")), 14, 0, 0);
+    ASK(jgv_coverage_ask(0, 0, NULL, 0, code("P")), 9, 0, 0);
+}
+
+/* Finest cells of N without the last child of any: nothing merges, each eight take eleven bytes and more, `d(01234567)`. */
+static void long_lists(void) {
+    for (uint64_t i = 0; i < TOO_MANY; i++)
+        many[i] = (i / 8 * 9 + i % 8) * 16 + 15;
+    memset(long_text, FILL, sizeof long_text);
+    uint8_t *text = long_text + GUARD;
+    CHECK_ONE(jgv_length, length, jgv_coverage_write(0, 0, many, TOO_MANY, text, LONGEST + 1), 13, 0);
+    CHECK_ONE(jgv_length, length, jgv_coverage_write(0, 0, many, TOO_MANY, text, 0), 13, 0);
+    CHECK(changes(long_text, long_text + sizeof long_text), 0, "a text too long to write: lent bytes");
+
+    jgv_length written = jgv_coverage_write(0, 0, many, MANY, text, LONGEST);
+    CHECK(written.refusal, 0, "a long text: refusal");
+    CHECK(written.length > MANY / 8 * 11 && written.length <= LONGEST, 1, "a long text: has a likely length");
+    CHECK(changes(long_text, text) + changes(text + written.length, long_text + sizeof long_text), 0, "a long text: bytes about it");
+    TEXT_ANSWER(jgv_coverage_check(text, (size_t)written.length), 0, 0, MANY, MANY);
+    jgv_list list = jgv_coverage_list(text, (size_t)written.length, listed, MANY);
+    CHECK(list.refusal, 0, "a long text listed: refusal");
+    CHECK(list.count, MANY, "a long text listed: count");
+    CHECK(memcmp(listed, many, MANY * sizeof *many), 0, "a long text listed: codes");
+}
+
+int main(void) {
+    cell_code();
+    code_cell();
+    name_code();
+    code_name();
+    families();
+    shapes();
+    squares();
+    vertices();
+    point_code();
+    fix_code();
+    no_fix_code();
+    ground_nucleus();
+    neighbour();
+    coverage_check();
+    coverage_list();
+    coverage_write();
+    coverage_ask();
+    long_lists(); /* last, since it fills `long_text` and `many` */
+    if (failed)
+        printf("%lu checks failed\n", failed);
+    printf("%lu checks passed\n", passed);
+    return failed || !passed;
+}
