@@ -81,10 +81,28 @@ static void shapes(void) {
     }
 }
 
-static void print_square(uint64_t n, const char *name, const char *shown) {
-    jgv_square_answer square = jgv_square(n, 0, code_of(name));
+static void print_square(uint64_t n, uint64_t s, const char *name, const char *shown) {
+    jgv_square_answer square = jgv_square(n, s, code_of(name));
     expect_answer(square.refusal);
     printf("square: %s -> left %" PRId64 ", top %" PRId64 ", side %" PRId64 "\n", shown, square.left, square.top, square.side);
+}
+
+static jgv_point print_nucleus(uint64_t s, const char *name, const char *shown) {
+    jgv_point nucleus = jgv_nucleus(0, s, code_of(name));
+    expect_answer(nucleus.refusal);
+    printf("nucleus: %s -> (%" PRId64 ", %" PRId64 ")\n", shown, nucleus.x, nucleus.y);
+    return nucleus;
+}
+
+/* The corners, owned or not: top left, top right, bottom right, bottom left. */
+static jgv_vertices_answer print_vertices(const char *name) {
+    jgv_vertices_answer corners = jgv_vertices(0, 0, code_of(name));
+    expect_answer(corners.refusal);
+    printf("vertices: %s ->", name);
+    for (size_t i = 0; i < 4; i++)
+        printf(" (%" PRId64 ", %" PRId64 ")", corners.x[i], corners.y[i]);
+    putchar('\n');
+    return corners;
 }
 
 static void print_point(int64_t x, int64_t y) {
@@ -93,19 +111,14 @@ static void print_point(int64_t x, int64_t y) {
 
 /* The plane, in whole units: x runs east from the left edge of O, y up from the equator. N lies above face n, S below face s. */
 static void plane(void) {
-    print_square(0, "N", "N, n 0");
-    print_square(3, "N", "N, n 3");
-    print_square(0, "P0", "P0");
-
-    jgv_point nucleus = jgv_nucleus(0, 0, code_of("P0"));
-    expect_answer(nucleus.refusal);
-    printf("nucleus: P0 -> (%" PRId64 ", %" PRId64 ")\n", nucleus.x, nucleus.y);
-    jgv_vertices_answer corners = jgv_vertices(0, 0, code_of("P0"));
-    expect_answer(corners.refusal);
-    printf("vertices: P0 ->");
-    for (size_t i = 0; i < 4; i++)
-        printf(" (%" PRId64 ", %" PRId64 ")", corners.x[i], corners.y[i]);
-    putchar('\n');
+    print_square(0, 0, "N", "N, n 0");
+    print_square(3, 0, "N", "N, n 3");
+    print_square(0, 2, "S", "S, s 2");
+    print_square(0, 0, "P0", "P0");
+    jgv_point nucleus = print_nucleus(0, "P0", "P0");
+    print_nucleus(2, "S", "S, s 2");
+    jgv_vertices_answer corners = print_vertices("P0");
+    print_vertices("P8");
 
     /* A cell owns its left and top edges: the top left corner of P0 is in P0, the bottom right one in P4. */
     print_point(nucleus.x, nucleus.y);

@@ -74,24 +74,24 @@ class Check(NamedTuple):
     size: int
 
 
-def _struct(name: str, **fields) -> type:
-    """The struct of an answer: `refusal`, then the fields in the header's order."""
-    return type(name, (ctypes.Structure,), {"_fields_": [("refusal", c_uint64), *fields.items()]})
+def _struct(name: str, kind: type, *fields: str) -> type:
+    """The struct of an answer: `refusal`, then fields of one kind, in the header's order."""
+    return type(name, (ctypes.Structure,), {"_fields_": [("refusal", c_uint64), *((field, kind) for field in fields)]})
 
 
-_Code = _struct("jgv_code", code=c_uint64)
-_Cell = _struct("jgv_cell", face=c_uint64, resolution=c_uint64, row=c_uint64, column=c_uint64)
-_Length = _struct("jgv_length", length=c_uint64)
-_Size = _struct("jgv_size_answer", size=c_uint64)
-_Shape = _struct("jgv_shape_answer", shape=c_uint64)
-_Count = _struct("jgv_count", count=c_uint64)
-_Square = _struct("jgv_square_answer", left=c_int64, top=c_int64, side=c_int64)
-_Point = _struct("jgv_point", x=c_int64, y=c_int64)
-_Vertices = _struct("jgv_vertices_answer", x=c_int64 * 4, y=c_int64 * 4)
-_Fix = _struct("jgv_fix", longitude=c_int64, z=c_int64)
-_Check = _struct("jgv_check", place=c_uint64, cells=c_uint64, size=c_uint64)
-_List = _struct("jgv_list", place=c_uint64, count=c_uint64)
-_Ask = _struct("jgv_ask", place=c_uint64, covered=c_uint64)
+_Code = _struct("jgv_code", c_uint64, "code")
+_Cell = _struct("jgv_cell", c_uint64, "face", "resolution", "row", "column")
+_Length = _struct("jgv_length", c_uint64, "length")
+_Size = _struct("jgv_size_answer", c_uint64, "size")
+_Shape = _struct("jgv_shape_answer", c_uint64, "shape")
+_Count = _struct("jgv_count", c_uint64, "count")
+_Square = _struct("jgv_square_answer", c_int64, "left", "top", "side")
+_Point = _struct("jgv_point", c_int64, "x", "y")
+_Vertices = _struct("jgv_vertices_answer", c_int64 * 4, "x", "y")
+_Fix = _struct("jgv_fix", c_int64, "longitude", "z")
+_Check = _struct("jgv_check", c_uint64, "place", "cells", "size")
+_List = _struct("jgv_list", c_uint64, "place", "count")
+_Ask = _struct("jgv_ask", c_uint64, "place", "covered")
 
 
 class _U64:

@@ -39,14 +39,16 @@ def shapes():
 
 def plane():
     """The plane, in whole units: x runs east from the left edge of O, y up from the equator. N lies above face n, S below face s."""
-    for n, name, shown in ((0, "N", "N, n 0"), (3, "N", "N, n 3"), (0, "P0", "P0")):
-        square = jgv.square(n, 0, name_code(name))
+    for n, s, name, shown in ((0, 0, "N", "N, n 0"), (3, 0, "N", "N, n 3"), (0, 2, "S", "S, s 2"), (0, 0, "P0", "P0")):
+        square = jgv.square(n, s, name_code(name))
         print(f"square: {shown} -> left {square.left}, top {square.top}, side {square.side}")
 
-    middle = jgv.nucleus(0, 0, name_code("P0"))
+    middle, south = jgv.nucleus(0, 0, name_code("P0")), jgv.nucleus(0, 2, name_code("S"))
     print(f"nucleus: P0 -> ({middle.x}, {middle.y})")
-    corners = jgv.vertices(0, 0, name_code("P0"))
+    print(f"nucleus: S, s 2 -> ({south.x}, {south.y})")
+    corners = jgv.vertices(0, 0, name_code("P0"))  # owned or not: top left, top right, bottom right, bottom left
     print("vertices: P0 ->", *(f"({x}, {y})" for x, y in corners))
+    print("vertices: P8 ->", *(f"({x}, {y})" for x, y in jgv.vertices(0, 0, name_code("P8"))))
 
     # A cell owns its left and top edges: the top left corner of P0 is in P0, the bottom right one in P4.
     for x, y in (middle, corners[0], corners[2]):

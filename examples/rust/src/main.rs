@@ -54,23 +54,36 @@ fn shapes() -> Answer<()> {
     Ok(())
 }
 
-fn print_square(n: u64, name: &str, shown: &str) -> Answer<()> {
-    let Square { left, top, side, .. } = square(n, 0, code_of(name)?)?;
+fn print_square(n: u64, s: u64, name: &str, shown: &str) -> Answer<()> {
+    let Square { left, top, side, .. } = square(n, s, code_of(name)?)?;
     println!("square: {shown} -> left {left}, top {top}, side {side}");
     Ok(())
 }
 
+fn print_nucleus(s: u64, name: &str, shown: &str) -> Answer<Point> {
+    let middle = nucleus(0, s, code_of(name)?)?;
+    println!("nucleus: {shown} -> ({}, {})", middle.x, middle.y);
+    Ok(middle)
+}
+
+/// The corners, owned or not: top left, top right, bottom right, bottom left.
+fn print_vertices(name: &str) -> Answer<Vertices> {
+    let corners = vertices(0, 0, code_of(name)?)?;
+    let points: Vec<String> = (0..4).map(|i| format!("({}, {})", corners.x[i], corners.y[i])).collect();
+    println!("vertices: {name} -> {}", points.join(" "));
+    Ok(corners)
+}
+
 /// The plane, in whole units: x runs east from the left edge of O, y up from the equator. N lies above face n, S below face s.
 fn plane() -> Answer<()> {
-    print_square(0, "N", "N, n 0")?;
-    print_square(3, "N", "N, n 3")?;
-    print_square(0, "P0", "P0")?;
-
-    let middle = nucleus(0, 0, code_of("P0")?)?;
-    println!("nucleus: P0 -> ({}, {})", middle.x, middle.y);
-    let Vertices { x, y, .. } = vertices(0, 0, code_of("P0")?)?;
-    let corners: Vec<String> = (0..4).map(|i| format!("({}, {})", x[i], y[i])).collect();
-    println!("vertices: P0 -> {}", corners.join(" "));
+    print_square(0, 0, "N", "N, n 0")?;
+    print_square(3, 0, "N", "N, n 3")?;
+    print_square(0, 2, "S", "S, s 2")?;
+    print_square(0, 0, "P0", "P0")?;
+    let middle = print_nucleus(0, "P0", "P0")?;
+    print_nucleus(2, "S", "S, s 2")?;
+    let Vertices { x, y, .. } = print_vertices("P0")?;
+    print_vertices("P8")?;
 
     // A cell owns its left and top edges: the top left corner of P0 is in P0, the bottom right one in P4.
     for (x, y) in [(middle.x, middle.y), (x[0], y[0]), (x[2], y[2])] {
