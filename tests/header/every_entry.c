@@ -544,7 +544,9 @@ static void coverage_list(void) {
     lists_nothing(TEXT(HEAD "O()"), ROOM, 9, 9);
     lists_nothing(TEXT(HEAD "O(012345678)"), 0, 9, 18); /* the order is 13, 10, 9, 8 */
     lists_nothing(TEXT("CVR\0\2" "00P(34(1))"), 0, 10, 0);
+    lists_nothing(TEXT("CVR\0\2" "00P(34(1))"), ROOM, 10, 0);
     lists_nothing(long_text, LONGEST + 1, 0, 13, 0);
+    lists_nothing(long_text, LONGEST + 1, ROOM, 13, 0);
     jgv_list got = jgv_coverage_list(TEXT(HEAD), NULL, 0);
     CHECK(got.refusal, 0, "jgv_coverage_list to no memory: refusal");
     CHECK(got.count, 0, "jgv_coverage_list to no memory: count");
