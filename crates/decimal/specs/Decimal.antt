@@ -1,0 +1,103 @@
+-- Whole numbers in decimal, and the lines of a flight: "a line for each fix, `longitude z`, two whole numbers in decimal". Bytes 48 to 57 are the
+-- digits, 45 is the minus sign, 32 the space, 13 the carriage return. Assumes nothing.
+use mathlib.Core.Path.{_≡_, refl}
+use mathlib.Core.Bool.{Bool, true, false, _&&_, cond}
+use mathlib.Core.List.{List, [], _∷_, _++_, map}
+use Prim.Native.Nat.{ℕ, zero, suc, _+_, _-_, _/_, _%_, _^_}
+use lib.Dec.{eqb, leb, ltb}
+use lib.IntN.{ℤ, pos, negsuc}
+use lib.ListN.{length}
+use Rattle.ternary.specs.Digits.{value}
+use Rattle.signed.specs.Sign.{withSign}
+use Rattle.decimal.specs.declared.Whole.{Whole}
+use Rattle.decimal.specs.declared.Whole.the-variants as Wholes
+use Rattle.decimal.specs.declared.Number.{Number}
+use Rattle.decimal.specs.declared.Number.the-variants as Numbers
+use Rattle.decimal.specs.declared.FixLine.{FixLine}
+use Rattle.decimal.specs.declared.FixLine.the-variants as Lines
+
+abbrev pub isDigit : ℕ → Bool
+isDigit b = leb 48 b && leb b 57
+
+unfoldable pub allDigits : List ℕ → Bool
+allDigits [] = true
+allDigits (b ∷ bs) = isDigit b && allDigits bs
+
+-- the number that digits write
+abbrev pub written : List ℕ → ℕ
+written bs = value 10 (map (λ b. b - 48) bs)
+
+-- 1 to 19 digits
+unfoldable pub wholeIn : List ℕ → Whole
+unfolding allDigits
+wholeIn bs = cond (leb 1 (length bs) && (leb (length bs) 19 && allDigits bs)) (Wholes.Is (written bs)) Wholes.Not
+
+-- a number too large for 63 bits is refused
+unfoldable pub numberOf : Bool → Whole → Number
+numberOf b (Wholes.Is n) = cond (ltb n (2 ^ 63)) (Numbers.Is (withSign b n)) Numbers.Not
+numberOf b Wholes.Not = Numbers.Not
+
+-- digits, with or without a minus sign before them
+unfoldable pub numberIn : List ℕ → Number
+unfolding wholeIn numberOf
+numberIn [] = Numbers.Not
+numberIn (b ∷ bs) = cond (eqb b 45) (numberOf true (wholeIn bs)) (numberOf false (wholeIn (b ∷ bs)))
+
+-- what stands before the first byte that is so, and what after it
+abbrev pub ahead : ℕ → List ℕ → List ℕ
+ahead stop [] = []
+ahead stop (b ∷ bs) = cond (eqb b stop) [] (b ∷ ahead stop bs)
+
+abbrev pub behind : ℕ → List ℕ → List ℕ
+behind stop [] = []
+behind stop (b ∷ bs) = cond (eqb b stop) bs (behind stop bs)
+
+-- a line without the carriage return that may end it
+abbrev pub trimmed : List ℕ → List ℕ
+trimmed [] = []
+trimmed (b ∷ []) = cond (eqb b 13) [] (b ∷ [])
+trimmed (b ∷ c ∷ bs) = b ∷ trimmed (c ∷ bs)
+
+unfoldable pub fixOf : Number → Number → FixLine
+fixOf (Numbers.Is longitude) (Numbers.Is z) = Lines.Fix longitude z
+fixOf (Numbers.Is longitude) Numbers.Not = Lines.Not
+fixOf Numbers.Not other = Lines.Not
+
+-- two numbers with a space between them
+unfoldable pub fixIn : List ℕ → FixLine
+unfolding numberIn fixOf
+fixIn line = fixOf (numberIn (ahead 32 (trimmed line))) (numberIn (behind 32 (trimmed line)))
+
+-- ---- a number printed: its digits, with no zero before them
+
+abbrev pub printedFrom : ℕ → ℕ → List ℕ
+printedFrom zero x = []
+printedFrom (suc k) x = cond (ltb x 10) ((48 + x) ∷ []) (printedFrom k (x / 10) ++ ((48 + x % 10) ∷ []))
+
+-- 20 digits are enough below 2^64
+unfoldable pub printed : ℕ → List ℕ
+printed x = printedFrom 20 x
+
+-- a signed one
+unfoldable pub printedNumber : ℤ → List ℕ
+unfolding printed
+printedNumber (pos n) = printed n
+printedNumber (negsuc n) = 45 ∷ printed (suc n)
+
+-- `-42 7` with a carriage return; `7`, which is one number; 2^63 is too large
+a-fix : fixIn (45 ∷ 52 ∷ 50 ∷ 32 ∷ 55 ∷ 13 ∷ []) ≡ Lines.Fix (negsuc 41) (pos 7)
+unfolding fixIn fixOf numberIn numberOf wholeIn allDigits value
+a-fix = refl
+
+no-fix : fixIn (55 ∷ []) ≡ Lines.Not
+unfolding fixIn fixOf numberIn numberOf wholeIn allDigits value
+no-fix = refl
+
+too-large : numberIn (printed (2 ^ 63)) ≡ Numbers.Not
+unfolding printed numberIn numberOf wholeIn allDigits value
+too-large = refl
+
+-- 0 is `0`, 205 is `205`
+some-printed : (printed 0 ≡ 48 ∷ []) × (printed 205 ≡ 50 ∷ 48 ∷ 53 ∷ [])
+unfolding printed
+some-printed = (refl, refl)
