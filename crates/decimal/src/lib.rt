@@ -99,7 +99,7 @@ fn ahead_of(text: &[u8], stop: u8) -> usize
 }
 
 // The length of a line without the carriage return that may end it.
-fn trimmed_length(line: &[u8]) -> usize
+pub fn trimmed_length(line: &[u8]) -> usize
     ensures { λ r. ⌜ r ≡ length (trimmed (now (line .entry))) ⌝ }
     ensures { λ r. ⌜ r ≤ length (now (line .entry)) ⌝ }
 {

@@ -1,0 +1,24 @@
+-- `console::put_byte` meets its contract: a store keeps the length. Assumes nothing.
+use native.Mathlib.Omega.{arith}
+use lib.ListN.{length-set}
+use borrow.Author.Needs.{needs}
+use Rattle.console.proofs.put_byte.Statement.{statement}
+use Rattle.console.proofs.put_byte.Tie as tie
+
+slice-write-line : tie.Need-slice-write-line
+slice-write-line c = search needs
+
+add-result : tie.Need-add-result
+add-result c = search needs
+
+same-length : tie.Need-same-length
+same-length c = search needs
+
+returns : tie.Need-returns
+returns c = let e = length-set (c .before .args .line .now) (c .before .args .at) (c .before .args .byte) in (omega arith, e)
+
+returns-2 : tie.Need-returns-2
+returns-2 c = search needs
+
+pub put-byte-spec : {M : Type 1} → statement M
+put-byte-spec = tie.close (tie.spec slice-write-line add-result same-length returns returns-2)
