@@ -1,0 +1,56 @@
+//! Codes to cells and names and back, and neighbours.
+
+use crate::inputs::{code, codes, Random};
+use crate::library::{jgv_cell_code, jgv_code_cell, jgv_code_name, jgv_name_code, jgv_neighbour};
+use crate::library::{CellCode, CodeCell, CodeName, NameCode, Neighbour};
+use crate::measure::{compare, pair, Plan, Row};
+use crate::plain::codes::{cell_code, code_cell, code_name, name_code};
+use crate::plain::neighbour::neighbour;
+
+pub fn run(plan: Plan, random: &mut Random) -> Vec<Row> {
+    let count = plan.count(10_000_000);
+    let mixed = codes(random, count);
+    let finest: Vec<u64> = (0..plan.count(1_000_000)).map(|_| code(random, 15)).collect();
+    let mut rows = cells(plan, "code to cell and back", &mixed, Some(1.0));
+    rows.extend(cells(plan, "the same, only resolution 15", &finest, None));
+    rows.extend(names(plan, "code to name and back", &mixed, Some(1.0)));
+    rows.extend(names(plan, "the same, only resolution 15", &finest, None));
+    rows.extend(neighbours(plan, "neighbours, all directions", &mixed[..count / 10], Some(1.1)));
+    rows.extend(neighbours(plan, "the same, only resolution 15", &finest, None));
+    rows
+}
+
+fn cells(plan: Plan, work: &str, codes: &[u64], goal: Option<f64>) -> Vec<Row> {
+    let (library, plain) = ((jgv_code_cell as CodeCell, jgv_cell_code as CellCode), (code_cell as CodeCell, cell_code as CellCode));
+    let sides = pair(goal, library, plain, |(out, back)| {
+        codes.iter().fold(0, |sum, &code| {
+            let cell = unsafe { out(code) };
+            let again = unsafe { back(cell.face, cell.resolution, cell.row, cell.column) };
+            again.fold(cell.fold(sum))
+        })
+    });
+    compare(plan, work, codes.len(), sides)
+}
+
+fn names(plan: Plan, work: &str, codes: &[u64], goal: Option<f64>) -> Vec<Row> {
+    let (library, plain) = ((jgv_code_name as CodeName, jgv_name_code as NameCode), (code_name as CodeName, name_code as NameCode));
+    let sides = pair(goal, library, plain, |(out, back)| {
+        let mut name = [0; 16];
+        codes.iter().fold(0, |sum, &code| {
+            let written = unsafe { out(code, name.as_mut_ptr(), name.len()) };
+            let again = unsafe { back(name.as_ptr(), written.length as usize) };
+            again.fold(written.fold(sum))
+        })
+    });
+    compare(plan, work, codes.len(), sides)
+}
+
+/// All four directions, in the arrangement that the code's place in the list says.
+fn neighbours(plan: Plan, work: &str, codes: &[u64], goal: Option<f64>) -> Vec<Row> {
+    let sides = pair::<Neighbour>(goal, jgv_neighbour, neighbour, |step| {
+        codes.iter().zip(0..).fold(0, |sum, (&code, i)| {
+            (0..4).fold(sum, |sum, direction| unsafe { step(i & 3, i >> 2 & 3, code, direction) }.fold(sum))
+        })
+    });
+    compare(plan, work, codes.len() * 4, sides)
+}

@@ -1,0 +1,39 @@
+//! `record` on a flight of 100,000 fixes, as whole processes: the proved program beside bench/src/bin/record.rs.
+
+use crate::inputs::{flight, Random};
+use crate::measure::{compare, Plan, Row, Side};
+use std::fs::File;
+use std::path::Path;
+use std::process::{Command, Stdio};
+
+const RESOLUTION: u64 = 9;
+
+pub fn run(plan: Plan, random: &mut Random) -> Vec<Row> {
+    let (Ok(proved), Ok(plain)) = (std::env::var("BENCH_RECORD"), std::env::current_exe()) else { return Vec::new() };
+    if !Path::new(&proved).exists() {
+        eprintln!("bench: record: there is no proved program {proved}; this row is left out");
+        return Vec::new();
+    }
+    let (plain, count) = (plain.with_file_name("record"), plan.count(100_000));
+    let input = plain.with_file_name("flight.txt");
+    std::fs::write(&input, flight(random, count)).expect("the flight's file");
+    let (first, second) = (text(proved.as_ref(), &input), text(&plain, &input));
+    if first != second {
+        eprintln!("bench: record: the proved program writes {} bytes and the plain one {}, not the same", first.len(), second.len());
+        std::process::exit(1);
+    }
+    eprintln!("bench: record: {count} fixes at resolution {RESOLUTION}, a text of {} bytes", first.len());
+    let side = |name, program: &Path| {
+        let (program, input) = (program.to_path_buf(), input.clone());
+        Side { name, same: true, goal: Some(1.5), pass: Box::new(move || text(&program, &input).len() as u64) }
+    };
+    compare(plan, "record, a fix", count, vec![side("library", proved.as_ref()), side("plain Rust, BTreeSet", &plain)])
+}
+
+/// What a program writes for a flight.
+fn text(program: &Path, flight: &Path) -> Vec<u8> {
+    let input = File::open(flight).expect("the flight's file");
+    let words = ["0".to_string(), "0".to_string(), RESOLUTION.to_string()];
+    let output = Command::new(program).args(words).stdin(input).stderr(Stdio::null()).output().expect("record");
+    output.stdout
+}

@@ -1,0 +1,152 @@
+//! Coverage texts, read in one pass with a stack of levels: check, list and ask.
+
+use super::codes::parts;
+use super::NINE;
+use crate::answers::{Ask, Check, List};
+
+pub const LONGEST: usize = 65_536;
+pub const HEADING: usize = 7;
+
+/// The list that is open at a depth: its last digit and one, the number of its whole nodes, and the number of finest cells before
+/// the cell that it divides.
+#[derive(Clone, Copy, Default)]
+struct Level {
+    next: u8,
+    whole: u8,
+    start: u64,
+}
+
+/// Refusal 13, 10 or 9 of the heading, with the place.
+fn heading(text: &[u8]) -> Result<(), (u64, u64)> {
+    if text.len() > LONGEST {
+        return Err((13, 0));
+    }
+    if text.len() >= 5 && &text[..3] == b"CVR" && text[3..5] != [0, 1] {
+        return Err((10, 0));
+    }
+    let right = |at: usize, byte: u8| match at {
+        0..=2 => byte == b"CVR"[at],
+        3 | 4 => byte == at as u8 - 3,
+        _ => (b'0'..=b'3').contains(&byte),
+    };
+    match (0..HEADING).find(|&at| !text.get(at).is_some_and(|&byte| right(at, byte))) {
+        Some(at) => Err((9, at as u64)),
+        None => Ok(()),
+    }
+}
+
+/// Reads a text and calls `visit(depth, start)` for each whole cell: its resolution, and the finest cells before it.
+#[inline(always)]
+fn read(text: &[u8], mut visit: impl FnMut(usize, u64)) -> Result<(), (u64, u64)> {
+    heading(text)?;
+    let (mut levels, mut depth, mut at) = ([Level::default(); 16], 0, HEADING);
+    while at < text.len() {
+        let level = &mut levels[depth];
+        let digit = match text[at] {
+            letter @ b'N'..=b'S' if depth == 0 => letter - b'N',
+            digit @ b'0'..=b'8' if depth > 0 => digit - b'0',
+            b')' if depth > 0 && level.next > 0 && level.whole < 9 => {
+                depth -= 1;
+                at += 1;
+                continue;
+            }
+            _ => return Err((9, at as u64)),
+        };
+        if digit < level.next {
+            return Err((9, at as u64));
+        }
+        level.next = digit + 1;
+        let start = level.start + digit as u64 * NINE[15 - depth];
+        if depth < 15 && text.get(at + 1) == Some(&b'(') {
+            depth += 1;
+            levels[depth] = Level { next: 0, whole: 0, start };
+            at += 2;
+        } else {
+            level.whole += 1;
+            if depth > 0 && level.whole == 9 && (depth == 15 || at + 1 < text.len()) {
+                return Err((9, at as u64 + (depth < 15) as u64));
+            }
+            visit(depth, start);
+            at += 1;
+        }
+    }
+    if depth > 0 { Err((9, at as u64)) } else { Ok(()) }
+}
+
+/// The same walk over a text that is known to be accepted.
+#[inline(always)]
+fn walk(text: &[u8], mut visit: impl FnMut(usize, u64)) {
+    let (mut starts, mut depth) = ([0; 17], 0);
+    let mut bytes = text[HEADING..].iter().peekable();
+    while let Some(&byte) = bytes.next() {
+        if byte == b')' {
+            depth -= 1;
+            continue;
+        }
+        let digit = byte - if depth == 0 { b'N' } else { b'0' };
+        let start = starts[depth] + digit as u64 * NINE[15 - depth];
+        if bytes.next_if(|&&byte| byte == b'(').is_some() {
+            depth += 1;
+            starts[depth] = start;
+        } else {
+            visit(depth, start);
+        }
+    }
+}
+
+fn checked(text: &[u8]) -> Check {
+    let (mut cells, mut size) = (0, 0);
+    match read(text, |depth, _| {
+        cells += 1;
+        size += NINE[15 - depth];
+    }) {
+        Ok(()) => Check { refusal: 0, place: 0, cells, size },
+        Err((refusal, place)) => Check { place, ..Check::refused(refusal) },
+    }
+}
+
+#[inline(never)]
+pub extern "C" fn coverage_check(text: *const u8, length: usize) -> Check {
+    checked(unsafe { std::slice::from_raw_parts(text, length) })
+}
+
+#[inline(never)]
+pub extern "C" fn coverage_list(text: *const u8, length: usize, codes: *mut u64, room: usize) -> List {
+    let text = unsafe { std::slice::from_raw_parts(text, length) };
+    let check = checked(text);
+    if check.refusal != 0 {
+        return List { place: check.place, ..List::refused(check.refusal) };
+    }
+    if check.cells > room as u64 {
+        return List::refused(8);
+    }
+    let mut codes = unsafe { std::slice::from_raw_parts_mut(codes, check.cells as usize) }.iter_mut();
+    walk(text, |depth, start| {
+        if let Some(code) = codes.next() {
+            *code = (start << 4) | depth as u64;
+        }
+    });
+    List { refusal: 0, place: 0, count: check.cells }
+}
+
+/// No list holds nine whole nodes, so a cell is covered exactly where one whole cell holds it.
+#[inline(never)]
+pub extern "C" fn coverage_ask(n: u64, s: u64, text: *const u8, length: usize, code: u64) -> Ask {
+    let text = unsafe { std::slice::from_raw_parts(text, length) };
+    if n > 3 || s > 3 {
+        return Ask::refused(5);
+    }
+    if parts(code).is_none() {
+        return Ask::refused(4);
+    }
+    let (first, size) = (code >> 4, NINE[15 - (code & 15) as usize]);
+    let mut covered = false;
+    let read = read(text, |depth, start| {
+        covered |= start <= first && first + size <= start + NINE[15 - depth];
+    });
+    match read {
+        Err((refusal, place)) => Ask { place, ..Ask::refused(refusal) },
+        Ok(()) if text[5..HEADING] != [b'0' + n as u8, b'0' + s as u8] => Ask::refused(14),
+        Ok(()) => Ask { refusal: 0, place: 0, covered: covered as u64 },
+    }
+}

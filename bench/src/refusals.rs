@@ -1,0 +1,110 @@
+//! The answers of both sides to inputs good and bad, one by one. No times.
+
+use crate::inputs::{code, swath, Random};
+use crate::library::*;
+use crate::plain::codes::{cell_code, code_cell, code_name, name_code};
+use crate::plain::coverage::{coverage_ask, coverage_check, coverage_list};
+use crate::plain::fixes::{fix_code, ground_nucleus};
+use crate::plain::neighbour::neighbour;
+use crate::plain::writing::coverage_write;
+use std::fmt::Debug;
+
+const BYTES: &[u8] = b"()()0123456789NOPQRSMTCVR\0\x01";
+
+fn same<A: PartialEq + Debug>(what: &str, library: A, plain: A) {
+    if library != plain {
+        eprintln!("bench: {what}: plain Rust answers {plain:?}, the library {library:?}");
+        std::process::exit(1);
+    }
+}
+
+pub fn run(random: &mut Random, count: usize) {
+    for _ in 0..count {
+        numbers(random);
+        names(random);
+    }
+    for _ in 0..count / 100 {
+        texts(random);
+        lists(random);
+    }
+    eprintln!("bench: {count} inputs of each number entry and {} texts and lists, good and bad: the same answers", count / 100);
+}
+
+/// Mostly a good code.
+fn any_code(random: &mut Random) -> u64 {
+    let resolution = random.below(16);
+    match random.below(8) {
+        0 => random.below(20_000_000_000_000_000),
+        1 => random.word(),
+        _ => code(random, resolution),
+    }
+}
+
+fn numbers(random: &mut Random) {
+    let (n, s, k) = (random.below(9) / 2, random.below(9) / 2, random.below(17));
+    let (code, face, direction) = (any_code(random), random.below(7), random.below(9) / 2);
+    let side = 1 << random.below(25);
+    let (row, column) = (random.below(side), random.below(side));
+    let (longitude, z) = (random.between(-1_850_000_000, 1_850_000_000), random.between(-1_010_000_000_000_000_000, 1_010_000_000_000_000_000));
+    unsafe {
+        same("cell to code", jgv_cell_code(face, k, row, column), cell_code(face, k, row, column));
+        same("code to cell", jgv_code_cell(code), code_cell(code));
+        same("fix to code", jgv_fix_code(n, s, k, longitude, z), fix_code(n, s, k, longitude, z));
+        same("ground nucleus", jgv_ground_nucleus(n, s, code), ground_nucleus(n, s, code));
+        same("neighbour", jgv_neighbour(n, s, code, direction), neighbour(n, s, code, direction));
+        // a hair from an edge: the middle of a border, and a unit beside it
+        let z = 1_000_000_000_000_000_000 - 37_037_037_037_037_037 / (1 + random.below(9) as i64) + random.between(-1, 1);
+        let longitude = -1_350_000_000 + 900_000_000 * random.between(0, 3) + random.between(-1, 1);
+        same("fix at an edge", jgv_fix_code(n, s, k, longitude, -z), fix_code(n, s, k, longitude, -z));
+        same("fix at an edge", jgv_fix_code(n, s, k, longitude, z), fix_code(n, s, k, longitude, z));
+    }
+}
+
+fn names(random: &mut Random) {
+    let (code, room) = (any_code(random), random.below(18) as usize);
+    let (mut library, mut plain) = ([7; 18], [7; 18]);
+    let lengths = unsafe { (jgv_code_name(code, library.as_mut_ptr(), room), code_name(code, plain.as_mut_ptr(), room)) };
+    same("name", (lengths.0, library), (lengths.1, plain));
+    if random.below(2) == 0 {
+        library[random.below(18) as usize] = BYTES[random.below(BYTES.len() as u64) as usize];
+    }
+    same("name to code", unsafe { jgv_name_code(library.as_ptr(), room) }, name_code(library.as_ptr(), room));
+}
+
+fn texts(random: &mut Random) {
+    let resolution = 5 + random.below(11);
+    let (_, mut text) = swath(random, resolution, 300);
+    for _ in 0..random.below(3) {
+        let (at, byte) = (random.below(text.len() as u64) as usize, BYTES[random.below(BYTES.len() as u64) as usize]);
+        match random.below(3) {
+            0 => text[at] = byte,
+            1 => text.insert(at, byte),
+            _ => text.truncate(at + 1),
+        }
+    }
+    let (at, length, n, room) = (text.as_ptr(), text.len(), random.below(5), random.below(400) as usize);
+    let code = any_code(random);
+    let (mut library, mut plain) = ([7; 400], [7; 400]);
+    unsafe {
+        same("check", jgv_coverage_check(at, length), coverage_check(at, length));
+        same("ask", jgv_coverage_ask(n / 4, n / 3, at, length, code), coverage_ask(n / 4, n / 3, at, length, code));
+        let counts = (jgv_coverage_list(at, length, library.as_mut_ptr(), room), coverage_list(at, length, plain.as_mut_ptr(), room));
+        same("list", (counts.0, library), (counts.1, plain));
+    }
+}
+
+fn lists(random: &mut Random) {
+    let resolution = 5 + random.below(11);
+    let (mut codes, text) = swath(random, resolution, 2_000);
+    if random.below(2) == 0 {
+        let at = random.below(codes.len() as u64) as usize;
+        codes[at] = any_code(random);
+    }
+    let (n, room) = (random.below(5), text.len() - random.below(2) as usize);
+    let (mut library, mut plain) = ([7; 2_000], [7; 2_000]);
+    let lengths = unsafe {
+        let list = (codes.as_ptr(), codes.len());
+        (jgv_coverage_write(n, 1, list.0, list.1, library.as_mut_ptr(), room), coverage_write(n, 1, list.0, list.1, plain.as_mut_ptr(), room))
+    };
+    same("write", (lengths.0, library), (lengths.1, plain));
+}

@@ -1,0 +1,138 @@
+//! The greatest stack depth of each entry: it runs on a painted stack, over many inputs, and the deepest byte that changed counts.
+
+use crate::inputs::{code, swath, Random};
+use crate::library::*;
+use crate::plain::coverage::coverage_list;
+use crate::plain::NINE;
+use std::arch::asm;
+
+const SIZE: usize = 1 << 20;
+const PAINT: u8 = 0xa5;
+
+struct Stack(Vec<u8>);
+
+impl Stack {
+    /// Runs `work` on this stack. Nothing may unwind out of it; the program is built to abort on a panic.
+    fn run<F: FnMut()>(&mut self, mut work: F) {
+        extern "C" fn call<F: FnMut()>(work: *mut F) {
+            unsafe { (*work)() }
+        }
+        let top = (self.0.as_mut_ptr() as usize + SIZE) & !15;
+        unsafe {
+            // r12 outlives the call: it holds the old stack pointer meanwhile
+            asm!("xchg rsp, r12", "call {call}", "mov rsp, r12", call = in(reg) call::<F> as extern "C" fn(*mut F),
+                in("rdi") &mut work, inout("r12") top => _, clobber_abi("C"));
+        }
+    }
+
+    fn depth(&self) -> usize {
+        let top = (self.0.as_ptr() as usize + SIZE) & !15;
+        let touched = self.0.iter().position(|&byte| byte != PAINT).unwrap_or(SIZE);
+        top - (self.0.as_ptr() as usize + touched).min(top)
+    }
+}
+
+/// The depth that `work` touches.
+fn depth(work: impl FnMut()) -> usize {
+    let mut stack = Stack(vec![PAINT; SIZE]);
+    stack.run(work);
+    stack.depth()
+}
+
+/// What the calls share: many numbers, and texts and lists that nest and repeat as far as they can.
+struct Inputs {
+    codes: Vec<u64>,
+    points: Vec<(i64, i64)>,
+    texts: Vec<Vec<u8>>,
+    lists: Vec<Vec<u64>>,
+}
+
+fn inputs(random: &mut Random, check: bool) -> Inputs {
+    let count = if check { 2_000 } else { 100_000 };
+    let mut codes: Vec<u64> = (0..count).map(|i| code(random, i % 16)).collect();
+    codes.extend([u64::MAX, 19, 1 << 60]);
+    let points = (0..count).map(|_| (random.between(-1_800_000_000, 1_799_999_999), random.between(-1_000_000_000_000_000_000, 1_000_000_000_000_000_000)));
+    let points = points.collect();
+    let deepest: String = "(8".repeat(15) + &")".repeat(15);
+    let mut texts = vec![b"CVR\0\x0100NOPQRS".to_vec()];
+    for letters in ["N", "NOPQRS"] {
+        let body: String = letters.chars().map(|letter| format!("{letter}{deepest}")).collect();
+        texts.push([b"CVR\0\x0100", body.as_bytes()].concat());
+    }
+    let cut = texts[2][..texts[2].len() - 1].to_vec();
+    texts.push(cut);
+    let mut lists = vec![Vec::new()];
+    for resolution in [9, 12, 15] {
+        let (list, text) = swath(random, resolution, if check { 4_096 } else { 65_536 });
+        lists.push(list);
+        texts.push(text);
+    }
+    // eight whole nodes before each list, through all levels
+    let fullest = [b"CVR\0\x0100N", "(012345678".repeat(14).as_bytes(), b"(01234567", ")".repeat(15).as_bytes()].concat();
+    lists.push(listed(&fullest));
+    texts.push(fullest);
+    // siblings that merge through five levels, and cells that share no list
+    lists.push((0..NINE[5]).map(|i| (i << 4) | 15).collect());
+    lists.push((0..1_000).map(|i| (i * (NINE[13] / 100) << 4) | 15).collect());
+    Inputs { codes, points, texts, lists }
+}
+
+fn listed(text: &[u8]) -> Vec<u64> {
+    let mut codes = vec![0; text.len()];
+    let answer = coverage_list(text.as_ptr(), text.len(), codes.as_mut_ptr(), codes.len());
+    codes.truncate(answer.count as usize);
+    codes
+}
+
+/// Each entry's name and depth, without what the harness itself takes.
+pub fn depths(random: &mut Random, check: bool) -> Vec<(&'static str, usize)> {
+    let own = depth(|| {
+        std::hint::black_box(());
+    });
+    let inputs = inputs(random, check);
+    let mut depths = numbers(&inputs);
+    depths.extend(texts(&inputs));
+    depths.into_iter().map(|(name, depth)| (name, depth.saturating_sub(own))).collect()
+}
+
+macro_rules! depths {
+    ($($entry:ident: $inputs:expr, $input:pat => ($($argument:expr),*);)*) => {
+        vec![$((stringify!($entry), depth(|| for $input in $inputs {
+            std::hint::black_box(unsafe { $entry($($argument),*) });
+        }))),*]
+    };
+}
+
+fn numbers(inputs: &Inputs) -> Vec<(&'static str, usize)> {
+    let (codes, points) = (&inputs.codes, &inputs.points);
+    let mut name = [0; 16];
+    depths! {
+        jgv_cell_code: codes, &code => (code % 7, code >> 8 & 15, code % 20_000_000 / 3, code % 10_000_019);
+        jgv_code_cell: codes, &code => (code);
+        jgv_name_code: codes, &code => (name.as_ptr(), 1 + (code & 15) as usize);
+        jgv_code_name: codes, &code => (code, name.as_mut_ptr(), 16);
+        jgv_parent: codes, &code => (code);
+        jgv_child: codes, &code => (code, code >> 8 & 7);
+        jgv_size: codes, &code => (code);
+        jgv_shape: codes, &code => (code);
+        jgv_corner_count: codes, &code => (code);
+        jgv_square: codes, &code => (0, 0, code);
+        jgv_nucleus: codes, &code => (0, 0, code);
+        jgv_vertices: codes, &code => (0, 0, code);
+        jgv_point_code: points, &(x, z) => (0, 0, z as u64 & 15, x.abs() % 114_791_256, z % 43_046_721);
+        jgv_fix_code: points, &(longitude, z) => (z as u64 & 3, 0, longitude as u64 & 15, longitude, z);
+        jgv_ground_nucleus: codes, &code => (1, 2, code);
+        jgv_neighbour: codes, &code => (1, 2, code, code >> 8 & 3);
+    }
+}
+
+fn texts(inputs: &Inputs) -> Vec<(&'static str, usize)> {
+    let (texts, lists) = (&inputs.texts, &inputs.lists);
+    let (mut codes, mut room) = (vec![0; 65_536], vec![0; 65_536]);
+    depths! {
+        jgv_coverage_check: texts, text => (text.as_ptr(), text.len());
+        jgv_coverage_list: texts, text => (text.as_ptr(), text.len(), codes.as_mut_ptr(), codes.len());
+        jgv_coverage_write: lists, list => (0, 0, list.as_ptr(), list.len(), room.as_mut_ptr(), room.len());
+        jgv_coverage_ask: texts, text => (0, 0, text.as_ptr(), text.len(), 15);
+    }
+}
