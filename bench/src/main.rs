@@ -11,9 +11,10 @@ mod measure;
 mod plain;
 mod refusals;
 mod stack;
+mod tables;
 
 use inputs::Random;
-use measure::{median, Plan, Row};
+use measure::Plan;
 use std::time::Duration;
 
 fn main() {
@@ -36,37 +37,11 @@ fn main() {
     rows.extend(codes::run(plan, random));
     rows.extend(coverage::run(plan, random));
     rows.extend(flight::run(plan, random));
-    print_rows(&rows);
-    print_depths(&stack::depths(random, plan.check));
+    let depths = stack::depths(random, plan.check);
+    tables::print(&rows, &depths);
 }
 
 fn usage() -> ! {
     eprintln!("usage: bench [--check] [--seed N] [--rounds N]");
     std::process::exit(2)
-}
-
-fn print_rows(rows: &[Row]) {
-    println!("| work | baseline | library, ns | baseline, ns | ratio | least to greatest | goal | |");
-    println!("|---|---|---:|---:|---:|---:|---:|---|");
-    for row in rows {
-        let ratio = median(&row.ratios);
-        let least = row.ratios.iter().copied().fold(f64::MAX, f64::min);
-        let greatest = row.ratios.iter().copied().fold(0.0, f64::max);
-        let (goal, met) = match row.goal {
-            Some(goal) if ratio <= goal => (format!("{goal:.1}"), "met"),
-            Some(goal) => (format!("{goal:.1}"), "missed"),
-            None => (String::new(), ""),
-        };
-        println!(
-            "| {} | {} | {:.1} | {:.1} | {ratio:.2} | {least:.2} to {greatest:.2} | {goal} | {met} |",
-            row.work, row.baseline, row.library, row.other
-        );
-    }
-}
-
-fn print_depths(depths: &[(&str, usize)]) {
-    println!("\n| entry | stack, bytes |\n|---|---:|");
-    for (entry, depth) in depths {
-        println!("| `{entry}` | {depth} |");
-    }
 }

@@ -1,4 +1,4 @@
-//! Writing a coverage text: nine whole siblings are merged on a stack, then the cells are written in order.
+//! Writing a coverage text: nine whole siblings are merged on a stack, then the cells are written list by list.
 
 use super::codes::parts;
 use super::coverage::LONGEST;
@@ -36,48 +36,44 @@ fn merged(codes: &[u64]) -> Vec<u64> {
 
 /// The parent of the last nine cells, where they are its children.
 fn full_parent(stack: &[u64]) -> Option<u64> {
-    let last = *stack.last()?;
-    let resolution = last & 15;
-    if resolution == 0 || stack.len() < 9 {
+    let nine = stack.last_chunk::<9>()?;
+    let resolution = nine[8] & 15;
+    let unit = NINE[15 - resolution as usize];
+    let first = nine[0] >> 4;
+    if resolution == 0 || nine[0] != nine[8].wrapping_sub(8 * unit << 4) || first % (9 * unit) != 0 {
         return None;
     }
-    let unit = NINE[15 - resolution as usize];
-    let nine = &stack[stack.len() - 9..];
-    let first = nine[0] >> 4;
-    let siblings = first % (9 * unit) == 0 && nine.iter().zip(0..).all(|(&code, i)| code == ((first + i * unit) << 4) | resolution);
+    let siblings = nine.iter().zip(0..).all(|(&code, i)| code == ((first + i * unit) << 4) | resolution);
     siblings.then(|| (first << 4) | (resolution - 1))
 }
 
-/// The digits of a cell, its face first.
-fn digits(code: u64) -> ([u8; 16], usize) {
-    let (mut rest, mut digits) = (code >> 4, [0; 16]);
-    for digit in digits[1..].iter_mut().rev() {
-        *digit = (rest % 9) as u8;
-        rest /= 9;
+/// Writes the nodes of a resolution from `start` to `end` that hold some of the merged cells; `byte` is the first one's. Answers the
+/// cells that are left.
+fn put<'a>(mut cells: &'a [u64], mut byte: u8, mut start: u64, end: u64, resolution: u64, text: &mut Vec<u8>) -> &'a [u64] {
+    let size = NINE[15 - resolution as usize];
+    while start < end {
+        if let Some(&code) = cells.first().filter(|&&code| code >> 4 < start + size) {
+            text.push(byte);
+            if code == (start << 4) | resolution {
+                cells = &cells[1..];
+            } else {
+                text.push(b'(');
+                cells = put(cells, b'0', start, start + size, resolution + 1, text);
+                text.push(b')');
+            }
+        }
+        start += size;
+        byte += 1;
     }
-    digits[0] = rest as u8;
-    (digits, (code & 15) as usize)
+    cells
 }
 
-/// Writes cells that rise and are merged. Between two of them the lists that hold only the first are closed.
-pub fn text_of(n: u64, s: u64, cells: &[u64]) -> Vec<u8> {
-    let mut text = Vec::with_capacity(7 + 3 * cells.len());
+/// The text of cells that rise and are merged.
+fn text_of(n: u64, s: u64, cells: &[u64]) -> Vec<u8> {
+    let mut text = Vec::with_capacity(7 + 2 * cells.len());
     text.extend_from_slice(b"CVR\0\x01");
     text.extend_from_slice(&[b'0' + n as u8, b'0' + s as u8]);
-    let (mut before, mut depth) = ([u8::MAX; 16], 0);
-    for &code in cells {
-        let (now, resolution) = digits(code);
-        let shared = (0..depth).take_while(|&i| before[i] == now[i]).count();
-        text.resize(text.len() + depth - shared, b')');
-        for (i, digit) in now[shared..=resolution].iter().enumerate() {
-            if i > 0 {
-                text.push(b'(');
-            }
-            text.push(digit + if shared + i == 0 { b'N' } else { b'0' });
-        }
-        (before, depth) = (now, resolution);
-    }
-    text.resize(text.len() + depth, b')');
+    put(cells, b'N', 0, 6 * NINE[15], 0, &mut text);
     text
 }
 
