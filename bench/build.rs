@@ -24,7 +24,9 @@ fn main() {
 fn link_shim(folder: &Path, name: &str) {
     let object = folder.join(format!("{name}.o"));
     println!("cargo:rerun-if-changed={}", object.display());
-    let Ok(words) = read_to_string(folder.join(format!("{name}.link"))) else { return };
+    let Ok(words) = read_to_string(folder.join(format!("{name}.link"))) else {
+        return;
+    };
     println!("cargo:rustc-cfg={name}");
     println!("cargo:rustc-link-arg-bin=bench={}", object.display());
     for word in words.split_whitespace() {

@@ -10,18 +10,33 @@ use crate::plain::neighbour::neighbour;
 pub fn run(plan: Plan, random: &mut Random) -> Vec<Row> {
     let count = plan.count(10_000_000);
     let mixed = codes(random, count);
-    let finest: Vec<u64> = (0..plan.count(1_000_000)).map(|_| code(random, 15)).collect();
+    let finest: Vec<u64> = (0..plan.count(1_000_000))
+        .map(|_| code(random, 15))
+        .collect();
     let mut rows = cells(plan, "code to cell and back", &mixed, Some(1.0));
     rows.extend(cells(plan, "the same, only resolution 15", &finest, None));
     rows.extend(names(plan, "code to name and back", &mixed, Some(1.0)));
     rows.extend(names(plan, "the same, only resolution 15", &finest, None));
-    rows.extend(neighbours(plan, "neighbours, all directions", &mixed[..count / 10], Some(1.1)));
-    rows.extend(neighbours(plan, "the same, only resolution 15", &finest, None));
+    rows.extend(neighbours(
+        plan,
+        "neighbours, all directions",
+        &mixed[..count / 10],
+        Some(1.1),
+    ));
+    rows.extend(neighbours(
+        plan,
+        "the same, only resolution 15",
+        &finest,
+        None,
+    ));
     rows
 }
 
 fn cells(plan: Plan, work: &str, codes: &[u64], goal: Option<f64>) -> Vec<Row> {
-    let (library, plain) = ((jgv_code_cell as CodeCell, jgv_cell_code as CellCode), (code_cell as CodeCell, cell_code as CellCode));
+    let (library, plain) = (
+        (jgv_code_cell as CodeCell, jgv_cell_code as CellCode),
+        (code_cell as CodeCell, cell_code as CellCode),
+    );
     let sides = pair(goal, library, plain, |(out, back)| {
         codes.iter().fold(0, |sum, &code| {
             let cell = unsafe { out(code) };
@@ -33,7 +48,10 @@ fn cells(plan: Plan, work: &str, codes: &[u64], goal: Option<f64>) -> Vec<Row> {
 }
 
 fn names(plan: Plan, work: &str, codes: &[u64], goal: Option<f64>) -> Vec<Row> {
-    let (library, plain) = ((jgv_code_name as CodeName, jgv_name_code as NameCode), (code_name as CodeName, name_code as NameCode));
+    let (library, plain) = (
+        (jgv_code_name as CodeName, jgv_name_code as NameCode),
+        (code_name as CodeName, name_code as NameCode),
+    );
     let sides = pair(goal, library, plain, |(out, back)| {
         let mut name = [0; 16];
         codes.iter().fold(0, |sum, &code| {
@@ -49,7 +67,9 @@ fn names(plan: Plan, work: &str, codes: &[u64], goal: Option<f64>) -> Vec<Row> {
 fn neighbours(plan: Plan, work: &str, codes: &[u64], goal: Option<f64>) -> Vec<Row> {
     let sides = pair::<Neighbour>(goal, jgv_neighbour, neighbour, |step| {
         codes.iter().zip(0..).fold(0, |sum, (&code, i)| {
-            (0..4).fold(sum, |sum, direction| unsafe { step(i & 3, i >> 2 & 3, code, direction) }.fold(sum))
+            (0..4).fold(sum, |sum, direction| {
+                unsafe { step(i & 3, i >> 2 & 3, code, direction) }.fold(sum)
+            })
         })
     });
     compare(plan, work, codes.len() * 4, sides)

@@ -29,23 +29,52 @@ pub fn run(plan: Plan, random: &mut Random) -> Vec<Row> {
 
 fn text(random: &mut Random, size: usize) -> Text {
     let (codes, text) = swath(random, 12, size * 1024);
-    let asked = (0..8).map(|i| if i % 2 == 0 { codes[random.below(codes.len() as u64) as usize] } else { code(random, 12) }).collect();
-    eprintln!("bench: {size} KiB: {} bytes from {} cells of resolution 12", text.len(), codes.len());
-    Text { size, codes, text, asked }
+    let asked = (0..8)
+        .map(|i| {
+            if i % 2 == 0 {
+                codes[random.below(codes.len() as u64) as usize]
+            } else {
+                code(random, 12)
+            }
+        })
+        .collect();
+    eprintln!(
+        "bench: {size} KiB: {} bytes from {} cells of resolution 12",
+        text.len(),
+        codes.len()
+    );
+    Text {
+        size,
+        codes,
+        text,
+        asked,
+    }
 }
 
 fn check(plan: Plan, at: &Text) -> Vec<Row> {
     let sides = pair::<CoverageCheck>(GOAL, jgv_coverage_check, coverage_check, |check| {
         unsafe { check(at.text.as_ptr(), at.text.len()) }.fold(0)
     });
-    compare(plan, &format!("check {} KiB, a byte", at.size), at.text.len(), sides)
+    compare(
+        plan,
+        &format!("check {} KiB, a byte", at.size),
+        at.text.len(),
+        sides,
+    )
 }
 
 fn list(plan: Plan, at: &Text) -> Vec<Row> {
     let codes = RefCell::new(vec![0; at.text.len()]);
     let pass = |list: CoverageList| {
         let mut codes = codes.borrow_mut();
-        let answer = unsafe { list(at.text.as_ptr(), at.text.len(), codes.as_mut_ptr(), codes.len()) };
+        let answer = unsafe {
+            list(
+                at.text.as_ptr(),
+                at.text.len(),
+                codes.as_mut_ptr(),
+                codes.len(),
+            )
+        };
         answer.fold(codes[answer.count as usize - 1])
     };
     let mut all = Vec::new();
@@ -56,22 +85,48 @@ fn list(plan: Plan, at: &Text) -> Vec<Row> {
     }
     assert!(all[0] == all[1], "the lists differ");
     let sides = pair::<CoverageList>(GOAL, jgv_coverage_list, coverage_list, pass);
-    compare(plan, &format!("list {} KiB, a byte", at.size), at.text.len(), sides)
+    compare(
+        plan,
+        &format!("list {} KiB, a byte", at.size),
+        at.text.len(),
+        sides,
+    )
 }
 
 fn ask(plan: Plan, at: &Text) -> Vec<Row> {
     let sides = pair::<CoverageAsk>(GOAL, jgv_coverage_ask, coverage_ask, |ask| {
-        at.asked.iter().fold(0, |sum, &code| unsafe { ask(0, 0, at.text.as_ptr(), at.text.len(), code) }.fold(sum))
+        at.asked.iter().fold(0, |sum, &code| {
+            unsafe { ask(0, 0, at.text.as_ptr(), at.text.len(), code) }.fold(sum)
+        })
     });
-    compare(plan, &format!("ask {} KiB, a byte", at.size), at.text.len() * at.asked.len(), sides)
+    compare(
+        plan,
+        &format!("ask {} KiB, a byte", at.size),
+        at.text.len() * at.asked.len(),
+        sides,
+    )
 }
 
 fn write(plan: Plan, at: &Text) -> Vec<Row> {
     let room = RefCell::new(vec![0; at.text.len()]);
     let sides = pair::<CoverageWrite>(GOAL, jgv_coverage_write, coverage_write, |write| {
         let mut room = room.borrow_mut();
-        let answer = unsafe { write(0, 0, at.codes.as_ptr(), at.codes.len(), room.as_mut_ptr(), room.len()) };
+        let answer = unsafe {
+            write(
+                0,
+                0,
+                at.codes.as_ptr(),
+                at.codes.len(),
+                room.as_mut_ptr(),
+                room.len(),
+            )
+        };
         answer.fold((room[..answer.length as usize] == at.text) as u64)
     });
-    compare(plan, &format!("write {} KiB, a byte", at.size), at.text.len(), sides)
+    compare(
+        plan,
+        &format!("write {} KiB, a byte", at.size),
+        at.text.len(),
+        sides,
+    )
 }

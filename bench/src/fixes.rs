@@ -23,7 +23,11 @@ pub fn run(plan: Plan, random: &mut Random) -> Vec<Row> {
     let count = plan.count(20_000);
     let mut rows = Vec::new();
     for (work, goals, keep) in [
-        ("fix to code, resolution 15", true, (|_| true) as fn(i64) -> bool),
+        (
+            "fix to code, resolution 15",
+            true,
+            (|_| true) as fn(i64) -> bool,
+        ),
         ("only the belt", false, |z| z.abs() <= BELT),
         ("only the caps", false, |z| z.abs() > BELT),
     ] {
@@ -37,7 +41,9 @@ pub fn run(plan: Plan, random: &mut Random) -> Vec<Row> {
 fn sides(points: &Points, goals: bool) -> Vec<Side<'_>> {
     let goal = |ratio: f64| goals.then_some(ratio);
     let mut sides = pair::<FixCode>(goal(1.1), jgv_fix_code, fix_code, |entry| {
-        points.fixes.iter().fold(0, |sum, &(longitude, z)| unsafe { entry(0, 0, 15, longitude, z) }.fold(sum))
+        points.fixes.iter().fold(0, |sum, &(longitude, z)| {
+            unsafe { entry(0, 0, 15, longitude, z) }.fold(sum)
+        })
     });
     others(points, goal, &mut sides);
     sides
@@ -47,19 +53,46 @@ fn sides(points: &Points, goals: bool) -> Vec<Side<'_>> {
 fn others<'a>(points: &'a Points, goal: impl Fn(f64) -> Option<f64>, sides: &mut Vec<Side<'a>>) {
     let count = points.fixes.len();
     #[cfg(any(healpix, proj, s2))]
-    let mut add = |name, ratio, pass: Box<dyn FnMut() -> u64 + 'a>| sides.push(Side { name, same: false, goal: goal(ratio), pass });
+    let mut add = |name, ratio, pass: Box<dyn FnMut() -> u64 + 'a>| {
+        sides.push(Side {
+            name,
+            same: false,
+            goal: goal(ratio),
+            pass,
+        })
+    };
     #[cfg(healpix)]
-    add("HEALPix `zphi2pix`", 1.3, Box::new(move || unsafe { shims::bench_healpix(points.z.as_ptr(), points.phi.as_ptr(), count) }));
+    add(
+        "HEALPix `zphi2pix`",
+        1.3,
+        Box::new(move || unsafe {
+            shims::bench_healpix(points.z.as_ptr(), points.phi.as_ptr(), count)
+        }),
+    );
     #[cfg(proj)]
-    add("PROJ `rhealpix`", 0.7, Box::new(move || unsafe { shims::bench_proj(points.longitude.as_ptr(), points.latitude.as_ptr(), count) }));
+    add(
+        "PROJ `rhealpix`",
+        0.7,
+        Box::new(move || unsafe {
+            shims::bench_proj(points.longitude.as_ptr(), points.latitude.as_ptr(), count)
+        }),
+    );
     #[cfg(s2)]
-    add("S2 leaf cell", 0.4, Box::new(move || unsafe { shims::bench_s2(points.longitude.as_ptr(), points.latitude.as_ptr(), count) }));
+    add(
+        "S2 leaf cell",
+        0.4,
+        Box::new(move || unsafe {
+            shims::bench_s2(points.longitude.as_ptr(), points.latitude.as_ptr(), count)
+        }),
+    );
 }
 
 fn nucleus(plan: Plan, random: &mut Random, count: usize) -> Vec<Row> {
     let codes = codes(random, count);
     let sides = pair::<GroundNucleus>(Some(1.1), jgv_ground_nucleus, ground_nucleus, |entry| {
-        codes.iter().fold(0, |sum, &code| unsafe { entry(0, 0, code) }.fold(sum))
+        codes
+            .iter()
+            .fold(0, |sum, &code| unsafe { entry(0, 0, code) }.fold(sum))
     });
     compare(plan, "ground nucleus, all resolutions", count, sides)
 }

@@ -9,7 +9,9 @@ use std::process::{Command, Stdio};
 const RESOLUTION: u64 = 9;
 
 pub fn run(plan: Plan, random: &mut Random) -> Vec<Row> {
-    let (Ok(proved), Ok(plain)) = (std::env::var("BENCH_RECORD"), std::env::current_exe()) else { return Vec::new() };
+    let (Ok(proved), Ok(plain)) = (std::env::var("BENCH_RECORD"), std::env::current_exe()) else {
+        return Vec::new();
+    };
     if !Path::new(&proved).exists() {
         eprintln!("bench: record: there is no proved program {proved}; this row is left out");
         return Vec::new();
@@ -17,23 +19,44 @@ pub fn run(plan: Plan, random: &mut Random) -> Vec<Row> {
     let (plain, count) = (plain.with_file_name("record"), plan.count(100_000));
     let input = plain.with_file_name("flight.txt");
     std::fs::write(&input, flight(random, count)).expect("the flight's file");
-    let (first, second) = (text(proved.as_ref(), &input), text(&plain, &input));
-    if first != second {
-        eprintln!("bench: record: the proved program writes {} bytes and the plain one {}, not the same", first.len(), second.len());
-        std::process::exit(1);
-    }
-    eprintln!("bench: record: {count} fixes at resolution {RESOLUTION}, a text of {} bytes", first.len());
+    let length = same_text(proved.as_ref(), &plain, &input);
+    eprintln!("bench: record: {count} fixes at resolution {RESOLUTION}, {length} bytes of text");
     let side = |name, program: &Path| {
         let (program, input) = (program.to_path_buf(), input.clone());
-        Side { name, same: true, goal: Some(1.5), pass: Box::new(move || text(&program, &input).len() as u64) }
+        Side {
+            name,
+            same: true,
+            goal: Some(1.5),
+            pass: Box::new(move || text(&program, &input).len() as u64),
+        }
     };
-    compare(plan, "record, a fix", count, vec![side("library", proved.as_ref()), side("plain Rust, BTreeSet", &plain)])
+    let sides = vec![
+        side("library", proved.as_ref()),
+        side("plain Rust, BTreeSet", &plain),
+    ];
+    compare(plan, "record, a fix", count, sides)
+}
+
+/// The length of the text that both programs write, byte for byte; the program ends where they differ.
+fn same_text(proved: &Path, plain: &Path, input: &Path) -> usize {
+    let (first, second) = (text(proved, input), text(plain, input));
+    if first != second || first.is_empty() {
+        let (first, second) = (first.len(), second.len());
+        eprintln!("bench: record: {first} bytes by the proved program, {second} by the plain one, not the same");
+        std::process::exit(1);
+    }
+    first.len()
 }
 
 /// What a program writes for a flight.
 fn text(program: &Path, flight: &Path) -> Vec<u8> {
     let input = File::open(flight).expect("the flight's file");
     let words = ["0".to_string(), "0".to_string(), RESOLUTION.to_string()];
-    let output = Command::new(program).args(words).stdin(input).stderr(Stdio::null()).output().expect("record");
+    let output = Command::new(program)
+        .args(words)
+        .stdin(input)
+        .stderr(Stdio::null())
+        .output()
+        .expect("record");
     output.stdout
 }

@@ -41,7 +41,10 @@ impl Points {
         const ONE: i64 = 1_000_000_000_000_000_000;
         let mut points = Points::default();
         while points.fixes.len() < count {
-            let (longitude, z) = (random.between(-1_800_000_000, 1_799_999_999), random.between(-ONE, ONE));
+            let (longitude, z) = (
+                random.between(-1_800_000_000, 1_799_999_999),
+                random.between(-ONE, ONE),
+            );
             if keep(z) {
                 points.push(longitude, z);
             }
@@ -55,7 +58,11 @@ impl Points {
         self.z.push(sine);
         self.longitude.push(east);
         self.latitude.push(sine.asin());
-        self.phi.push(if east < 0.0 { east + std::f64::consts::TAU } else { east });
+        self.phi.push(if east < 0.0 {
+            east + std::f64::consts::TAU
+        } else {
+            east
+        });
     }
 }
 
@@ -67,7 +74,12 @@ pub fn code(random: &mut Random, resolution: u64) -> u64 {
 
 /// Codes of all resolutions alike.
 pub fn codes(random: &mut Random, count: usize) -> Vec<u64> {
-    (0..count).map(|_| { let resolution = random.below(16); code(random, resolution) }).collect()
+    (0..count)
+        .map(|_| {
+            let resolution = random.below(16);
+            code(random, resolution)
+        })
+        .collect()
 }
 
 /// Codes of a flight over cells of a resolution, rising, and its coverage text, as long as it can be up to `longest` bytes: straight

@@ -21,7 +21,14 @@ extern "C" {
     pub fn jgv_neighbour(n: u64, s: u64, code: u64, direction: u64) -> Code;
     pub fn jgv_coverage_check(text: *const u8, length: usize) -> Check;
     pub fn jgv_coverage_list(text: *const u8, length: usize, codes: *mut u64, room: usize) -> List;
-    pub fn jgv_coverage_write(n: u64, s: u64, codes: *const u64, count: usize, text: *mut u8, room: usize) -> Length;
+    pub fn jgv_coverage_write(
+        n: u64,
+        s: u64,
+        codes: *const u64,
+        count: usize,
+        text: *mut u8,
+        room: usize,
+    ) -> Length;
     pub fn jgv_coverage_ask(n: u64, s: u64, text: *const u8, length: usize, code: u64) -> Ask;
 }
 
@@ -35,5 +42,6 @@ pub type GroundNucleus = unsafe extern "C" fn(u64, u64, u64) -> Fix;
 pub type Neighbour = unsafe extern "C" fn(u64, u64, u64, u64) -> Code;
 pub type CoverageCheck = unsafe extern "C" fn(*const u8, usize) -> Check;
 pub type CoverageList = unsafe extern "C" fn(*const u8, usize, *mut u64, usize) -> List;
-pub type CoverageWrite = unsafe extern "C" fn(u64, u64, *const u64, usize, *mut u8, usize) -> Length;
+pub type CoverageWrite =
+    unsafe extern "C" fn(u64, u64, *const u64, usize, *mut u8, usize) -> Length;
 pub type CoverageAsk = unsafe extern "C" fn(u64, u64, *const u8, usize, u64) -> Ask;

@@ -18,7 +18,11 @@ use measure::Plan;
 use std::time::Duration;
 
 fn main() {
-    let mut plan = Plan { rounds: 9, least: Duration::from_millis(25), check: false };
+    let mut plan = Plan {
+        rounds: 9,
+        least: Duration::from_millis(25),
+        check: false,
+    };
     let mut seed = 20_261_116;
     let mut words = std::env::args().skip(1);
     while let Some(word) = words.next() {

@@ -14,7 +14,11 @@ pub struct Plan {
 impl Plan {
     /// A number of inputs, made small for `--check`.
     pub fn count(&self, full: usize) -> usize {
-        if self.check { full.min(20_000) } else { full }
+        if self.check {
+            full.min(20_000)
+        } else {
+            full
+        }
     }
 }
 
@@ -30,8 +34,18 @@ pub struct Side<'a> {
 
 /// The library's entry and the plain Rust of it, each by a pointer that the compiler knows nothing about: neither is inlined or made
 /// for some arguments, and both pay for the call.
-pub fn pair<'a, F: Copy + 'a>(goal: Option<f64>, library: F, plain: F, pass: impl Fn(F) -> u64 + Copy + 'a) -> Vec<Side<'a>> {
-    let side = |name, entry| Side { name, same: true, goal, pass: Box::new(move || pass(black_box(entry))) };
+pub fn pair<'a, F: Copy + 'a>(
+    goal: Option<f64>,
+    library: F,
+    plain: F,
+    pass: impl Fn(F) -> u64 + Copy + 'a,
+) -> Vec<Side<'a>> {
+    let side = |name, entry| Side {
+        name,
+        same: true,
+        goal,
+        pass: Box::new(move || pass(black_box(entry))),
+    };
     vec![side("library", library), side("plain Rust", plain)]
 }
 
@@ -49,7 +63,11 @@ pub fn median(numbers: &[f64]) -> f64 {
     let mut sorted = numbers.to_vec();
     sorted.sort_by(f64::total_cmp);
     let middle = sorted.len() / 2;
-    if sorted.len() % 2 == 1 { sorted[middle] } else { (sorted[middle - 1] + sorted[middle]) / 2.0 }
+    if sorted.len() % 2 == 1 {
+        sorted[middle]
+    } else {
+        (sorted[middle - 1] + sorted[middle]) / 2.0
+    }
 }
 
 /// The time and the number of passes that take `least`.
@@ -74,7 +92,9 @@ fn round(plan: Plan, sides: &mut [Side], items: usize) -> Vec<f64> {
             *sum = (sum.0 + taken, sum.1 + passes);
         }
     }
-    sums.iter().map(|&(taken, passes)| taken.as_nanos() as f64 / passes as f64 / items as f64).collect()
+    sums.iter()
+        .map(|&(taken, passes)| taken.as_nanos() as f64 / passes as f64 / items as f64)
+        .collect()
 }
 
 /// Compares the library, the first side, with the others. A side that should answer the same and does not ends the program.
@@ -91,7 +111,9 @@ pub fn compare(plan: Plan, work: &str, items: usize, mut sides: Vec<Side>) -> Ve
     if plan.check {
         return Vec::new();
     }
-    let rounds: Vec<Vec<f64>> = (0..plan.rounds).map(|_| round(plan, &mut sides, items)).collect();
+    let rounds: Vec<Vec<f64>> = (0..plan.rounds)
+        .map(|_| round(plan, &mut sides, items))
+        .collect();
     let of = |number: &dyn Fn(&Vec<f64>) -> f64| rounds.iter().map(number).collect::<Vec<f64>>();
     let row = |i: usize| Row {
         work: work.to_string(),

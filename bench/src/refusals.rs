@@ -45,50 +45,109 @@ fn numbers(random: &mut Random) {
     let (code, face, direction) = (any_code(random), random.below(7), random.below(9) / 2);
     let side = 1 << random.below(25);
     let (row, column) = (random.below(side), random.below(side));
-    let (longitude, z) = (random.between(-1_850_000_000, 1_850_000_000), random.between(-1_010_000_000_000_000_000, 1_010_000_000_000_000_000));
+    let (longitude, z) = (
+        random.between(-1_850_000_000, 1_850_000_000),
+        random.between(-1_010_000_000_000_000_000, 1_010_000_000_000_000_000),
+    );
     unsafe {
-        same("cell to code", jgv_cell_code(face, k, row, column), cell_code(face, k, row, column));
+        same(
+            "cell to code",
+            jgv_cell_code(face, k, row, column),
+            cell_code(face, k, row, column),
+        );
         same("code to cell", jgv_code_cell(code), code_cell(code));
-        same("fix to code", jgv_fix_code(n, s, k, longitude, z), fix_code(n, s, k, longitude, z));
-        same("ground nucleus", jgv_ground_nucleus(n, s, code), ground_nucleus(n, s, code));
-        same("neighbour", jgv_neighbour(n, s, code, direction), neighbour(n, s, code, direction));
-        // a hair from an edge: the middle of a border, and a unit beside it
-        let z = 1_000_000_000_000_000_000 - 37_037_037_037_037_037 / (1 + random.below(9) as i64) + random.between(-1, 1);
-        let longitude = -1_350_000_000 + 900_000_000 * random.between(0, 3) + random.between(-1, 1);
-        same("fix at an edge", jgv_fix_code(n, s, k, longitude, -z), fix_code(n, s, k, longitude, -z));
-        same("fix at an edge", jgv_fix_code(n, s, k, longitude, z), fix_code(n, s, k, longitude, z));
+        same(
+            "fix to code",
+            jgv_fix_code(n, s, k, longitude, z),
+            fix_code(n, s, k, longitude, z),
+        );
+        same(
+            "ground nucleus",
+            jgv_ground_nucleus(n, s, code),
+            ground_nucleus(n, s, code),
+        );
+        same(
+            "neighbour",
+            jgv_neighbour(n, s, code, direction),
+            neighbour(n, s, code, direction),
+        );
+    }
+    edges(random, n, s, k);
+}
+
+/// A hair from an edge of two cells: on the middle line of a triangle and a unit beside it.
+fn edges(random: &mut Random, n: u64, s: u64, k: u64) {
+    let ninth = 37_037_037_037_037_037 / (1 + random.below(9) as i64);
+    let height = 1_000_000_000_000_000_000 - ninth + random.between(-1, 1);
+    let longitude = -1_350_000_000 + 900_000_000 * random.between(0, 3) + random.between(-1, 1);
+    for z in [height, -height] {
+        let library = unsafe { jgv_fix_code(n, s, k, longitude, z) };
+        same("fix at an edge", library, fix_code(n, s, k, longitude, z));
     }
 }
 
 fn names(random: &mut Random) {
     let (code, room) = (any_code(random), random.below(18) as usize);
     let (mut library, mut plain) = ([7; 18], [7; 18]);
-    let lengths = unsafe { (jgv_code_name(code, library.as_mut_ptr(), room), code_name(code, plain.as_mut_ptr(), room)) };
+    let lengths = unsafe {
+        (
+            jgv_code_name(code, library.as_mut_ptr(), room),
+            code_name(code, plain.as_mut_ptr(), room),
+        )
+    };
     same("name", (lengths.0, library), (lengths.1, plain));
     if random.below(2) == 0 {
         library[random.below(18) as usize] = BYTES[random.below(BYTES.len() as u64) as usize];
     }
-    same("name to code", unsafe { jgv_name_code(library.as_ptr(), room) }, name_code(library.as_ptr(), room));
+    same(
+        "name to code",
+        unsafe { jgv_name_code(library.as_ptr(), room) },
+        name_code(library.as_ptr(), room),
+    );
 }
 
-fn texts(random: &mut Random) {
-    let resolution = 5 + random.below(11);
-    let (_, mut text) = swath(random, resolution, 300);
+/// Changes, adds or cuts at up to two places.
+fn spoil(random: &mut Random, text: &mut Vec<u8>) {
     for _ in 0..random.below(3) {
-        let (at, byte) = (random.below(text.len() as u64) as usize, BYTES[random.below(BYTES.len() as u64) as usize]);
+        let (at, byte) = (
+            random.below(text.len() as u64) as usize,
+            BYTES[random.below(BYTES.len() as u64) as usize],
+        );
         match random.below(3) {
             0 => text[at] = byte,
             1 => text.insert(at, byte),
             _ => text.truncate(at + 1),
         }
     }
-    let (at, length, n, room) = (text.as_ptr(), text.len(), random.below(5), random.below(400) as usize);
+}
+
+fn texts(random: &mut Random) {
+    let resolution = 5 + random.below(11);
+    let (_, mut text) = swath(random, resolution, 300);
+    spoil(random, &mut text);
+    let (at, length, n, room) = (
+        text.as_ptr(),
+        text.len(),
+        random.below(5),
+        random.below(400) as usize,
+    );
     let code = any_code(random);
     let (mut library, mut plain) = ([7; 400], [7; 400]);
     unsafe {
-        same("check", jgv_coverage_check(at, length), coverage_check(at, length));
-        same("ask", jgv_coverage_ask(n / 4, n / 3, at, length, code), coverage_ask(n / 4, n / 3, at, length, code));
-        let counts = (jgv_coverage_list(at, length, library.as_mut_ptr(), room), coverage_list(at, length, plain.as_mut_ptr(), room));
+        same(
+            "check",
+            jgv_coverage_check(at, length),
+            coverage_check(at, length),
+        );
+        same(
+            "ask",
+            jgv_coverage_ask(n / 4, n / 3, at, length, code),
+            coverage_ask(n / 4, n / 3, at, length, code),
+        );
+        let counts = (
+            jgv_coverage_list(at, length, library.as_mut_ptr(), room),
+            coverage_list(at, length, plain.as_mut_ptr(), room),
+        );
         same("list", (counts.0, library), (counts.1, plain));
     }
 }
@@ -104,7 +163,10 @@ fn lists(random: &mut Random) {
     let (mut library, mut plain) = ([7; 2_000], [7; 2_000]);
     let lengths = unsafe {
         let list = (codes.as_ptr(), codes.len());
-        (jgv_coverage_write(n, 1, list.0, list.1, library.as_mut_ptr(), room), coverage_write(n, 1, list.0, list.1, plain.as_mut_ptr(), room))
+        (
+            jgv_coverage_write(n, 1, list.0, list.1, library.as_mut_ptr(), room),
+            coverage_write(n, 1, list.0, list.1, plain.as_mut_ptr(), room),
+        )
     };
     same("write", (lengths.0, library), (lengths.1, plain));
 }

@@ -1,6 +1,6 @@
 //! The greatest stack depth of each entry: it runs on a painted stack, over many inputs, and the deepest byte that changed counts.
 
-use crate::inputs::{code, swath, Random};
+use crate::inputs::{code, swath, Points, Random};
 use crate::library::*;
 use crate::plain::coverage::coverage_list;
 use crate::plain::NINE;
@@ -27,7 +27,11 @@ impl Stack {
 
     fn depth(&self) -> usize {
         let top = (self.0.as_ptr() as usize + SIZE) & !15;
-        let touched = self.0.iter().position(|&byte| byte != PAINT).unwrap_or(SIZE);
+        let touched = self
+            .0
+            .iter()
+            .position(|&byte| byte != PAINT)
+            .unwrap_or(SIZE);
         top - (self.0.as_ptr() as usize + touched).min(top)
     }
 }
@@ -51,30 +55,42 @@ fn inputs(random: &mut Random, check: bool) -> Inputs {
     let count = if check { 2_000 } else { 100_000 };
     let mut codes: Vec<u64> = (0..count).map(|i| code(random, i % 16)).collect();
     codes.extend([u64::MAX, 19, 1 << 60]);
-    let points = (0..count).map(|_| (random.between(-1_800_000_000, 1_799_999_999), random.between(-1_000_000_000_000_000_000, 1_000_000_000_000_000_000)));
-    let points = points.collect();
-    let deepest: String = "(8".repeat(15) + &")".repeat(15);
-    let mut texts = vec![b"CVR\0\x0100NOPQRS".to_vec()];
-    for letters in ["N", "NOPQRS"] {
-        let body: String = letters.chars().map(|letter| format!("{letter}{deepest}")).collect();
-        texts.push([b"CVR\0\x0100", body.as_bytes()].concat());
-    }
-    let cut = texts[2][..texts[2].len() - 1].to_vec();
-    texts.push(cut);
-    let mut lists = vec![Vec::new()];
+    let points = Points::new(random, count as usize, |_| true).fixes;
+    let (mut texts, mut lists) = (deep_texts(), vec![Vec::new()]);
     for resolution in [9, 12, 15] {
         let (list, text) = swath(random, resolution, if check { 4_096 } else { 65_536 });
         lists.push(list);
         texts.push(text);
     }
-    // eight whole nodes before each list, through all levels
-    let fullest = [b"CVR\0\x0100N", "(012345678".repeat(14).as_bytes(), b"(01234567", ")".repeat(15).as_bytes()].concat();
-    lists.push(listed(&fullest));
-    texts.push(fullest);
+    lists.push(listed(&texts[0]));
     // siblings that merge through five levels, and cells that share no list
     lists.push((0..NINE[5]).map(|i| (i << 4) | 15).collect());
-    lists.push((0..1_000).map(|i| (i * (NINE[13] / 100) << 4) | 15).collect());
-    Inputs { codes, points, texts, lists }
+    let apart = NINE[13] / 100;
+    lists.push((0..1_000).map(|i| ((i * apart) << 4) | 15).collect());
+    Inputs {
+        codes,
+        points,
+        texts,
+        lists,
+    }
+}
+
+/// The fullest text, with eight whole nodes before each list, then one node in each, in six faces; and both cut and spoilt.
+fn deep_texts() -> Vec<Vec<u8>> {
+    let close = ")".repeat(15);
+    let fullest = format!("{}(01234567{close}", "(012345678".repeat(14));
+    let leanest = format!("{}{close}", "(8".repeat(15));
+    let mut texts = Vec::new();
+    for list in [fullest, leanest] {
+        let body: String = ["N", "O", "P", "Q", "R", "S"]
+            .map(|face| format!("{face}{list}"))
+            .concat();
+        let text = [b"CVR\0\x0100", body.as_bytes()].concat();
+        let cut = text[..text.len() - 15].to_vec();
+        let spoilt = [&cut[..], b"9"].concat();
+        texts.extend([text, cut, spoilt]);
+    }
+    texts
 }
 
 fn listed(text: &[u8]) -> Vec<u64> {
@@ -92,7 +108,10 @@ pub fn depths(random: &mut Random, check: bool) -> Vec<(&'static str, usize)> {
     let inputs = inputs(random, check);
     let mut depths = numbers(&inputs);
     depths.extend(texts(&inputs));
-    depths.into_iter().map(|(name, depth)| (name, depth.saturating_sub(own))).collect()
+    depths
+        .into_iter()
+        .map(|(name, depth)| (name, depth.saturating_sub(own)))
+        .collect()
 }
 
 macro_rules! depths {

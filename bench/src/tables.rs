@@ -6,14 +6,19 @@ use crate::measure::{median, Row};
 const DEPTH: usize = 8_192;
 
 pub fn print(rows: &[Row], depths: &[(&str, usize)]) {
-    println!("| work | baseline | library, ns | baseline, ns | ratio | least to greatest | goal | |");
+    println!(
+        "| work | baseline | library, ns | baseline, ns | ratio | least to greatest | goal | |"
+    );
     println!("|---|---|---:|---:|---:|---:|---:|---|");
     rows.iter().for_each(print_row);
     print_growth(rows);
     println!("\n| entry | greatest stack depth, bytes | goal | |");
     println!("|---|---:|---:|---|");
     for (entry, depth) in depths {
-        println!("| `{entry}` | {depth} | {DEPTH} | {} |", said(*depth as f64, DEPTH as f64));
+        println!(
+            "| `{entry}` | {depth} | {DEPTH} | {} |",
+            said(*depth as f64, DEPTH as f64)
+        );
     }
 }
 
@@ -31,20 +36,34 @@ fn print_row(row: &Row) {
 
 /// A goal is judged on the median as it is printed.
 fn said(value: f64, goal: f64) -> String {
-    if value < goal + 0.005 { "met".to_string() } else { format!("**missed**, {:.2} times the goal", value / goal) }
+    if value < goal + 0.005 {
+        "met".to_string()
+    } else {
+        format!("**missed**, {:.2} times the goal", value / goal)
+    }
 }
 
 /// How the time for a byte of a text changes from 1 KiB to 64 KiB: about 1 where the whole time is linear.
 fn print_growth(rows: &[Row]) {
-    let find = |work: &str, size| rows.iter().find(|row| row.work == format!("{work} {size} KiB, a byte"));
+    let find = |work: &str, size| {
+        rows.iter()
+            .find(|row| row.work == format!("{work} {size} KiB, a byte"))
+    };
     let grown: Vec<String> = ["check", "list", "ask", "write"]
         .iter()
         .filter_map(|work| {
             let (small, large) = (find(work, 1)?, find(work, 64)?);
-            Some(format!("{work} {:.2} (plain Rust {:.2})", large.library / small.library, large.other / small.other))
+            Some(format!(
+                "{work} {:.2} (plain Rust {:.2})",
+                large.library / small.library,
+                large.other / small.other
+            ))
         })
         .collect();
     if !grown.is_empty() {
-        println!("\nTime for a byte at 64 KiB over that at 1 KiB: {}.", grown.join(", "));
+        println!(
+            "\nTime for a byte at 64 KiB over that at 1 KiB: {}.",
+            grown.join(", ")
+        );
     }
 }

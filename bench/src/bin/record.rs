@@ -15,15 +15,25 @@ use std::collections::BTreeSet;
 use std::io::{Read, Write};
 
 fn main() {
-    let numbers: Vec<u64> = std::env::args().skip(1).map_while(|word| word.parse().ok()).collect();
+    let numbers: Vec<u64> = std::env::args()
+        .skip(1)
+        .map_while(|word| word.parse().ok())
+        .collect();
     let [n @ 0..=3, s @ 0..=3, resolution @ 0..=15] = numbers[..] else {
         eprintln!("usage: record n s resolution");
         std::process::exit(2);
     };
     let mut flight = Vec::new();
-    std::io::stdin().read_to_end(&mut flight).expect("standard input");
+    std::io::stdin()
+        .read_to_end(&mut flight)
+        .expect("standard input");
     let mut cells = BTreeSet::new();
-    for (i, line) in flight.strip_suffix(b"\n").unwrap_or(&flight).split(|&byte| byte == b'\n').enumerate() {
+    for (i, line) in flight
+        .strip_suffix(b"\n")
+        .unwrap_or(&flight)
+        .split(|&byte| byte == b'\n')
+        .enumerate()
+    {
         let Some((longitude, z)) = fix(line) else {
             eprintln!("line {}: no fix", i + 1);
             continue;

@@ -41,7 +41,12 @@ pub fn cell_of(code: u64) -> Option<Place> {
         column += digit % 3 * weight;
         weight *= 3;
     }
-    Some(Place { face, resolution, row, column })
+    Some(Place {
+        face,
+        resolution,
+        row,
+        column,
+    })
 }
 
 #[inline(never)]
@@ -56,13 +61,32 @@ pub extern "C" fn cell_code(face: u64, resolution: u64, row: u64, column: u64) -
     if row >= m || column >= m {
         return Code::refused(3);
     }
-    Code { refusal: 0, code: code_of(Place { face, resolution, row, column }) }
+    Code {
+        refusal: 0,
+        code: code_of(Place {
+            face,
+            resolution,
+            row,
+            column,
+        }),
+    }
 }
 
 #[inline(never)]
 pub extern "C" fn code_cell(code: u64) -> Cell {
     match cell_of(code) {
-        Some(Place { face, resolution, row, column }) => Cell { refusal: 0, face, resolution, row, column },
+        Some(Place {
+            face,
+            resolution,
+            row,
+            column,
+        }) => Cell {
+            refusal: 0,
+            face,
+            resolution,
+            row,
+            column,
+        },
         None => Cell::refused(4),
     }
 }
@@ -73,7 +97,9 @@ pub extern "C" fn name_code(name: *const u8, length: usize) -> Code {
     if name.len() > 16 {
         return Code::refused(2);
     }
-    let Some((&letter, digits)) = name.split_first() else { return Code::refused(1) };
+    let Some((&letter, digits)) = name.split_first() else {
+        return Code::refused(1);
+    };
     if !(b'N'..=b'S').contains(&letter) {
         return Code::refused(1);
     }
@@ -85,12 +111,17 @@ pub extern "C" fn name_code(name: *const u8, length: usize) -> Code {
         }
         path = path * 9 + digit as u64;
     }
-    Code { refusal: 0, code: ((path * NINE[15 - digits.len()]) << 4) | digits.len() as u64 }
+    Code {
+        refusal: 0,
+        code: ((path * NINE[15 - digits.len()]) << 4) | digits.len() as u64,
+    }
 }
 
 #[inline(never)]
 pub extern "C" fn code_name(code: u64, name: *mut u8, room: usize) -> Length {
-    let Some((face, mut path, resolution)) = parts(code) else { return Length::refused(4) };
+    let Some((face, mut path, resolution)) = parts(code) else {
+        return Length::refused(4);
+    };
     let length = resolution as usize + 1;
     if room < length {
         return Length::refused(8);
@@ -101,5 +132,8 @@ pub extern "C" fn code_name(code: u64, name: *mut u8, room: usize) -> Length {
         path /= 9;
     }
     name[0] = b'N' + face as u8;
-    Length { refusal: 0, length: length as u64 }
+    Length {
+        refusal: 0,
+        length: length as u64,
+    }
 }

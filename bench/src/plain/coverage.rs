@@ -16,6 +16,16 @@ struct Level {
     start: u64,
 }
 
+impl Level {
+    fn new(start: u64) -> Level {
+        Level {
+            next: 0,
+            whole: 0,
+            start,
+        }
+    }
+}
+
 /// Refusal 13, 10 or 9 of the heading, with the place.
 fn heading(text: &[u8]) -> Result<(), (u64, u64)> {
     if text.len() > LONGEST {
@@ -59,7 +69,7 @@ fn read(text: &[u8], mut visit: impl FnMut(usize, u64)) -> Result<(), (u64, u64)
         let start = level.start + digit as u64 * NINE[15 - depth];
         if depth < 15 && text.get(at + 1) == Some(&b'(') {
             depth += 1;
-            levels[depth] = Level { next: 0, whole: 0, start };
+            levels[depth] = Level::new(start);
             at += 2;
         } else {
             level.whole += 1;
@@ -70,7 +80,10 @@ fn read(text: &[u8], mut visit: impl FnMut(usize, u64)) -> Result<(), (u64, u64)
             at += 1;
         }
     }
-    if depth > 0 { Err((9, at as u64)) } else { Ok(()) }
+    match depth {
+        0 => Ok(()),
+        _ => Err((9, at as u64)),
+    }
 }
 
 /// The same walk over a text that is known to be accepted.
@@ -100,8 +113,16 @@ fn checked(text: &[u8]) -> Check {
         cells += 1;
         size += NINE[15 - depth];
     }) {
-        Ok(()) => Check { refusal: 0, place: 0, cells, size },
-        Err((refusal, place)) => Check { place, ..Check::refused(refusal) },
+        Ok(()) => Check {
+            refusal: 0,
+            place: 0,
+            cells,
+            size,
+        },
+        Err((refusal, place)) => Check {
+            place,
+            ..Check::refused(refusal)
+        },
     }
 }
 
@@ -111,22 +132,35 @@ pub extern "C" fn coverage_check(text: *const u8, length: usize) -> Check {
 }
 
 #[inline(never)]
-pub extern "C" fn coverage_list(text: *const u8, length: usize, codes: *mut u64, room: usize) -> List {
+pub extern "C" fn coverage_list(
+    text: *const u8,
+    length: usize,
+    codes: *mut u64,
+    room: usize,
+) -> List {
     let text = unsafe { std::slice::from_raw_parts(text, length) };
     let check = checked(text);
     if check.refusal != 0 {
-        return List { place: check.place, ..List::refused(check.refusal) };
+        return List {
+            place: check.place,
+            ..List::refused(check.refusal)
+        };
     }
     if check.cells > room as u64 {
         return List::refused(8);
     }
-    let mut codes = unsafe { std::slice::from_raw_parts_mut(codes, check.cells as usize) }.iter_mut();
+    let mut codes =
+        unsafe { std::slice::from_raw_parts_mut(codes, check.cells as usize) }.iter_mut();
     walk(text, |depth, start| {
         if let Some(code) = codes.next() {
             *code = (start << 4) | depth as u64;
         }
     });
-    List { refusal: 0, place: 0, count: check.cells }
+    List {
+        refusal: 0,
+        place: 0,
+        count: check.cells,
+    }
 }
 
 /// No list holds nine whole nodes, so a cell is covered exactly where one whole cell holds it.
@@ -145,8 +179,15 @@ pub extern "C" fn coverage_ask(n: u64, s: u64, text: *const u8, length: usize, c
         covered |= start <= first && first + size <= start + NINE[15 - depth];
     });
     match read {
-        Err((refusal, place)) => Ask { place, ..Ask::refused(refusal) },
+        Err((refusal, place)) => Ask {
+            place,
+            ..Ask::refused(refusal)
+        },
         Ok(()) if text[5..HEADING] != [b'0' + n as u8, b'0' + s as u8] => Ask::refused(14),
-        Ok(()) => Ask { refusal: 0, place: 0, covered: covered as u64 },
+        Ok(()) => Ask {
+            refusal: 0,
+            place: 0,
+            covered: covered as u64,
+        },
     }
 }

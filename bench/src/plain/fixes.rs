@@ -29,14 +29,22 @@ pub extern "C" fn fix_code(n: u64, s: u64, resolution: u64, longitude: i64, z: i
     } else {
         cap(5, (c + 4 - s) % 4, a, resolution, z.unsigned_abs())
     };
-    Code { refusal: 0, code: code_of(place) }
+    Code {
+        refusal: 0,
+        code: code_of(place),
+    }
 }
 
 fn belt(c: u64, a: u64, resolution: u64, z: i64) -> Place {
     let m = THREE[resolution as usize];
     let down = (2 * ONE as i64 - 3 * z) as u64;
     let row = (m as u128 * down as u128 / (4 * ONE) as u128) as u64;
-    Place { face: c + 1, resolution, row, column: a * m / QUARTER }
+    Place {
+        face: c + 1,
+        resolution,
+        row,
+        column: a * m / QUARTER,
+    }
 }
 
 /// Both coordinates are whole multiples of h / QUARTER: t h and h / 2, turned. South is north with q mirrored.
@@ -53,7 +61,12 @@ fn cap(face: u64, turns: u64, a: u64, resolution: u64, height: u64) -> Place {
         _ => (-out, -along),
     };
     let q = if face == 0 { q } else { -q };
-    Place { face, resolution, row: floor(m, -q, square, root), column: floor(m, p, square, root) }
+    Place {
+        face,
+        resolution,
+        row: floor(m, -q, square, root),
+        column: floor(m, p, square, root),
+    }
 }
 
 /// floor(m (1/2 + b sqrt(square) / (QUARTER 10^9))), where root is the whole root: the root and the root and one nearly always
@@ -100,7 +113,9 @@ pub extern "C" fn ground_nucleus(n: u64, s: u64, code: u64) -> Fix {
     if n > 3 || s > 3 {
         return Fix::refused(5);
     }
-    let Some(cell) = cell_of(code) else { return Fix::refused(4) };
+    let Some(cell) = cell_of(code) else {
+        return Fix::refused(4);
+    };
     match cell.face {
         0 => cap_nucleus(cell, n, false),
         5 => cap_nucleus(cell, s, true),
@@ -114,8 +129,16 @@ fn belt_nucleus(cell: Place) -> Fix {
     // z is 2 x 10^18 (m - 1 - 2 row) / (3 m)
     let up = (m - 1) as i64 - 2 * cell.row as i64;
     let size = 2 * ONE as u128 * up.unsigned_abs() as u128;
-    let z = if up >= 0 { (size / (3 * m) as u128) as i64 } else { -(size.div_ceil((3 * m) as u128) as i64) };
-    Fix { refusal: 0, longitude: west as i64 - 1_800_000_000, z }
+    let z = if up >= 0 {
+        (size / (3 * m) as u128) as i64
+    } else {
+        -(size.div_ceil((3 * m) as u128) as i64)
+    };
+    Fix {
+        refusal: 0,
+        longitude: west as i64 - 1_800_000_000,
+        z,
+    }
 }
 
 /// The middle is (p, q) / 2m from the pole; the larger of |p|, |q| is m h and the other says t.
@@ -133,11 +156,23 @@ fn cap_nucleus(cell: Place, first: u64, south: bool) -> Fix {
         (3, -q, -p)
     } else {
         let pole = ONE as i64;
-        return Fix { refusal: 0, longitude: -1_800_000_000, z: if south { -pole } else { pole } };
+        return Fix {
+            refusal: 0,
+            longitude: -1_800_000_000,
+            z: if south { -pole } else { pole },
+        };
     };
     let east = (first + turns) % 4 * QUARTER + QUARTER * (along + out) as u64 / (2 * out) as u64;
     let whole = 3 * (m * m) as u64;
     let height = ONE as u128 * (whole - (out * out) as u64) as u128;
-    let z = if south { -(height.div_ceil(whole as u128) as i64) } else { (height / whole as u128) as i64 };
-    Fix { refusal: 0, longitude: east as i64 - 1_800_000_000, z }
+    let z = if south {
+        -(height.div_ceil(whole as u128) as i64)
+    } else {
+        (height / whole as u128) as i64
+    };
+    Fix {
+        refusal: 0,
+        longitude: east as i64 - 1_800_000_000,
+        z,
+    }
 }

@@ -13,7 +13,10 @@ pub extern "C" fn neighbour(n: u64, s: u64, code: u64, direction: u64) -> Code {
         return Code::refused(3);
     }
     match cell_of(code) {
-        Some(cell) => Code { refusal: 0, code: code_of(step(n, s, cell, direction)) },
+        Some(cell) => Code {
+            refusal: 0,
+            code: code_of(step(n, s, cell, direction)),
+        },
         None => Code::refused(4),
     }
 }
@@ -22,17 +25,34 @@ fn step(n: u64, s: u64, cell: Place, direction: u64) -> Place {
     let last = THREE[cell.resolution as usize] - 1;
     let (row, column) = (cell.row, cell.column);
     match direction {
-        0 if row > 0 => Place { row: row - 1, ..cell },
-        1 if column < last => Place { column: column + 1, ..cell },
-        2 if row < last => Place { row: row + 1, ..cell },
-        3 if column > 0 => Place { column: column - 1, ..cell },
+        0 if row > 0 => Place {
+            row: row - 1,
+            ..cell
+        },
+        1 if column < last => Place {
+            column: column + 1,
+            ..cell
+        },
+        2 if row < last => Place {
+            row: row + 1,
+            ..cell
+        },
+        3 if column > 0 => Place {
+            column: column - 1,
+            ..cell
+        },
         _ => across(n, s, cell, direction, last),
     }
 }
 
 fn across(n: u64, s: u64, cell: Place, direction: u64, last: u64) -> Place {
     let (row, column) = (cell.row, cell.column);
-    let to = |face, row, column| Place { face, row, column, ..cell };
+    let to = |face, row, column| Place {
+        face,
+        row,
+        column,
+        ..cell
+    };
     match (cell.face, direction) {
         // the edges down, right, up and left of N meet turns 0 to 3
         (0, 2) => to(n + 1, 0, column),

@@ -15,7 +15,10 @@ fn refusal(codes: &[u64]) -> u64 {
     if codes.iter().any(|&code| parts(code).is_none()) {
         return 4;
     }
-    if codes.windows(2).any(|pair| pair[0] >= pair[1] || range(pair[0]).1 > range(pair[1]).0) {
+    if codes
+        .windows(2)
+        .any(|pair| pair[0] >= pair[1] || range(pair[0]).1 > range(pair[1]).0)
+    {
         return 11;
     }
     0
@@ -40,16 +43,27 @@ fn full_parent(stack: &[u64]) -> Option<u64> {
     let resolution = nine[8] & 15;
     let unit = NINE[15 - resolution as usize];
     let first = nine[0] >> 4;
-    if resolution == 0 || nine[0] != nine[8].wrapping_sub(8 * unit << 4) || first % (9 * unit) != 0 {
+    if resolution == 0 || nine[0] != nine[8].wrapping_sub(8 * unit << 4) || first % (9 * unit) != 0
+    {
         return None;
     }
-    let siblings = nine.iter().zip(0..).all(|(&code, i)| code == ((first + i * unit) << 4) | resolution);
+    let siblings = nine
+        .iter()
+        .zip(0..)
+        .all(|(&code, i)| code == ((first + i * unit) << 4) | resolution);
     siblings.then(|| (first << 4) | (resolution - 1))
 }
 
 /// Writes the nodes of a resolution from `start` to `end` that hold some of the merged cells; `byte` is the first one's. Answers the
 /// cells that are left.
-fn put<'a>(mut cells: &'a [u64], mut byte: u8, mut start: u64, end: u64, resolution: u64, text: &mut Vec<u8>) -> &'a [u64] {
+fn put<'a>(
+    mut cells: &'a [u64],
+    mut byte: u8,
+    mut start: u64,
+    end: u64,
+    resolution: u64,
+    text: &mut Vec<u8>,
+) -> &'a [u64] {
     let size = NINE[15 - resolution as usize];
     while start < end {
         if let Some(&code) = cells.first().filter(|&&code| code >> 4 < start + size) {
@@ -83,7 +97,14 @@ pub fn write(n: u64, s: u64, codes: &[u64]) -> Vec<u8> {
 }
 
 #[inline(never)]
-pub extern "C" fn coverage_write(n: u64, s: u64, codes: *const u64, count: usize, text: *mut u8, room: usize) -> Length {
+pub extern "C" fn coverage_write(
+    n: u64,
+    s: u64,
+    codes: *const u64,
+    count: usize,
+    text: *mut u8,
+    room: usize,
+) -> Length {
     let codes = unsafe { std::slice::from_raw_parts(codes, count) };
     if n > 3 || s > 3 {
         return Length::refused(5);
@@ -100,5 +121,8 @@ pub extern "C" fn coverage_write(n: u64, s: u64, codes: *const u64, count: usize
         return Length::refused(8);
     }
     unsafe { std::slice::from_raw_parts_mut(text, written.len()) }.copy_from_slice(&written);
-    Length { refusal: 0, length: written.len() as u64 }
+    Length {
+        refusal: 0,
+        length: written.len() as u64,
+    }
 }
