@@ -3,7 +3,7 @@
 use crate::inputs::{code, codes, Random};
 use crate::library::{jgv_cell_code, jgv_code_cell, jgv_code_name, jgv_name_code, jgv_neighbour};
 use crate::library::{CellCode, CodeCell, CodeName, NameCode, Neighbour};
-use crate::measure::{compare, pair, Plan, Row};
+use crate::measure::{compare, pair, Plan, Row, Work};
 use crate::plain::codes::{cell_code, code_cell, code_name, name_code};
 use crate::plain::neighbour::neighbour;
 
@@ -20,7 +20,7 @@ pub fn run(plan: Plan, random: &mut Random) -> Vec<Row> {
     rows.extend(neighbours(
         plan,
         "neighbours, all directions",
-        &mixed[..count / 10],
+        &mixed[..plan.count(1_000_000)],
         Some(1.1),
     ));
     rows.extend(neighbours(
@@ -32,19 +32,34 @@ pub fn run(plan: Plan, random: &mut Random) -> Vec<Row> {
     rows
 }
 
+/// Codes in a turn.
+const PART: usize = 20_000;
+
+fn part(codes: &[u64], turn: usize) -> &[u64] {
+    &codes[turn * PART..][..PART]
+}
+
+fn in_parts<'a>(name: &'a str, codes: &[u64], answers: usize) -> Work<'a> {
+    Work {
+        name,
+        items: PART * answers,
+        turns: codes.len() / PART,
+    }
+}
+
 fn cells(plan: Plan, work: &str, codes: &[u64], goal: Option<f64>) -> Vec<Row> {
     let (library, plain) = (
         (jgv_code_cell as CodeCell, jgv_cell_code as CellCode),
         (code_cell as CodeCell, cell_code as CellCode),
     );
-    let sides = pair(goal, library, plain, |(out, back)| {
-        codes.iter().fold(0, |sum, &code| {
+    let sides = pair(goal, library, plain, |(out, back), turn| {
+        part(codes, turn).iter().fold(0, |sum, &code| {
             let cell = unsafe { out(code) };
             let again = unsafe { back(cell.face, cell.resolution, cell.row, cell.column) };
             again.fold(cell.fold(sum))
         })
     });
-    compare(plan, work, codes.len(), sides)
+    compare(plan, in_parts(work, codes, 1), sides)
 }
 
 fn names(plan: Plan, work: &str, codes: &[u64], goal: Option<f64>) -> Vec<Row> {
@@ -52,25 +67,28 @@ fn names(plan: Plan, work: &str, codes: &[u64], goal: Option<f64>) -> Vec<Row> {
         (jgv_code_name as CodeName, jgv_name_code as NameCode),
         (code_name as CodeName, name_code as NameCode),
     );
-    let sides = pair(goal, library, plain, |(out, back)| {
+    let sides = pair(goal, library, plain, |(out, back), turn| {
         let mut name = [0; 16];
-        codes.iter().fold(0, |sum, &code| {
+        part(codes, turn).iter().fold(0, |sum, &code| {
             let written = unsafe { out(code, name.as_mut_ptr(), name.len()) };
             let again = unsafe { back(name.as_ptr(), written.length as usize) };
             again.fold(written.fold(sum))
         })
     });
-    compare(plan, work, codes.len(), sides)
+    compare(plan, in_parts(work, codes, 1), sides)
 }
 
 /// All four directions, in the arrangement that the code's place in the list says.
 fn neighbours(plan: Plan, work: &str, codes: &[u64], goal: Option<f64>) -> Vec<Row> {
-    let sides = pair::<Neighbour>(goal, jgv_neighbour, neighbour, |step| {
-        codes.iter().zip(0..).fold(0, |sum, (&code, i)| {
-            (0..4).fold(sum, |sum, direction| {
-                unsafe { step(i & 3, i >> 2 & 3, code, direction) }.fold(sum)
+    let sides = pair::<Neighbour>(goal, jgv_neighbour, neighbour, |step, turn| {
+        part(codes, turn)
+            .iter()
+            .zip(0..)
+            .fold(0, |sum, (&code, i)| {
+                (0..4).fold(sum, |sum, direction| {
+                    unsafe { step(i & 3, i >> 2 & 3, code, direction) }.fold(sum)
+                })
             })
-        })
     });
-    compare(plan, work, codes.len() * 4, sides)
+    compare(plan, in_parts(work, codes, 4), sides)
 }

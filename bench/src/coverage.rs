@@ -3,7 +3,7 @@
 use crate::inputs::{code, swath, Random};
 use crate::library::{jgv_coverage_ask, jgv_coverage_check, jgv_coverage_list, jgv_coverage_write};
 use crate::library::{CoverageAsk, CoverageCheck, CoverageList, CoverageWrite};
-use crate::measure::{compare, pair, Plan, Row};
+use crate::measure::{compare, pair, Plan, Row, Work};
 use crate::plain::coverage::{coverage_ask, coverage_check, coverage_list};
 use crate::plain::writing::coverage_write;
 use std::cell::RefCell;
@@ -52,20 +52,16 @@ fn text(random: &mut Random, size: usize) -> Text {
 }
 
 fn check(plan: Plan, at: &Text) -> Vec<Row> {
-    let sides = pair::<CoverageCheck>(GOAL, jgv_coverage_check, coverage_check, |check| {
+    let sides = pair::<CoverageCheck>(GOAL, jgv_coverage_check, coverage_check, |check, _| {
         unsafe { check(at.text.as_ptr(), at.text.len()) }.fold(0)
     });
-    compare(
-        plan,
-        &format!("check {} KiB, a byte", at.size),
-        at.text.len(),
-        sides,
-    )
+    let name = format!("check {} KiB, a byte", at.size);
+    compare(plan, Work::new(&name, at.text.len()), sides)
 }
 
 fn list(plan: Plan, at: &Text) -> Vec<Row> {
     let codes = RefCell::new(vec![0; at.text.len()]);
-    let pass = |list: CoverageList| {
+    let pass = |list: CoverageList, _| {
         let mut codes = codes.borrow_mut();
         let answer = unsafe {
             list(
@@ -80,36 +76,32 @@ fn list(plan: Plan, at: &Text) -> Vec<Row> {
     let mut all = Vec::new();
     for entry in [jgv_coverage_list, coverage_list as CoverageList] {
         codes.borrow_mut().fill(0);
-        pass(entry);
+        pass(entry, 0);
         all.push(codes.borrow().clone());
     }
     assert!(all[0] == all[1], "the lists differ");
     let sides = pair::<CoverageList>(GOAL, jgv_coverage_list, coverage_list, pass);
-    compare(
-        plan,
-        &format!("list {} KiB, a byte", at.size),
-        at.text.len(),
-        sides,
-    )
+    let name = format!("list {} KiB, a byte", at.size);
+    compare(plan, Work::new(&name, at.text.len()), sides)
 }
 
 fn ask(plan: Plan, at: &Text) -> Vec<Row> {
-    let sides = pair::<CoverageAsk>(GOAL, jgv_coverage_ask, coverage_ask, |ask| {
+    let sides = pair::<CoverageAsk>(GOAL, jgv_coverage_ask, coverage_ask, |ask, _| {
         at.asked.iter().fold(0, |sum, &code| {
             unsafe { ask(0, 0, at.text.as_ptr(), at.text.len(), code) }.fold(sum)
         })
     });
+    let name = format!("ask {} KiB, a byte", at.size);
     compare(
         plan,
-        &format!("ask {} KiB, a byte", at.size),
-        at.text.len() * at.asked.len(),
+        Work::new(&name, at.text.len() * at.asked.len()),
         sides,
     )
 }
 
 fn write(plan: Plan, at: &Text) -> Vec<Row> {
     let room = RefCell::new(vec![0; at.text.len()]);
-    let sides = pair::<CoverageWrite>(GOAL, jgv_coverage_write, coverage_write, |write| {
+    let sides = pair::<CoverageWrite>(GOAL, jgv_coverage_write, coverage_write, |write, _| {
         let mut room = room.borrow_mut();
         let answer = unsafe {
             write(
@@ -123,10 +115,6 @@ fn write(plan: Plan, at: &Text) -> Vec<Row> {
         };
         answer.fold((room[..answer.length as usize] == at.text) as u64)
     });
-    compare(
-        plan,
-        &format!("write {} KiB, a byte", at.size),
-        at.text.len(),
-        sides,
-    )
+    let name = format!("write {} KiB, a byte", at.size);
+    compare(plan, Work::new(&name, at.text.len()), sides)
 }

@@ -2,7 +2,7 @@
 
 use crate::inputs::{codes, Points, Random};
 use crate::library::{jgv_fix_code, jgv_ground_nucleus, FixCode, GroundNucleus};
-use crate::measure::{compare, pair, Plan, Row, Side};
+use crate::measure::{compare, pair, Plan, Row, Side, Work};
 use crate::plain::fixes::{fix_code, ground_nucleus};
 
 #[cfg(any(healpix, proj, s2))]
@@ -32,7 +32,7 @@ pub fn run(plan: Plan, random: &mut Random) -> Vec<Row> {
         ("only the caps", false, |z| z.abs() > BELT),
     ] {
         let points = Points::new(random, count, keep);
-        rows.extend(compare(plan, work, count, sides(&points, goals)));
+        rows.extend(compare(plan, Work::new(work, count), sides(&points, goals)));
     }
     rows.extend(nucleus(plan, random, count));
     rows
@@ -40,7 +40,7 @@ pub fn run(plan: Plan, random: &mut Random) -> Vec<Row> {
 
 fn sides(points: &Points, goals: bool) -> Vec<Side<'_>> {
     let goal = |ratio: f64| goals.then_some(ratio);
-    let mut sides = pair::<FixCode>(goal(1.1), jgv_fix_code, fix_code, |entry| {
+    let mut sides = pair::<FixCode>(goal(1.1), jgv_fix_code, fix_code, |entry, _| {
         points.fixes.iter().fold(0, |sum, &(longitude, z)| {
             unsafe { entry(0, 0, 15, longitude, z) }.fold(sum)
         })
@@ -53,7 +53,7 @@ fn sides(points: &Points, goals: bool) -> Vec<Side<'_>> {
 fn others<'a>(points: &'a Points, goal: impl Fn(f64) -> Option<f64>, sides: &mut Vec<Side<'a>>) {
     let count = points.fixes.len();
     #[cfg(any(healpix, proj, s2))]
-    let mut add = |name, ratio, pass: Box<dyn FnMut() -> u64 + 'a>| {
+    let mut add = |name, ratio, pass: Box<dyn FnMut(usize) -> u64 + 'a>| {
         sides.push(Side {
             name,
             same: false,
@@ -65,7 +65,7 @@ fn others<'a>(points: &'a Points, goal: impl Fn(f64) -> Option<f64>, sides: &mut
     add(
         "HEALPix `zphi2pix`",
         1.3,
-        Box::new(move || unsafe {
+        Box::new(move |_| unsafe {
             shims::bench_healpix(points.z.as_ptr(), points.phi.as_ptr(), count)
         }),
     );
@@ -73,7 +73,7 @@ fn others<'a>(points: &'a Points, goal: impl Fn(f64) -> Option<f64>, sides: &mut
     add(
         "PROJ `rhealpix`",
         0.7,
-        Box::new(move || unsafe {
+        Box::new(move |_| unsafe {
             shims::bench_proj(points.longitude.as_ptr(), points.latitude.as_ptr(), count)
         }),
     );
@@ -81,7 +81,7 @@ fn others<'a>(points: &'a Points, goal: impl Fn(f64) -> Option<f64>, sides: &mut
     add(
         "S2 leaf cell",
         0.4,
-        Box::new(move || unsafe {
+        Box::new(move |_| unsafe {
             shims::bench_s2(points.longitude.as_ptr(), points.latitude.as_ptr(), count)
         }),
     );
@@ -89,10 +89,14 @@ fn others<'a>(points: &'a Points, goal: impl Fn(f64) -> Option<f64>, sides: &mut
 
 fn nucleus(plan: Plan, random: &mut Random, count: usize) -> Vec<Row> {
     let codes = codes(random, count);
-    let sides = pair::<GroundNucleus>(Some(1.1), jgv_ground_nucleus, ground_nucleus, |entry| {
+    let sides = pair::<GroundNucleus>(Some(1.1), jgv_ground_nucleus, ground_nucleus, |entry, _| {
         codes
             .iter()
             .fold(0, |sum, &code| unsafe { entry(0, 0, code) }.fold(sum))
     });
-    compare(plan, "ground nucleus, all resolutions", count, sides)
+    compare(
+        plan,
+        Work::new("ground nucleus, all resolutions", count),
+        sides,
+    )
 }

@@ -1,7 +1,7 @@
 //! `record` on a flight of 100,000 fixes, as whole processes: the proved program beside bench/src/bin/record.rs.
 
 use crate::inputs::{flight, Random};
-use crate::measure::{compare, Plan, Row, Side};
+use crate::measure::{compare, Plan, Row, Side, Work};
 use std::fs::File;
 use std::path::Path;
 use std::process::{Command, Stdio};
@@ -27,14 +27,14 @@ pub fn run(plan: Plan, random: &mut Random) -> Vec<Row> {
             name,
             same: true,
             goal: Some(1.5),
-            pass: Box::new(move || text(&program, &input).len() as u64),
+            pass: Box::new(move |_| text(&program, &input).len() as u64),
         }
     };
     let sides = vec![
         side("library", proved.as_ref()),
         side("plain Rust, BTreeSet", &plain),
     ];
-    compare(plan, "record, a fix", count, sides)
+    compare(plan, Work::new("record, a fix", count), sides)
 }
 
 /// The length of the text that both programs write, byte for byte; the program ends where they differ.
