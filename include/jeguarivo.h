@@ -1,7 +1,8 @@
 /* Jeguarivo: the rHEALPix grid with three cells to a side, resolutions 0 to 15, in all sixteen arrangements of the caps.
  *
  * Every entry takes any numbers and any bytes, and returns. An answer's first field is `refusal`: 0, or the number that says what was
- * wrong; every other field is 0 then, and no lent byte is changed. Read `refusal` first: 0 is also the code of the cell N.
+ * wrong; every other field is 0 then (but `place` with 9), and no lent byte is changed. Read `refusal` first: 0 is also the code of the
+ * cell N. A pointer whose length or room is 0 may be null. Memory that an entry writes must not overlap memory that it reads.
  *
  *    1  face above 5, empty name, first byte not N to S
  *    2  resolution above 15, name over 16 bytes
@@ -73,8 +74,8 @@ jgv_shape_answer jgv_shape(uint64_t code);
 /* How many cells touch a cell at a corner only. Refusal 4. */
 jgv_count jgv_corner_count(uint64_t code);
 
-/* The square of a cell in the plane. A face side is 28,697,814 units; x runs east from the left edge of O, y up from the equator.
- * Refusals 5, 4. */
+/* The square of a cell in the plane. Here and in the next three a face side is 28,697,814 units; x runs east from the left edge of O, y up
+ * from the equator. Refusals 5, 4. */
 jgv_square_answer jgv_square(uint64_t n, uint64_t s, uint64_t code);
 
 /* The middle of a cell in the plane. Refusals 5, 4. */
@@ -99,10 +100,12 @@ jgv_code jgv_neighbour(uint64_t n, uint64_t s, uint64_t code, uint64_t direction
 /* Checks a coverage text: the number of its whole cells and the sum of their sizes. Refusals 13, 10, 9. */
 jgv_check jgv_coverage_check(const uint8_t *text, size_t length);
 
-/* The codes of a text's whole cells, in rising order, written to the first of `codes`. Refusals 13, 10, 9, 8. */
+/* The codes of a text's whole cells, in rising order, written to the first of `codes`. A text has fewer whole cells than bytes, so a room of
+ * `length` is enough. Refusals 13, 10, 9, 8. */
 jgv_list jgv_coverage_list(const uint8_t *text, size_t length, uint64_t *codes, size_t room);
 
-/* The coverage text of rising codes, none inside another, with nine whole siblings merged upwards. Refusals 5, 4, 11, 13, 8. */
+/* The coverage text of rising codes, none inside another, with nine whole siblings merged upwards. A room of 65,536 bytes is always
+ * enough. Refusals 5, 4, 11, 13, 8. */
 jgv_length jgv_coverage_write(uint64_t n, uint64_t s, const uint64_t *codes, size_t count, uint8_t *text, size_t room);
 
 /* Whether a text covers all finest cells of a cell: 1 or 0. Refusals 5, 4, 13, 10, 9, 14. */
