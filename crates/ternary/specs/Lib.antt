@@ -3,3 +3,4 @@ pub mod Digits
 pub mod DigitLaws
 pub mod Weave
 pub mod WeaveLaws
+pub mod Parts

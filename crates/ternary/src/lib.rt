@@ -1,20 +1,50 @@
-// Powers of three, and the digits of a row and a column woven to digits of base nine.
+// Powers of three, and the digits of a row and a column woven to digits of base nine. Four digits, or two of base nine, stand in each of the
+// four parts of a number, sixteen bits to a part, and one product or sum serves all four.
 ghost use mathlib.Core.Path.{_≡_};
-ghost use Prim.Native.Nat.{_*_, _^_, _≤_};
+ghost use Prim.Native.Nat.{_*_, _/_, _%_, _^_, _≤_, _<_};
+ghost use Rattle.ternary.specs.Parts.{parts, quarters, bits, inNine};
 ghost use Rattle.ternary.specs.Weave.{weave, rowIn, columnIn};
+
+// 3^e, for e below 8.
+fn small_power(e: u64) -> u64
+    requires { ⌜ e < 8 ⌝ }
+    ensures { λ r. ⌜ r ≡ 3 ^ e ⌝ }
+{
+    match e {
+        0 => 1,
+        1 => 3,
+        2 => 9,
+        3 => 27,
+        4 => 81,
+        5 => 243,
+        6 => 729,
+        7 => 2_187,
+        _ => 0,
+    }
+}
+
+// 3^(8 e).
+fn eighth_power(e: u64) -> u64
+    requires { ⌜ e ≤ 5 ⌝ }
+    ensures { λ r. ⌜ r ≡ 3 ^ (8 * e) ⌝ }
+{
+    match e {
+        0 => 1,
+        1 => 6_561,
+        2 => 43_046_721,
+        3 => 282_429_536_481,
+        4 => 1_853_020_188_851_841,
+        5 => 12_157_665_459_056_928_801,
+        _ => 0,
+    }
+}
 
 // 3^e.
 pub fn power(e: u64) -> u64
     requires { ⌜ e ≤ 40 ⌝ }
     ensures { λ r. ⌜ r ≡ 3 ^ e ⌝ }
 {
-    let mut p: u64 = 1;
-    let mut i: u64 = 0;
-    while i < e {
-        p = p * 3;
-        i += 1;
-    }
-    p
+    eighth_power(e / 8) * small_power(e % 8)
 }
 
 // 9^e.
@@ -25,24 +55,65 @@ pub fn nine_power(e: u64) -> u64
     power(2 * e)
 }
 
-// The path of the last k ternary digits of a row and a column.
+// A number of sixteen ternary digits, four digits to a part.
+fn in_parts(x: u64) -> u64
+    requires { ⌜ x < 43046721 ⌝ }
+    ensures { λ r. ⌜ r ≡ quarters x ⌝ }
+{
+    let high = x / 6_561;
+    let low = x % 6_561;
+    (high + high / 81 * 65_455) * 4_294_967_296 + (low + low / 81 * 65_455)
+}
+
+// The last five bits of each part. Where every part is below 81, those of n * 171 / 512 are a third of the part, those of n * 114 / 1024 a
+// ninth, and those of n * 76 / 2048 a 27th.
+fn last_bits(x: u64) -> u64
+    ensures { λ r. ⌜ r ≡ bits x ⌝ }
+{
+    let high = x / 281_474_976_710_656 % 32 * 281_474_976_710_656
+        + x / 4_294_967_296 % 32 * 4_294_967_296;
+    high + (x / 65_536 % 32 * 65_536 + x % 32)
+}
+
+// The digits of each part n read in base nine: n + 6 (n / 3) + 54 (n / 9) + 486 (n / 27).
+fn spread(x: u64) -> u64
+    requires { ⌜ x < 43046721 ⌝ }
+    ensures { λ r. ⌜ r ≡ parts (weave 4 0 (x / 531441)) (weave 4 0 (x / 6561 % 81)) (weave 4 0 (x / 81 % 81)) (weave 4 0 (x % 81)) ⌝ }
+{
+    let n = in_parts(x);
+    let thirds = last_bits(n * 171 / 512);
+    let ninths = last_bits(n * 114 / 1_024);
+    n + 6 * thirds + 54 * ninths + 486 * last_bits(n * 76 / 2_048)
+}
+
+// The path of sixteen ternary digits of a row and a column.
+fn long_path(row: u64, column: u64) -> u64
+    requires { ⌜ (row < 43046721) × (column < 43046721) ⌝ }
+    ensures { λ r. ⌜ r ≡ weave 16 row column ⌝ }
+{
+    let n = 3 * spread(row) + spread(column);
+    let high = n / 281_474_976_710_656 * 6_561 + n / 4_294_967_296 % 65_536;
+    high * 43_046_721 + (n / 65_536 % 65_536 * 6_561 + n % 65_536)
+}
+
+// x modulo m. What callers give is mostly below m, and then nothing is divided.
+fn remainder(x: u64, m: u64) -> u64
+    requires { ⌜ 0 < m ⌝ }
+    ensures { λ r. ⌜ r ≡ x % m ⌝ }
+{
+    if x < m {
+        return x;
+    }
+    x % m
+}
+
+// The path of the last k ternary digits of a row and a column: zeros before them change nothing.
 pub fn path(k: u64, row: u64, column: u64) -> u64
     requires { ⌜ k ≤ 15 ⌝ }
     ensures { λ r. ⌜ r ≡ weave k row column ⌝ }
 {
-    let mut p: u64 = 0;
-    let mut s: u64 = 1;
-    let mut i = row;
-    let mut j = column;
-    let mut left = k;
-    while left > 0 {
-        p = p + (3 * (i % 3) + j % 3) * s;
-        s = s * 9;
-        i = i / 3;
-        j = j / 3;
-        left = left - 1;
-    }
-    p
+    let m = power(k);
+    long_path(remainder(row, m), remainder(column, m))
 }
 
 // A row and a column.
@@ -51,22 +122,38 @@ pub struct Pair {
     pub column: u64,
 }
 
+// Four numbers in parts, put together in base nine.
+fn joined(n: u64) -> u64
+    ensures { λ r. ⌜ r ≡ inNine n ⌝ }
+{
+    let high = n / 281_474_976_710_656 * 9 + n / 4_294_967_296 % 65_536;
+    high * 81 + (n / 65_536 % 65_536 * 9 + n % 65_536)
+}
+
+// The row and the column of eight digits of a path: those of each part n are n / 3 - 3 (n / 9) + 3 (n / 27) and
+// n - 3 (n / 3) + 3 (n / 9 - 3 (n / 27)).
+fn short_unwoven(path: u64) -> Pair
+    requires { ⌜ path < 43046721 ⌝ }
+    ensures { λ r. ⌜ (r .row ≡ rowIn 8 path) × (r .column ≡ columnIn 8 path) ⌝ }
+{
+    let n = in_parts(path);
+    let thirds = last_bits(n * 171 / 512);
+    let ninths = last_bits(n * 114 / 1_024);
+    let cubes = last_bits(n * 76 / 2_048);
+    let row = joined(thirds - 3 * ninths + 3 * cubes);
+    let column = joined(n - 3 * thirds + 3 * (ninths - 3 * cubes));
+    Pair { row, column }
+}
+
 // The row and the column of the last k digits of a path.
 pub fn unwoven(k: u64, path: u64) -> Pair
     requires { ⌜ k ≤ 15 ⌝ }
     ensures { λ r. ⌜ (r .row ≡ rowIn k path) × (r .column ≡ columnIn k path) ⌝ }
 {
-    let mut row: u64 = 0;
-    let mut column: u64 = 0;
-    let mut s: u64 = 1;
-    let mut p = path;
-    let mut left = k;
-    while left > 0 {
-        row = row + p % 9 / 3 * s;
-        column = column + p % 3 * s;
-        s = s * 3;
-        p = p / 9;
-        left = left - 1;
-    }
+    let last = remainder(path, nine_power(k));
+    let high = short_unwoven(last / 43_046_721);
+    let low = short_unwoven(last % 43_046_721);
+    let row = high.row * 6_561 + low.row;
+    let column = high.column * 6_561 + low.column;
     Pair { row, column }
 }

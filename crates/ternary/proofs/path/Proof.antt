@@ -1,74 +1,53 @@
--- `ternary::path` meets its contract: the digits passed, and the scale times the path of those left, are the whole path. Assumes nothing.
-use mathlib.Core.Path.{_≡_, refl, _∙_}
-use Prim.Native.Nat.{_+_, _-_, _*_, _/_, _%_, _^_, _≤_, _<_}
-use native.Mathlib.Nat.{one-mul, zero-add}
+-- `ternary::path` meets its contract: the last k digits, with zeros before them. Assumes nothing.
+use mathlib.Core.Path.{_≡_, ap, ap₂, _∙_}
+use Prim.Native.Nat.{ℕ, _+_, _-_, _%_, _^_, _≤_, _<_}
+use native.Mathlib.Nat.{mod-lt}
 use native.Mathlib.Omega.{arith}
 use borrow.Author.Needs.{needs}
-use Rattle.ternary.specs.Powers.{nine-le}
+use Rattle.ternary.specs.Powers.{power-pos, power-le}
 use Rattle.ternary.specs.Weave.{weave}
-use Rattle.ternary.specs.WeaveLaws.{weave-step}
-use Rattle.ternary.proofs.Laws.{room, scale, begins, kept, done}
+use Rattle.ternary.specs.WeaveLaws.{weave-more, weave-both-last}
 use Rattle.ternary.proofs.path.Statement.{statement}
 use Rattle.ternary.proofs.path.Tie as tie
 
-abbrev Inv-loop : tie.InvT-loop
-Inv-loop k row column p₀ s₀ i₀ j₀ left₀ p s i j left =
-    (left ≤ k) × (p < s) × (s ≡ 9 ^ (k - left)) × (p + s * weave left i j ≡ weave k row column)
+-- the digits that are kept
+last : (k x m r : ℕ) → m ≡ 3 ^ k → r ≡ x % m → r ≡ x % 3 ^ k
+last k x m r e h = h ∙ ap (λ (y : ℕ). x % y) e
 
-abbrev μ-loop : tie.MeasureT-loop
-μ-loop k row column p₀ s₀ i₀ j₀ left₀ p s i j left = left
+last-small : (k x r : ℕ) → k ≤ 15 → r ≡ x % 3 ^ k → r < 43046721
+last-small k x r h e =
+    let p : x % 3 ^ k < 3 ^ k = mod-lt x (power-pos k) in
+    let q : 3 ^ k ≤ 3 ^ 15 = power-le {i = k} {j = 15} h in
+    omega arith
 
-module _ (c : tie.In-loop Inv-loop μ-loop) where
-  -- the next scale is at most 9^15
-  next : c .before .loop .s * 9 ≤ 9 ^ 15
-  next =
-      let l = c .before .loop in
-      let k = c .before .before .args .k in
-      let e : l .s * 9 ≡ 9 ^ (k - (l .left - 1)) = scale 9 k (l .left) (omega arith) (l .inv .0) (l .inv .2) in
-      let h : 9 ^ (k - (l .left - 1)) ≤ 9 ^ 15 = nine-le {i = k - (l .left - 1)} {j = 15} (omega arith) in
-      omega arith
+power-requires : tie.Need-power-requires
+power-requires c κs = search needs
 
-  sum : c .before .loop .p + (3 * (c .before .loop .i % 3) + c .before .loop .j % 3) * c .before .loop .s < c .before .loop .s * 9
-  sum = let l = c .before .loop in room 9 (l .p) (l .s) (3 * (l .i % 3) + l .j % 3) (l .inv .1) (omega arith)
+remainder-requires : tie.Need-remainder-requires
+remainder-requires c κs = let e = c .power .ensures in let p = power-pos (c .before .args .k) in omega arith
 
-loop-holds : tie.Need-loop-holds Inv-loop μ-loop
-loop-holds c =
-    let a = c .args in
-    (omega arith, omega arith, begins 9 (a .k), zero-add (1 * weave (a .k) (a .row) (a .column)) ∙ one-mul (weave (a .k) (a .row) (a .column)))
+remainder-requires-2 : tie.Need-remainder-requires-2
+remainder-requires-2 c κs = let e = c .before .power .ensures in let p = power-pos (c .before .before .args .k) in omega arith
 
-mul-p : tie.Need-mul-p Inv-loop μ-loop
-mul-p c = search needs
+long-path-requires : tie.Need-long-path-requires
+long-path-requires c κs =
+    let u = c .before .before in
+    let a = u .before .args in
+    let e = u .power .ensures in
+    (last-small (a .k) (a .row) _ (u .before .pre) (last (a .k) (a .row) _ _ e (c .before .remainder .ensures)), last-small (a .k) (a .column) _ (u .before .pre) (last (a .k) (a .column) _ _ e (c .remainder2 .ensures)))
 
-add-p : tie.Need-add-p Inv-loop μ-loop
-add-p c = search needs
-
-mul-p-2 : tie.Need-mul-p-2 Inv-loop μ-loop
-mul-p-2 c = let h = sum c in let n = next c in omega arith
-
-add-p-2 : tie.Need-add-p-2 Inv-loop μ-loop
-add-p-2 c = let h = sum c in let n = next c in omega arith
-
-mul-s : tie.Need-mul-s Inv-loop μ-loop
-mul-s c = let n = next c in omega arith
-
-sub-left : tie.Need-sub-left Inv-loop μ-loop
-sub-left c = search needs
-
-loop-less : tie.Need-loop-less Inv-loop μ-loop
-loop-less c = search needs
-
-loop-again : tie.Need-loop-again Inv-loop μ-loop
-loop-again c =
-    let l = c .before .loop in
-    let k = c .before .before .args .k in
-    (omega arith, sum c, scale 9 k (l .left) (omega arith) (l .inv .0) (l .inv .2), kept 9 (l .p) (l .s) (weave (l .left - 1) (l .i / 3) (l .j / 3)) (3 * (l .i % 3) + l .j % 3) (weave-step (l .left) (l .i) (l .j) (omega arith)) (l .inv .3))
-
-returns : tie.Need-returns Inv-loop μ-loop
-unfolding weave
+returns : tie.Need-returns
 returns c =
-    let l = c .before .loop in
-    let e : l .left ≡ 0 = omega arith in
-    done (l .p) (l .s) (λ x. weave x (l .i) (l .j)) refl e (l .inv .3)
+    let u = c .before .before .before in
+    let a = u .before .args in
+    let k = a .k in
+    let e = u .power .ensures in
+    let n : 16 ≡ k + (16 - k) = omega arith in
+    c .long-path .ensures
+    ∙ ap₂ (weave 16) (last k (a .row) _ _ e (c .before .before .remainder .ensures)) (last k (a .column) _ _ e (c .before .remainder2 .ensures))
+    ∙ ap (λ (x : ℕ). weave x (a .row % 3 ^ k) (a .column % 3 ^ k)) n
+    ∙ weave-more k (16 - k) (a .row % 3 ^ k) (a .column % 3 ^ k) (mod-lt (a .row) (power-pos k)) (mod-lt (a .column) (power-pos k))
+    ∙ weave-both-last k (a .row) (a .column)
 
 pub path-spec : {M : Type 1} → statement M
-path-spec = tie.close (tie.spec Inv-loop μ-loop loop-holds mul-p add-p mul-p-2 add-p-2 mul-s sub-left loop-less loop-again returns)
+path-spec = tie.close (tie.spec power-requires remainder-requires remainder-requires-2 long-path-requires returns)

@@ -1,34 +1,32 @@
--- `ternary::power` meets its contract: after i turns p is 3^i. Assumes nothing.
-use mathlib.Core.Path.{_≡_, sym, ap, _∙_}
-use Prim.Native.Nat.{ℕ, _*_, _-_, _^_, _≤_}
+-- `ternary::power` meets its contract: e is 8 (e / 8) + e % 8. Assumes nothing.
+use mathlib.Core.Path.{_≡_, sym, ap, ap₂, _∙_}
+use Prim.Native.Nat.{ℕ, _+_, _*_, _/_, _%_, _^_, _≤_}
 use native.Mathlib.Omega.{arith}
-use Rattle.ternary.specs.Powers.{next-power, power-le}
+use borrow.Author.Needs.{needs}
+use Rattle.ternary.specs.Powers.{power-add, power-le}
 use Rattle.ternary.proofs.power.Statement.{statement}
 use Rattle.ternary.proofs.power.Tie as tie
 
-abbrev Inv-loop : tie.InvT-loop
-Inv-loop e p₀ i₀ p i = (i ≤ e) × (p ≡ 3 ^ i)
+product : (c : tie.After-small-power) → c .before .eighth-power .result * c .small-power .result ≡ 3 ^ c .before .before .args .e
+product c =
+    let e = c .before .before .args .e in
+    let s : 8 * (e / 8) + e % 8 ≡ e = omega arith in
+    ap₂ _*_ (c .before .eighth-power .ensures) (c .small-power .ensures) ∙ sym (power-add (8 * (e / 8)) (e % 8)) ∙ ap (λ (x : ℕ). 3 ^ x) s
 
-abbrev μ-loop : tie.MeasureT-loop
-μ-loop e p₀ i₀ p i = e - i
+eighth-power-requires : tie.Need-eighth-power-requires
+eighth-power-requires c κs = search needs
 
-loop-holds : tie.Need-loop-holds Inv-loop μ-loop
-loop-holds c = omega arith
+small-power-requires : tie.Need-small-power-requires
+small-power-requires c κs = search needs
 
-mul-p : tie.Need-mul-p Inv-loop μ-loop
-mul-p c = let h = power-le {i = c .before .loop .i} {j = 39} (omega arith) in omega (arith, h)
+mul-result : tie.Need-mul-result
+mul-result c =
+    let p = product c in
+    let h : 3 ^ c .before .before .args .e ≤ 3 ^ 40 = power-le {i = c .before .before .args .e} {j = 40} (omega arith) in
+    omega arith
 
-add-i : tie.Need-add-i Inv-loop μ-loop
-add-i c = omega arith
-
-loop-less : tie.Need-loop-less Inv-loop μ-loop
-loop-less c = omega arith
-
-loop-again : tie.Need-loop-again Inv-loop μ-loop
-loop-again c = (omega arith, ap (λ (x : ℕ). x * 3) (c .before .loop .inv .1) ∙ sym (next-power (c .before .loop .i)))
-
-returns : tie.Need-returns Inv-loop μ-loop
-returns c = let e : c .before .loop .i ≡ c .before .before .args .e = omega arith in c .before .loop .inv .1 ∙ ap (λ (x : ℕ). 3 ^ x) e
+returns : tie.Need-returns
+returns c = product c
 
 pub power-spec : {M : Type 1} → statement M
-power-spec = tie.close (tie.spec Inv-loop μ-loop loop-holds mul-p add-i loop-less loop-again returns)
+power-spec = tie.close (tie.spec eighth-power-requires small-power-requires mul-result returns)

@@ -1,80 +1,98 @@
--- `ternary::unwoven` meets its contract: the digits passed, and the scale times what those left give, are the whole row and column. Assumes nothing.
-use mathlib.Core.Path.{_≡_, refl, _∙_}
-use Prim.Native.Nat.{_+_, _-_, _*_, _/_, _%_, _^_, _≤_, _<_}
-use native.Mathlib.Nat.{one-mul, zero-add}
+-- `ternary::unwoven` meets its contract: the last k digits, with zeros before them, eight and eight. Assumes nothing.
+use mathlib.Core.Path.{_≡_, sym, ap, _∙_}
+use Prim.Native.Nat.{ℕ, _+_, _-_, _*_, _/_, _%_, _^_, _≤_, _<_}
+use native.Mathlib.Nat.{mod-lt}
 use native.Mathlib.Omega.{arith}
 use borrow.Author.Needs.{needs}
-use Rattle.ternary.specs.Powers.{power-le}
+use Rattle.ternary.specs.Powers.{nine-pos, nine-le}
 use Rattle.ternary.specs.Weave.{rowIn, columnIn}
-use Rattle.ternary.specs.WeaveLaws.{row-step, column-step}
-use Rattle.ternary.proofs.Laws.{room, scale, begins, kept, done}
+use Rattle.ternary.specs.WeaveLaws.{row-small, column-small, row-split, column-split, row-last, column-last, row-more, column-more}
 use Rattle.ternary.proofs.unwoven.Statement.{statement}
 use Rattle.ternary.proofs.unwoven.Tie as tie
 
-abbrev Inv-loop : tie.InvT-loop
-Inv-loop k path row₀ column₀ s₀ p₀ left₀ row column s p left =
-    (left ≤ k) × (row < s) × (column < s) × (s ≡ 3 ^ (k - left)) × (row + s * rowIn left p ≡ rowIn k path) × (column + s * columnIn left p ≡ columnIn k path)
+-- the digits that are kept
+last : (k x m r : ℕ) → m ≡ 9 ^ k → r ≡ x % m → r ≡ x % 9 ^ k
+last k x m r e h = h ∙ ap (λ (y : ℕ). x % y) e
 
-abbrev μ-loop : tie.MeasureT-loop
-μ-loop k path row₀ column₀ s₀ p₀ left₀ row column s p left = left
+last-small : (k x r : ℕ) → k ≤ 15 → r ≡ x % 9 ^ k → r < 9 ^ 15
+last-small k x r h e =
+    let p : x % 9 ^ k < 9 ^ k = mod-lt x (nine-pos k) in
+    let q : 9 ^ k ≤ 9 ^ 15 = nine-le {i = k} {j = 15} h in
+    omega arith
 
-module _ (c : tie.In-loop Inv-loop μ-loop) where
-  -- the next scale is at most 3^15
-  next : c .before .loop .s * 3 ≤ 3 ^ 15
-  next =
-      let l = c .before .loop in
-      let k = c .before .before .args .k in
-      let e : l .s * 3 ≡ 3 ^ (k - (l .left - 1)) = scale 3 k (l .left) (omega arith) (l .inv .0) (l .inv .3) in
-      let h : 3 ^ (k - (l .left - 1)) ≤ 3 ^ 15 = power-le {i = k - (l .left - 1)} {j = 15} (omega arith) in
-      omega arith
+-- their row and their column, from the two halves
+row-of : (k x p h l : ℕ) → k ≤ 15 → p ≡ x % 9 ^ k → h ≡ rowIn 8 (p / 43046721) → l ≡ rowIn 8 (p % 43046721) → h * 6561 + l ≡ rowIn k x
+row-of k x p h l b e i j =
+    let n : 16 ≡ k + (16 - k) = omega arith in
+    (λ t. i t * 6561 + (j ∙ row-last 8 p) t) ∙ sym (row-split 8 8 p) ∙ ap (rowIn 16) e ∙ ap (λ (y : ℕ). rowIn y (x % 9 ^ k)) n ∙ row-more k (16 - k) (x % 9 ^ k) (mod-lt x (nine-pos k))
+    ∙ row-last k x
 
-  down : c .before .loop .row + c .before .loop .p % 9 / 3 * c .before .loop .s < c .before .loop .s * 3
-  down = let l = c .before .loop in room 3 (l .row) (l .s) (l .p % 9 / 3) (l .inv .1) (omega arith)
+column-of : (k x p h l : ℕ) → k ≤ 15 → p ≡ x % 9 ^ k → h ≡ columnIn 8 (p / 43046721) → l ≡ columnIn 8 (p % 43046721) → h * 6561 + l ≡ columnIn k x
+column-of k x p h l b e i j =
+    let n : 16 ≡ k + (16 - k) = omega arith in
+    (λ t. i t * 6561 + (j ∙ column-last 8 p) t) ∙ sym (column-split 8 8 p) ∙ ap (columnIn 16) e ∙ ap (λ (y : ℕ). columnIn y (x % 9 ^ k)) n ∙ column-more k (16 - k) (x % 9 ^ k) (mod-lt x (nine-pos k))
+    ∙ column-last k x
 
-  right : c .before .loop .column + c .before .loop .p % 3 * c .before .loop .s < c .before .loop .s * 3
-  right = let l = c .before .loop in room 3 (l .column) (l .s) (l .p % 3) (l .inv .2) (omega arith)
+-- each half is small
+row-below : {r : ℕ} (p : ℕ) → r ≡ rowIn 8 p → r < 6561
+row-below p e = let h : rowIn 8 p < 6561 = row-small 8 p in omega arith
 
-loop-holds : tie.Need-loop-holds Inv-loop μ-loop
-loop-holds c =
-    let a = c .args in
-    (omega arith, omega arith, omega arith, begins 3 (a .k), zero-add (1 * rowIn (a .k) (a .path)) ∙ one-mul (rowIn (a .k) (a .path)), zero-add (1 * columnIn (a .k) (a .path)) ∙ one-mul (columnIn (a .k) (a .path)))
+column-below : {r : ℕ} (p : ℕ) → r ≡ columnIn 8 p → r < 6561
+column-below p e = let h : columnIn 8 p < 6561 = column-small 8 p in omega arith
 
-mul-row : tie.Need-mul-row Inv-loop μ-loop
-mul-row c = let h = down c in let n = next c in omega arith
+nine-power-requires : tie.Need-nine-power-requires
+nine-power-requires c κs = search needs
 
-add-row : tie.Need-add-row Inv-loop μ-loop
-add-row c = let h = down c in let n = next c in omega arith
+remainder-requires : tie.Need-remainder-requires
+remainder-requires c κs = let e = c .nine-power .ensures in let p = nine-pos (c .before .args .k) in omega arith
 
-mul-column : tie.Need-mul-column Inv-loop μ-loop
-mul-column c = let h = right c in let n = next c in omega arith
+short-unwoven-requires : tie.Need-short-unwoven-requires
+short-unwoven-requires c κs =
+    let a = c .before .before in
+    let h = last-small (a .args .k) (a .args .path) _ (a .pre) (last (a .args .k) (a .args .path) _ _ (c .before .nine-power .ensures) (c .remainder .ensures)) in
+    omega arith
 
-add-column : tie.Need-add-column Inv-loop μ-loop
-add-column c = let h = right c in let n = next c in omega arith
+short-unwoven-requires-2 : tie.Need-short-unwoven-requires-2
+short-unwoven-requires-2 c κs = search needs
 
-mul-s : tie.Need-mul-s Inv-loop μ-loop
-mul-s c = let n = next c in omega arith
+mul-row : tie.Need-mul-row
+mul-row c = let h = row-below _ (c .before .before .short-unwoven .ensures .0) in omega arith
 
-sub-left : tie.Need-sub-left Inv-loop μ-loop
-sub-left c = search needs
+add-row : tie.Need-add-row
+add-row c =
+    let h = row-below _ (c .before .before .before .short-unwoven .ensures .0) in
+    let l = row-below _ (c .before .before .short-unwoven2 .ensures .0) in
+    omega arith
 
-loop-less : tie.Need-loop-less Inv-loop μ-loop
-loop-less c = search needs
+mul-column : tie.Need-mul-column
+mul-column c = let h = column-below _ (c .before .before .before .before .short-unwoven .ensures .1) in omega arith
 
-loop-again : tie.Need-loop-again Inv-loop μ-loop
-loop-again c =
-    let l = c .before .loop in
-    let k = c .before .before .args .k in
-    let some : 0 < l .left = omega arith in
-    (omega arith, down c, right c, scale 3 k (l .left) some (l .inv .0) (l .inv .3), kept 3 (l .row) (l .s) (rowIn (l .left - 1) (l .p / 9)) (l .p % 9 / 3) (row-step (l .left) (l .p) some) (l .inv .4), kept 3 (l .column) (l .s) (columnIn (l .left - 1) (l .p / 9)) (l .p % 3) (column-step (l .left) (l .p) some) (l .inv .5))
+add-column : tie.Need-add-column
+add-column c =
+    let h = column-below _ (c .before .before .before .before .before .short-unwoven .ensures .1) in
+    let l = column-below _ (c .before .before .before .before .short-unwoven2 .ensures .1) in
+    omega arith
 
-returns : tie.Need-returns Inv-loop μ-loop
-unfolding rowIn columnIn
+returns : tie.Need-returns
 returns c =
-    let l = c .before .loop in
-    let e : l .left ≡ 0 = omega arith in
-    (done (l .row) (l .s) (λ x. rowIn x (l .p)) refl e (l .inv .4), done (l .column) (l .s) (λ x. columnIn x (l .p)) refl e (l .inv .5))
+    let v = c .before .before .before .before in
+    let u = v .before .before in
+    let a = u .before .before in
+    let k = a .args .k in
+    let x = a .args .path in
+    let e = last k x _ _ (u .before .nine-power .ensures) (u .remainder .ensures) in
+    (row-of k x _ _ _ (a .pre) e (v .before .short-unwoven .ensures .0) (v .short-unwoven2 .ensures .0), column-of k x _ _ _ (a .pre) e (v .before .short-unwoven .ensures .1) (v .short-unwoven2 .ensures .1))
 
 pub unwoven-spec : {M : Type 1} → statement M
 unwoven-spec =
     tie.close
-    (tie.spec Inv-loop μ-loop loop-holds mul-row add-row mul-column add-column mul-s sub-left loop-less loop-again returns)
+    (tie.spec
+    nine-power-requires
+    remainder-requires
+    short-unwoven-requires
+    short-unwoven-requires-2
+    mul-row
+    add-row
+    mul-column
+    add-column
+    returns)
