@@ -1,7 +1,11 @@
 -- What the functions answer where something is refused, and where nothing is. Assumes nothing.
 use mathlib.Core.Path.{_≡_, refl, sym, ap, ap₂, _∙_}
-use mathlib.Core.Bool.{Bool, true, false, not}
-use Prim.Native.Nat.{ℕ, zero, suc}
+use mathlib.Core.Bool.{Bool, true, false, _&&_, not}
+use Prim.Native.Nat.{ℕ, zero, suc, _+_, _-_, _*_, _/_, _%_, _^_, _≤_, _<_}
+use native.Mathlib.Nat.{div-add-mod'}
+use native.Mathlib.Omega.{arith}
+use lib.Dec.{eqb, ltb}
+use borrow.Author.Tests.{lt-ltb, le-ltb, eq-eqb, ne-eqb}
 use Rattle.logic.specs.Refusal.{refuse}
 use Rattle.cell.specs.declared.Cell.{Cell}
 use Rattle.cell.specs.declared.Found.{Found}
@@ -33,3 +37,31 @@ no-code code c e = sym (ap (λ (b : Bool). found (refuse (not b) 4) c) e)
 pub a-code : (code : ℕ) {x c : Cell} → isCode code ≡ true → x ≡ c → found-as.At x ≡ found (codeRefusal code) c
 unfolding found codeRefusal
 a-code code {c = c} e h = ap found-as.At h ∙ sym (ap (λ (b : Bool). found (refuse (not b) 4) c) e)
+
+-- a number is no code where its face is none of the six
+pub no-face : (code : ℕ) → 6 ≤ code / 16 / 205891132094649 → isCode code ≡ false
+unfolding isCode
+no-face code h = ap (λ (b : Bool). b && eqb (code / 16 % 9 ^ 15 % 9 ^ (15 - code % 16)) 0) (le-ltb (code / 16 / 9 ^ 15) 6 h)
+
+and-false : (b : Bool) → (b && false) ≡ false
+and-false true = refl
+and-false false = refl
+
+-- or where its place in the face is no multiple of its size; otherwise it is one
+module _ (code : ℕ) {size : ℕ} (e : size ≡ 9 ^ (15 - code % 16)) where
+  pub a-rest : (code / 16 % 205891132094649 / size * size ≡ code / 16 % 205891132094649 → ⊥) → isCode code ≡ false
+  unfolding isCode
+  a-rest h =
+      let x = code / 16 % 205891132094649 in
+      let n = 9 ^ (15 - code % 16) in
+      let z : x % n ≡ 0 → x / size * size ≡ x = λ r. ap (λ (y : ℕ). x / y * y) e ∙ (let d = div-add-mod' x n in omega arith) in
+      ap (λ (b : Bool). ltb (code / 16 / 9 ^ 15) 6 && b) (ne-eqb (x % n) 0 (λ r. h (z r))) ∙ and-false (ltb (code / 16 / 9 ^ 15) 6)
+
+  pub no-rest : code / 16 / 205891132094649 < 6 → code / 16 % 205891132094649 / size * size ≡ code / 16 % 205891132094649 → isCode code ≡ true
+  unfolding isCode
+  no-rest f h =
+      let x = code / 16 % 205891132094649 in
+      let n = 9 ^ (15 - code % 16) in
+      let g : x / n * n ≡ x = sym (ap (λ (y : ℕ). x / y * y) e) ∙ h in
+      let z : x % n ≡ 0 = let d = div-add-mod' x n in omega arith in
+      ap₂ _&&_ (lt-ltb (code / 16 / 9 ^ 15) 6 f) (eq-eqb (x % n) 0 z)

@@ -79,21 +79,29 @@ pub fn path_in(code: u64) -> u64
     code / 16 % 205_891_132_094_649 / ternary::nine_power(15 - code % 16)
 }
 
-// The cell of a code: 4 where it is no cell's.
+// The cell of a code: 4 where it is no cell's. One quotient tells both the path and whether a digit stands below the resolution.
 pub fn cell_of(code: u64) -> Found
     ensures { λ r. ⌜ r ≡ found (codeRefusal code) (cellOf code) ⌝ }
 {
-    if is_code(code) {
-        let resolution = resolution_in(code);
-        let place = ternary::unwoven(resolution, path_in(code));
-        return Found::At(Cell {
-            face: face_in(code),
-            resolution,
-            row: place.row,
-            column: place.column,
-        });
+    let number = code / 16;
+    let face = number / 205_891_132_094_649;
+    if face >= 6 {
+        return Found::Refused(4); // no face
     }
-    Found::Refused(4)
+    let resolution = code % 16;
+    let step = ternary::nine_power(15 - resolution);
+    let rest = number % 205_891_132_094_649;
+    let path = rest / step;
+    if path * step != rest {
+        return Found::Refused(4); // a digit below the resolution
+    }
+    let place = ternary::unwoven(resolution, path);
+    Found::At(Cell {
+        face,
+        resolution,
+        row: place.row,
+        column: place.column,
+    })
 }
 
 // The number of finest cells of a cell.

@@ -1,44 +1,57 @@
 -- `code::cell_of` meets its contract. Assumes nothing.
-use mathlib.Core.Path.{_≡_, sym, ap₂, _∙_}
+use mathlib.Core.Path.{_≡_, ap, _∙_}
+use Prim.Native.Nat.{ℕ, _-_, _*_, _/_, _%_, _^_, _≤_}
+use native.Mathlib.Nat.{div-add-mod'}
+use native.Mathlib.Omega.{arith}
 use borrow.Author.Needs.{needs}
+use Rattle.ternary.specs.Powers.{nine-pos}
 use Rattle.ternary.specs.Weave.{rowIn, columnIn}
-use Rattle.code.specs.Code.{cellOf}
-use Rattle.code.proofs.Laws.{no-code, a-code}
+use Rattle.code.specs.Code.{pathIn, cellOf}
+use Rattle.code.proofs.Laws.{no-code, a-code, no-face, a-rest, no-rest}
 use Rattle.code.proofs.cell_of.Statement.{statement}
 use Rattle.code.proofs.cell_of.Tie as tie
 
-is-code-requires : tie.Need-is-code-requires
-is-code-requires c κs = search needs
+returns : tie.Need-returns
+returns c = let a = c .before .args .code in no-code a (cellOf a) (no-face a (c .if1 .taken))
 
-resolution-in-requires : tie.Need-resolution-in-requires
-resolution-in-requires c κs = search needs
+sub-nine-power : tie.Need-sub-nine-power
+sub-nine-power c = search needs
 
-path-in-requires : tie.Need-path-in-requires
-path-in-requires c κs = search needs
+nine-power-requires : tie.Need-nine-power-requires
+nine-power-requires c κs = search needs
+
+div-path : tie.Need-div-path
+div-path c = let e = c .nine-power .ensures in let p = nine-pos (15 - c .before .before .args .code % 16) in omega arith
+
+mul-if2 : tie.Need-mul-if2
+mul-if2 c =
+    let a = c .before .before .args .code in
+    let d = div-add-mod' (a / 16 % 205891132094649) (c .nine-power .result) in
+    let h : a / 16 % 205891132094649 / c .nine-power .result * c .nine-power .result ≤ 205891132094649 = omega arith in
+    omega arith
+
+returns-2 : tie.Need-returns-2
+returns-2 c = let a = c .before .before .before .args .code in no-code a (cellOf a) (a-rest a (c .before .nine-power .ensures) (c .if2 .taken))
 
 unwoven-requires : tie.Need-unwoven-requires
 unwoven-requires c κs = search needs
 
-face-in-requires : tie.Need-face-in-requires
-face-in-requires c κs = search needs
-
-returns : tie.Need-returns
-unfolding cellOf
-returns c =
-    let u = c .before in
-    let k = u .before .before in
-    a-code (k .before .before .before .args .code) (sym (k .before .before .is-code .ensures) ∙ k .before .if1 .taken)
+returns-3 : tie.Need-returns-3
+unfolding cellOf pathIn
+returns-3 c =
+    let n = c .before .before in
+    let a = n .before .before .args .code in
+    let p : a / 16 % 205891132094649 / n .nine-power .result ≡ pathIn a = ap (λ (x : ℕ). a / 16 % 205891132094649 / x) (n .nine-power .ensures) in
+    let f = n .before .if1 .left in
+    a-code a (no-rest a (n .nine-power .ensures) (omega arith) (c .before .if2 .left))
     (λ i. record {
-      face = c .face-in .ensures i;
-      resolution = k .resolution-in .ensures .0 i;
-      row = (u .unwoven .ensures .0 ∙ ap₂ rowIn (k .resolution-in .ensures .0) (u .before .path-in .ensures)) i;
-      column = (u .unwoven .ensures .1 ∙ ap₂ columnIn (k .resolution-in .ensures .0) (u .before .path-in .ensures)) i;
+      face = a / 16 / 205891132094649;
+      resolution = a % 16;
+      row = (c .unwoven .ensures .0 ∙ ap (rowIn (a % 16)) p) i;
+      column = (c .unwoven .ensures .1 ∙ ap (columnIn (a % 16)) p) i;
     })
-
-returns-2 : tie.Need-returns-2
-returns-2 c = no-code (c .before .before .args .code) _ (sym (c .before .is-code .ensures) ∙ c .if1 .left)
 
 pub cell-of-spec : {M : Type 1} → statement M
 cell-of-spec =
     tie.close
-    (tie.spec is-code-requires resolution-in-requires path-in-requires unwoven-requires face-in-requires returns returns-2)
+    (tie.spec returns sub-nine-power nine-power-requires div-path mul-if2 returns-2 unwoven-requires returns-3)
