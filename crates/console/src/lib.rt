@@ -1,6 +1,8 @@
 // What the programs share: words for people on standard error, arguments, and input that can fail.
 ghost use mathlib.Core.Path.{_≡_};
-ghost use Prim.Native.Nat.{_≤_};
+ghost use mathlib.Core.Bool.{cond};
+ghost use Prim.Native.Nat.{_+_, _≤_};
+ghost use lib.Dec.{ltb};
 ghost use lib.ListN.{length};
 ghost use Rattle.io.specs.Counts.{Counts};
 use cell::Arrangement;
@@ -133,7 +135,7 @@ pub fn read(fd: i32, buf: &mut [u8]) -> Got
     let got = libc::read(fd, buf);
     if got < 0 {
         return Got {
-            count: 0,
+            count: 0, // nothing was read
             failed: true,
         };
     }
@@ -202,6 +204,8 @@ pub fn within(n: u64, room: usize) -> usize
 }
 
 // The number of the next line.
-pub fn next(line: u64) -> u64 {
+pub fn next(line: u64) -> u64
+    ensures { λ r. ⌜ r ≡ cond (ltb line 18446744073709551615) (line + 1) line ⌝ }
+{
     if line < u64::MAX { line + 1 } else { line }
 }
