@@ -3,7 +3,8 @@
 //! proved library, entry by entry. They prove nothing; the library's contracts do that.
 //!
 //! RATTLE_LIBS names the folder of libjeguarivo.a: `cargo test --release --offline`. Without it
-//! the tests `grid`, `ground` and `coverage` fail, and the others try this program alone.
+//! the tests `grid`, `ground` and `coverage` fail, and without RATTLE_BIN, the folder of the proved
+//! programs, the test `programs`; the others try this program alone.
 //! SECOND_SEED sets another seed for the inputs. A library that has no coverage entries yet
 //! links with the tests `grid` and `ground`: `--test grid --test ground`.
 //!
@@ -11,6 +12,7 @@
 //! - `ground`: the cell of a fix and the ground nucleus, over the whole numbers of `big`
 //! - `coverage`: the coverage text: check, list, write, ask
 //! - `proved`: the proved library's C entries
+//! - `flights`: the programs `record` and `name_fixes` (`second_record` is a program of its own)
 //! - `random`: inputs, good, at borders, and bad; `fixes` for fixes, `texts` for coverage texts
 //! - `compare`: runs both programs on many inputs and counts what was met
 
@@ -18,6 +20,7 @@ pub mod big;
 pub mod compare;
 pub mod coverage;
 pub mod fixes;
+pub mod flights;
 pub mod grid;
 pub mod ground;
 #[cfg(proved)]
