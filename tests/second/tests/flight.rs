@@ -1,0 +1,70 @@
+//! The sample flight in examples/flight: its expected text is the second program's.
+
+use second::coverage::{ask, check, whole_cells};
+use second::flights::{lines, named, recorded};
+use second::grid::code_of;
+
+fn example(file: &str) -> Vec<u8> {
+    let folder = concat!(env!("CARGO_MANIFEST_DIR"), "/../../examples");
+    std::fs::read(format!("{folder}/{file}")).unwrap_or_else(|error| panic!("{file}: {error}"))
+}
+
+#[test]
+fn the_sample_text_is_the_second_programs() {
+    let flown = recorded(0, 0, 9, &example("flight/flight.txt"));
+    assert_eq!(flown.left_out, [], "lines left out");
+    assert!(
+        flown.text == Ok(example("flight/flight.cvr")),
+        "examples/flight/flight.cvr is not the text of flight.txt"
+    );
+}
+
+/// The longitudes of a flight.
+fn longitudes(flight: &[u8]) -> Vec<i64> {
+    let first = |line: &&[u8]| {
+        let text = std::str::from_utf8(line).expect("digits");
+        let (longitude, _) = text.split_once(' ').expect("two numbers");
+        longitude.parse().expect("a whole number")
+    };
+    lines(flight).iter().map(first).collect()
+}
+
+/// So that the sample shows what it is meant to: both caps, the belt, a seam, the antimeridian.
+#[test]
+fn the_sample_flies_over_both_caps_the_belt_and_the_seams() {
+    let flight = example("flight/flight.txt");
+    let names = named(0, 0, 0, &flight);
+    for face in [b"N", b"P", b"S"] {
+        assert!(lines(&names).contains(&&face[..]), "a face is left out");
+    }
+    let longitudes = longitudes(&flight);
+    assert!(longitudes.len() > 3000, "a short flight");
+    let near = |a: i64, b: i64| (b - a).abs() < 100_000;
+    let over_zero = |pair: &[i64]| pair[0] < 0 && pair[1] >= 0 && near(pair[0], pair[1]);
+    assert!(longitudes.windows(2).any(over_zero), "longitude 0");
+    let over_the_end = |pair: &[i64]| near(pair[0], pair[1] + 3_600_000_000);
+    assert!(longitudes.windows(2).any(over_the_end), "antimeridian");
+}
+
+/// What the commands of examples/run print, by the second program. They ask for four cells.
+#[test]
+fn what_the_example_prints_is_the_second_programs() {
+    let expected = String::from_utf8(example("run.expected")).expect("plain text");
+    let (commands, answers): (Vec<&str>, Vec<&str>) =
+        expected.lines().partition(|line| line.starts_with("$ "));
+    let text = example("flight/flight.cvr");
+    let checked = check(&text).expect("an accepted text");
+    let mut wanted = vec![format!("0 0 {} {}", checked.cells, checked.size)];
+    let cells = whole_cells(&text);
+    let string = |name: &[u8]| String::from_utf8(name.to_vec()).expect("letters and digits");
+    wanted.extend(cells.iter().take(5).map(|name| string(name)));
+    wanted.push(cells.len().to_string());
+    for command in commands.iter().filter(|command| command.contains(" ask ")) {
+        let name = command.split(' ').nth(4).expect("a name");
+        let covered = ask(0, 0, &text, code_of(name.as_bytes())).expect("an accepted text");
+        wanted.push(if covered { "yes" } else { "no" }.to_string());
+    }
+    let names = named(0, 0, 9, &example("flight/flight.txt"));
+    wanted.extend(lines(&names).iter().take(3).map(|name| string(name)));
+    assert_eq!(answers, wanted);
+}
