@@ -1,0 +1,24 @@
+# Arguments: none, too few, too many, wrong ones. "Says on standard error how it is used, and writes nothing to standard output."
+
+for program in record name_fixes; do
+    for words in '' '0' '0 0' '0 0 9 9' 'a 0 9' '0 b 9' '0 0 c' '-1 0 9' '0 -1 9' '0 0 -1' '+0 0 9' '0.0 0 9' '0x0 0 9' \
+        '99999999999999999999 0 9' '0 0 99999999999999999999' "'' 0 9" "0 '' 9" "0 0 ''" "' 0' 0 9" "0 0 '9 '" '--help' '-h 0 9'; do
+        try "wrong arguments" "$program $words </dev/null" '' "usage $program"
+    done
+    # 5 comes before 2
+    for words in '4 0 9' '0 4 9' '4 4 9' '4 0 16' '0 4 16' '4 0 999' '256 0 9' '4294967296 0 9' '9223372036854775807 0 9'; do
+        try "n or s above 3" "$program $words </dev/null" '' "5; usage $program"
+    done
+    for words in '0 0 16' '3 3 16' '0 0 256' '0 0 4294967296'; do
+        try "resolution above 15" "$program $words </dev/null" '' "2; usage $program"
+    done
+done
+
+for words in '' check list ask write 'check a b' 'list a b' 'ask a' 'ask a N b' 'write 0' 'write 0 0 0' 'CHECK a' 'checks a' 'chec a' "'' a" \
+    'reading a' '--help' 'write a 0' 'write 0 b' "write '' 0" "write 0 ''" 'write -1 0' 'write 0 -1' 'write 99999999999999999999 0' \
+    "$(times 5000 x) a"; do
+    try "wrong arguments" "coverage $words </dev/null" '' 'usage coverage'
+done
+for words in '4 0' '0 4' '256 0'; do
+    try "n or s above 3" "echo N | coverage write $words" '' '5; usage coverage'
+done

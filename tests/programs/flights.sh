@@ -1,0 +1,78 @@
+# record and name_fixes: the lines of a flight. Cells are those of 01's table, or are worked out by hand.
+
+# WHAT LINES SETTING NAMES TEXT SAID: both programs on the same lines; record says which it left out.
+fly() {
+    try "$1" "printf '%b' '$2' | name_fixes $3" "$4" ''
+    try "$1" "printf '%b' '$2' | record $3" "$H$5" "$6"
+}
+
+fly "nothing flown" '' '0 0 9' '' '' ''
+fly "line 1 of the table" '0 0\n' '0 0 2' 'Q33\n' 'Q(3(3))' ''
+fly "lines 2 to 4" '7 1000000000000000000\n-1350000000 666666666666666666\n-1350000000 666666666666666667\n' '0 0 1' 'N4\nO1\nN7\n' 'N(47)O(1)' ''
+fly "lines 5 and 7" '-900000000 880000000000000000\n-900000000 -880000000000000000\n' '0 0 1' 'N8\nS2\n' 'N(8)S(2)' ''
+try "line 6" "echo -900000000 880000000000000000 | name_fixes 1 0 1" 'N6\n' ''
+try "line 6, recorded" "echo -900000000 880000000000000000 | record 1 0 1" 'CVR\x00\x0110N(6)' ''
+fly "line 8" '-1350000000 970000000000000000\n' '0 0 2' 'N47\n' 'N(4(7))' ''
+fly "a hair from an edge" '-1350000000 962962962962962962\n-1350000000 962962962962962963\n' '0 0 1' 'N7\nN4\n' 'N(47)' ''
+fly "a cell twice" '0 0\n1 1\n0 0\n' '0 0 1' 'Q3\nQ3\nQ3\n' 'Q(3)' ''
+try "another arrangement" "echo 0 0 | record 3 2 0" 'CVR\x00\x0132Q' ''
+nine=
+for row in 444444444444444444 0 -444444444444444444; do
+    for column in -1650000000 -1350000000 -1050000000; do nine+="$column $row\n"; done
+done
+fly "nine children are their parent" "$nine" '0 0 1' 'O0\nO1\nO2\nO3\nO4\nO5\nO6\nO7\nO8\n' 'O' ''
+fly "the ends of the ranges" '-1800000000 0\n1799999999 0\n0 1000000000000000000\n0 -1000000000000000000\n' '0 0 0' 'O\nR\nN\nS\n' 'NORS' ''
+fly "resolution 15 at a pole" '5 1000000000000000000\n' '0 0 15' 'N444444444444444\n' 'N(4(4(4(4(4(4(4(4(4(4(4(4(4(4(4)))))))))))))))' ''
+
+# line ends
+fly "no line end after the last line" '0 0\n-1800000000 0' '0 0 0' 'Q\nO\n' 'OQ' ''
+fly "a last line that is no fix and has no end" '0 0\nx' '0 0 0' 'Q\n6\n' 'Q' 'line 2: 6'
+fly "carriage returns before line ends" '0 0\r\n-1800000000 0\r\n' '0 0 0' 'Q\nO\n' 'OQ' ''
+fly "carriage returns alone" '0 0\r-1800000000 0\r' '0 0 0' '6\n' '' 'line 1: 6'
+fly "a carriage return as a line" '\r\n0 0\n' '0 0 0' '6\nQ\n' 'Q' 'line 1: 6'
+fly "empty lines" '\n0 0\n\n\n' '0 0 0' '6\nQ\n6\n6\n' 'Q' 'line 1: 6; line 3: 6; line 4: 6'
+fly "line numbers go on" 'x\n0 0\ny\n0 0\nz\n' '0 0 0' '6\nQ\n6\nQ\n6\n' 'Q' 'line 1: 6; line 3: 6; line 5: 6'
+
+# lines that are no fixes, and fixes out of range; the flight goes on after each
+bad=(5 '1 2 3' 'a b' '0 a' '0x0 0' '0  0' '0\t0' '+0 0' '0 +0' '0.5 0' '0 0.5' '0,0' '0 ' ' 0' ' 0 0' '0 0 ' '- 0' '0 -' '--1 0' '-' '1e3 0' '0 0\r\r'
+    '12345678901234567890 0' '0 12345678901234567890' '9223372036854775808 0' '0 9223372036854775808' '-9223372036854775808 0'
+    '0 -9223372036854775808' '9223372036854775807 0' '18446744073709551616 0' '1800000000 0' '-1800000001 0' '0 1000000000000000001'
+    '0 -1000000000000000001' '4294967296 0' '\xff\xfe 0' '0 \x80' '\xc2\xa00 0' '0\x00 0' '0 0\x00' '\x00' '\xef\xbb\xbf0 0'
+    "$(times 100000 1)" "$(times 100000 0) 0" "0 0$(times 100000 ' ')" "$(times 64 7)" "0 0$(times 60 ' ')\r" "0 0$(times 61 ' ')\r")
+for line in "${bad[@]}"; do
+    fly "a line that is no fix, or one out of range" "$line\n0 0\n" '0 0 0' '6\nQ\n' 'Q' 'line 1: 6'
+done
+
+# input and output that fail
+for program in record name_fixes; do
+    try "a folder as input" "$program 0 0 9 <." '' "$program: standard input: Is a directory"
+    try "no input" "$program 0 0 9 <&-" '' "$program: standard input: Bad file descriptor"
+    try "a full disk" "echo 0 0 | $program 0 0 9 >/dev/full" '' 'standard output: No space left on device'
+    try "no output" "echo 0 0 | $program 0 0 9 >&-" '' 'standard output: Bad file descriptor'
+    try "input in parts" "(printf 0; sleep 0.1; printf ' '; sleep 0.1; printf '0\n1 0') | $program 0 0 0 | tail -c 2 | tr -d '\n' | tail -c 1" 'Q' ''
+done
+
+# long flights. Once round the equator at resolution 3 is row 13, 111 in base three, so every digit is 3, 4 or 5
+# COUNT LONGITUDE Z: so many lines, with Python's words for longitude and z over i
+lines() { python3 -c "for i in range($1): print($2, $3)"; }
+lines 100000 'i * 36000 - 1800000000' 0 >round
+A='(3(345)4(345)5(345))'
+printf '%b' "$H$(for face in O P Q R; do printf '%s' "$face(3${A}4${A}5$A)"; done)" >round.cvr
+try "100,000 fixes" 'record 0 0 3 <round' @round.cvr ''
+try "the same flown back" 'tac round | record 0 0 3' @round.cvr ''
+try "100,000 names" 'name_fixes 0 0 0 <round | uniq -c | tr -d " "' '25000O\n25000P\n25000Q\n25000R\n' ''
+try "100,000 names to a full disk" 'name_fixes 0 0 0 <round >/dev/full' '' 'standard output: No space left on device'
+try "a late line" '(cat round; echo x) | record 0 0 3' @round.cvr 'line 100001: 6'
+lines 65537 'i * 100' 0 >many # a cell of resolution 15 is under 63 units wide
+try "each in a cell of its own" 'name_fixes 0 0 15 <many | uniq | wc -l' '65537\n' ''
+try "more than 65,536 cells" 'record 0 0 15 <many' '' 13
+try "the flight goes on after that" '(cat many; echo 0 0; echo x) | record 0 0 15' '' 'line 65539: 6; 13'
+lines 10000 'i * 90000' 0 >far
+try "10,000 cells far apart, whose text is too long" 'record 0 0 15 <far' '' 13
+
+# "A flight of 100,000 fixes takes well under a second": forth, and back, when every new cell comes before all others
+fast() { (TIMEFORMAT=%U; time record "$@" >/dev/null 2>&1) 2>&1 | awk '{ print ($1 < 1 ? "fast" : $1) }'; }
+lines 100000 'i * 300' -500000000000000000 >forth
+try "how long 100,000 fixes take" 'fast 0 0 12 <forth' 'fast\n' ''
+try "how long they take flown back" 'tac forth | fast 0 0 12' 'fast\n' ''
+try "how long they take with too many cells" 'tac forth | fast 0 0 15' 'fast\n' ''
