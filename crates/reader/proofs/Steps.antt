@@ -1,7 +1,7 @@
 -- The steps of the two readers over the bytes as a list: what each hands back is what the definition finds. Assumes nothing.
 use mathlib.Core.Path.{_≡_, refl, sym, ap, _∙_}
 use mathlib.Core.List.{List, [], _∷_, _++_, append-assoc}
-use mathlib.Core.Bool.{cond}
+use mathlib.Core.Bool.{Bool, true, false, cond}
 use Prim.Native.Nat.{ℕ, zero, suc, _+_, _-_, _*_, _/_, _≤_, _<_}
 use native.Mathlib.Omega.{arith}
 use native.Mathlib.Numerals.{add-one, one-add}
@@ -13,7 +13,6 @@ use borrow.Author.Tests.{lt-ltb, le-ltb, le-leb, lt-leb, eq-eqb, ne-eqb}
 use Rattle.reading.specs.declared.Level.{Level}
 use Rattle.reading.specs.declared.Level.the-variants.{Digits}
 use Rattle.reading.specs.Reading.{Nodes, end, whole, listed, first, many, room, wholes, render, Some}
-use Rattle.reading.specs.ReadingLaws.{wholes-most}
 use Rattle.reading.specs.Parse.{Parse, bad, got, Item, wrong, bare, held, close, item, addWhole, addListed, then, parse}
 use Rattle.reading.specs.ParseLaws.{Right, RightItem, sound, item-right, drop-rest}
 use Rattle.reading.specs.Report.{count, area}
@@ -38,7 +37,6 @@ pub record NodeBounds (s : List ℕ) (at z : ℕ) (i : Item) (next n sum w : ℕ
   pub to : next ≤ length s
   pub few : n + at ≤ next + 1
   pub small : sum ≤ z
-  pub one : w ≤ 1
   pub rest : drop next s ≡ left i
 
 node-bounds : (s : List ℕ) (at d z next n sum w : ℕ) (i : Item) → RightItem d (drop at s) i → at ≤ length s
@@ -48,21 +46,18 @@ node-bounds s at d z next n sum w (bare rest) r h e =
     let e₁ : next ≡ length s - length rest = cc in
     let e₂ : n ≡ 1 = cc in
     let e₃ : sum ≡ z = cc in
-    let e₄ : w ≡ 1 = cc in
     let k : length rest ≡ length s - at = sym (ap length r) ∙ length-drop at s in
     record {
       from = omega arith;
       to = omega arith;
       few = omega arith;
       small = omega arith;
-      one = omega arith;
       rest = ap (λ (j : ℕ). drop j s) e₁ ∙ drop-rest s [] rest at r;
     }
 node-bounds s at d z next n sum w (held is rest) r h e =
     let e₁ : next ≡ length s - length rest = cc in
     let e₂ : n ≡ count is = cc in
     let e₃ : sum ≡ area (z / 9) is = cc in
-    let e₄ : w ≡ 0 = cc in
     let k : length (drop at s) ≡ length s - at = length-drop at s in
     let k₂ : length (drop at s) ≡ 2 + (length (render Digits is) + length rest) = omega (arith, ap length (r .4), length-append (render Digits is) (41 ∷ rest)) in
     record {
@@ -70,34 +65,12 @@ node-bounds s at d z next n sum w (held is rest) r h e =
       to = omega arith;
       few = omega (arith, count-most is Digits);
       small = omega (arith, area-most is Digits (d - 1) 0 (z / 9) (r .3) (omega arith), zero-mul (z / 9));
-      one = omega arith;
       rest = ap (λ (j : ℕ). drop j s) e₁ ∙ drop-rest s (40 ∷ (render Digits is ++ (41 ∷ []))) rest at (r .4 ∙ ap (λ (t : List ℕ). 40 ∷ t) (sym (append-assoc (render Digits is) (41 ∷ []) rest)));
     }
 
-pub record NodesBounds (s : List ℕ) (l : Level) (at lo z next n sum w : ℕ) : Type 0 where
-  pub from : at ≤ next
-  pub to : next ≤ length s
-  pub few : n + at ≤ next
-  pub small : sum + lo * z ≤ many l * z
-  pub nine : w + lo ≤ many l
-
-nodes-bounds : (s : List ℕ) (l : Level) (at d lo z next n sum w : ℕ) (p : Parse) → Right l d lo (drop at s) p → at ≤ length s → lo ≤ many l
-    → Read next n sum w ≡ gotOf (length s) z p → NodesBounds s l at lo z next n sum w
-nodes-bounds s l at d lo z next n sum w bad r h h′ e = let k : _≡_ {A = ℕ} 0 1 = cc in absurd (omega arith)
-nodes-bounds s l at d lo z next n sum w (got ns rest) r h h′ e =
-    let e₁ : next ≡ length s - length rest = cc in
-    let e₂ : n ≡ count ns = cc in
-    let e₃ : sum ≡ area z ns = cc in
-    let e₄ : w ≡ wholes ns = cc in
-    let k : length (drop at s) ≡ length s - at = length-drop at s in
-    let k₂ : length (drop at s) ≡ length (render l ns) + length rest = ap length (r .1) ∙ length-append (render l ns) rest in
-    record {
-      from = omega arith;
-      to = omega arith;
-      few = omega (arith, count-most ns l);
-      small = omega (arith, area-most ns l d lo z (r .0) h′);
-      nine = omega (arith, wholes-most ns l d lo (r .0) h′);
-    }
+nodes-bounds : (n z next m sum w : ℕ) (p : Parse) → Read next m sum w ≡ gotOf n z p → next ≤ n
+nodes-bounds n z next m sum w bad e = let k : _≡_ {A = ℕ} 0 1 = cc in absurd (omega arith)
+nodes-bounds n z next m sum w (got ns rest) e = let e₁ : next ≡ n - length rest = cc in omega arith
 
 -- the list reader
 module _ (s : List ℕ) (at lo : ℕ) (l : Level) (d z : ℕ) where
@@ -163,6 +136,20 @@ some-of end h = absurd (h refl)
 some-of (whole c ns) h = tt
 some-of (listed c is ns) h = tt
 
+-- behind a `(` there is no whole node
+held-none : (n z next m sum w : ℕ) (is : Nodes) (rest : List ℕ) (t : Bool) → Read next m sum w ≡ itemOf n z (cond t wrong (held is rest)) → w ≡ 0
+held-none n z next m sum w is rest true e = let k : _≡_ {A = ℕ} 0 1 = cc in absurd (omega arith)
+held-none n z next m sum w is rest false e = cc
+
+close-held : (n z next m sum w : ℕ) (p : Parse) → Read next m sum w ≡ itemOf n z (close p) → w ≡ 0
+unfolding close
+close-held n z next m sum w bad e = let k : _≡_ {A = ℕ} 0 1 = cc in absurd (omega arith)
+close-held n z next m sum w (got end rest) e = let k : _≡_ {A = ℕ} 0 1 = cc in absurd (omega arith)
+close-held n z next m sum w (got (whole c ns) []) e = let k : _≡_ {A = ℕ} 0 1 = cc in absurd (omega arith)
+close-held n z next m sum w (got (whole c ns) (b ∷ rest)) e = held-none n z next m sum w (whole c ns) rest (eqb (wholes (whole c ns)) 9) e
+close-held n z next m sum w (got (listed c is ns) []) e = let k : _≡_ {A = ℕ} 0 1 = cc in absurd (omega arith)
+close-held n z next m sum w (got (listed c is ns) (b ∷ rest)) e = held-none n z next m sum w (listed c is ns) rest (eqb (wholes (listed c is ns)) 9) e
+
 module _ (s : List ℕ) (from d z : ℕ) where
   close-bad : (p : Parse) → Bad ≡ gotOf (length s) (z / 9) p → Bad ≡ itemOf (length s) z (close p)
   unfolding close
@@ -216,27 +203,22 @@ module _ (s : List ℕ) (from d z : ℕ) where
       let e₅ : sum ≡ area (z / 9) ns = cc in
       rw (close-some ns b rest k, ne-eqb (wholes ns) 9 (λ q. f (e₂ ∙ q))) (cc)
 
+-- what was read, and then what the list reader hands back of the rest
+abbrev pub plus : ℕ → ℕ → ℕ → Got → Got
+plus n sum w Bad = Bad
+plus n sum w (Read next n₂ sum₂ w₂) = Read next (n + n₂) (sum + sum₂) (w + w₂)
+
 module _ (n z c : ℕ) (k : List ℕ → Parse) where
-  addWhole-bad : (p : Parse) → Bad ≡ gotOf n z p → Bad ≡ gotOf n z (addWhole c p)
+  addWhole-more : (p : Parse) → plus 1 z 1 (gotOf n z p) ≡ gotOf n z (addWhole c p)
   unfolding addWhole
-  addWhole-bad bad e = refl
-  addWhole-bad (got ns rest) e = let q : _≡_ {A = ℕ} 0 1 = cc in absurd (omega arith)
+  addWhole-more bad = refl
+  addWhole-more (got ns rest) = ap (λ (w : ℕ). Read (n - length rest) (1 + count ns) (z + area z ns) w) (one-add (wholes ns))
 
-  addListed-bad : (is : Nodes) (p : Parse) → Bad ≡ gotOf n z p → Bad ≡ gotOf n z (addListed c is p)
+  addListed-more : (is : Nodes) (p : Parse) → plus (count is) (area (z / 9) is) 0 (gotOf n z p) ≡ gotOf n z (addListed c is p)
   unfolding addListed
-  addListed-bad is bad e = refl
-  addListed-bad is (got ns rest) e = let q : _≡_ {A = ℕ} 0 1 = cc in absurd (omega arith)
-
-  addWhole-read : (next m sum w : ℕ) (p : Parse) → Read next m sum w ≡ gotOf n z p → Read next (1 + m) (z + sum) (1 + w) ≡ gotOf n z (addWhole c p)
-  unfolding addWhole
-  addWhole-read next m sum w bad e = let q : _≡_ {A = ℕ} 0 1 = cc in absurd (omega arith)
-  addWhole-read next m sum w (got ns rest) e = cc (one-add (wholes ns))
-
-  addListed-read : (is : Nodes) (next m sum w : ℕ) (p : Parse) → Read next m sum w ≡ gotOf n z p
-      → Read next (count is + m) (area (z / 9) is + sum) (0 + w) ≡ gotOf n z (addListed c is p)
-  unfolding addListed
-  addListed-read is next m sum w bad e = let q : _≡_ {A = ℕ} 0 1 = cc in absurd (omega arith)
-  addListed-read is next m sum w (got ns rest) e = let z₀ : 0 + w ≡ w = omega arith in cc
+  addListed-more is bad = refl
+  addListed-more is (got ns rest) =
+      ap (λ (w : ℕ). Read (n - length rest) (count is + count ns) (area (z / 9) is + area z ns) w) (omega arith)
 
   -- the node is wrong
   then-wrong : (i : Item) → Bad ≡ itemOf n z i → Bad ≡ gotOf n z (then c k i)
@@ -245,27 +227,21 @@ module _ (n z c : ℕ) (k : List ℕ → Parse) where
   then-wrong (bare rest) e = let q : _≡_ {A = ℕ} 0 1 = cc in absurd (omega arith)
   then-wrong (held is rest) e = let q : _≡_ {A = ℕ} 0 1 = cc in absurd (omega arith)
 
-  -- the nodes after it are wrong
-  then-bad : (i : Item) → Bad ≡ gotOf n z (k (left i)) → Bad ≡ gotOf n z (then c k i)
+  -- the node was read, and the nodes after it are right or wrong
+  then-more : (next m sum w : ℕ) (i : Item) → Read next m sum w ≡ itemOf n z i → (r : Got) → r ≡ gotOf n z (k (left i))
+      → plus m sum w r ≡ gotOf n z (then c k i)
   unfolding then
-  then-bad wrong e = refl
-  then-bad (bare rest) e = addWhole-bad (k rest) e
-  then-bad (held is rest) e = addListed-bad is (k rest) e
-
-  then-read : (next m sum w next₂ m₂ sum₂ w₂ : ℕ) (i : Item) → Read next m sum w ≡ itemOf n z i → Read next₂ m₂ sum₂ w₂ ≡ gotOf n z (k (left i))
-      → Read next₂ (m + m₂) (sum + sum₂) (w + w₂) ≡ gotOf n z (then c k i)
-  unfolding then
-  then-read next m sum w next₂ m₂ sum₂ w₂ wrong e f = let q : _≡_ {A = ℕ} 0 1 = cc in absurd (omega arith)
-  then-read next m sum w next₂ m₂ sum₂ w₂ (bare rest) e f =
+  then-more next m sum w wrong e r f = let q : _≡_ {A = ℕ} 0 1 = cc in absurd (omega arith)
+  then-more next m sum w (bare rest) e r f =
       let e₁ : m ≡ 1 = cc in
       let e₂ : sum ≡ z = cc in
       let e₃ : w ≡ 1 = cc in
-      rw (e₁, e₂, e₃) (addWhole-read next₂ m₂ sum₂ w₂ (k rest) f)
-  then-read next m sum w next₂ m₂ sum₂ w₂ (held is rest) e f =
+      rw (e₁, e₂, e₃, f) (addWhole-more (k rest))
+  then-more next m sum w (held is rest) e r f =
       let e₁ : m ≡ count is = cc in
       let e₂ : sum ≡ area (z / 9) is = cc in
       let e₃ : w ≡ 0 = cc in
-      rw (e₁, e₂, e₃) (addListed-read is next₂ m₂ sum₂ w₂ (k rest) f)
+      rw (e₁, e₂, e₃, f) (addListed-more is (k rest))
 
 -- what the contracts say
 abbrev pub NodeF : List ℕ → ℕ → ℕ → ℕ → Got → Type 0
@@ -280,11 +256,22 @@ node-known s at d z next n sum w r h f e m k =
     node-bounds s at d z next n sum w (item (λ e cs. parse m Digits e 0 cs) d (drop at s))
     (item-right (λ e cs. parse m Digits e 0 cs) (λ e cs. sound m Digits e 0 cs) d (drop at s)) h (sym e ∙ f m k)
 
-pub nodes-known : (s : List ℕ) (at lo : ℕ) (l : Level) (d z next n sum w : ℕ) (r : Got) → at ≤ length s → lo ≤ many l → NodesF s at lo l d z r → r ≡ Read next n sum w
-    → NodesBounds s l at lo z next n sum w
-nodes-known s at lo l d z next n sum w r h h′ f e =
+pub nodes-known : (s : List ℕ) (at lo : ℕ) (l : Level) (d z next n sum w : ℕ) (r : Got) → NodesF s at lo l d z r → r ≡ Read next n sum w → next ≤ length s
+nodes-known s at lo l d z next n sum w r f e =
     let m : ℕ = suc (length s) in
-    nodes-bounds s l at d lo z next n sum w (parse m l d lo (drop at s)) (sound m l d lo (drop at s)) h h′ (sym e ∙ f m (omega arith))
+    nodes-bounds (length s) z next n sum w (parse m l d lo (drop at s)) (sym e ∙ f m (omega arith))
+
+pub node-list : (s : List ℕ) (at d z next n sum w : ℕ) (r : Got) → at < length s → getD s at 0 ≡ 40 → NodeF s at d z r → r ≡ Read next n sum w → w ≡ 0
+unfolding item
+node-list s at d z next n sum w r a e f b =
+    let m : ℕ = suc (length s) in
+    let p : Parse = parse m Digits (d - 1) 0 (drop (at + 1) s) in
+    let i : item (λ e cs. parse m Digits e 0 cs) d (drop at s) ≡ cond (eqb d 0) wrong (close p) = rw (drop-byte s at a, eq-eqb (getD s at 0) 40 e) in
+    go (eqb d 0) p (sym b ∙ f m (omega arith) ∙ ap (itemOf (length s) z) i)
+  where
+    go : (t : Bool) (p : Parse) → Read next n sum w ≡ itemOf (length s) z (cond t wrong (close p)) → w ≡ 0
+    go true p q = let k : _≡_ {A = ℕ} 0 1 = cc in absurd (omega arith)
+    go false p q = close-held (length s) z next n sum w p q
 
 -- the node reader at a `(`
 module _ (s : List ℕ) (at d z : ℕ) (r : Got) (a : at < length s) (e : getD s at 0 ≡ 40) (f : d ≡ 0 → ⊥) (h : NodesF s (at + 1) 0 Digits (d - 1) (z / 9) r) where
@@ -320,17 +307,10 @@ module _ (s : List ℕ) (at lo : ℕ) (l : Level) (d z c under : ℕ) (r : Got) 
   nodes-wrong b zero k = absurd (omega arith)
   nodes-wrong b (suc n) k = rw (nodes-step n) (then-wrong (length s) z c (λ rest. parse n l d (c + 1) rest) (item (λ e cs. parse n Digits e 0 cs) under (drop (at + 1) s)) (sym b ∙ h n (omega arith)))
 
-  module _ (next m sum w : ℕ) (b : r ≡ Read next m sum w) (r₂ : Got) (h₂ : NodesF s next (c + 1) l d z r₂) where
-    pub nodes-bad : r₂ ≡ Bad → NodesF s at lo l d z Bad
-    nodes-bad b₂ zero k = absurd (omega arith)
-    nodes-bad b₂ (suc n) k =
-        let o : NodeBounds s (at + 1) z (item (λ e cs. parse n Digits e 0 cs) under (drop (at + 1) s)) next m sum w = node-known s (at + 1) under z next m sum w r (omega arith) h b n (omega arith) in
-        rw (nodes-step n) (then-bad (length s) z c (λ rest. parse n l d (c + 1) rest) (item (λ e cs. parse n Digits e 0 cs) under (drop (at + 1) s)) (rw (← o .rest) (sym b₂ ∙ h₂ n (omega (arith, o .from)))))
-
-    pub nodes-read : (next₂ m₂ sum₂ w₂ : ℕ) → r₂ ≡ Read next₂ m₂ sum₂ w₂ → NodesF s at lo l d z (Read next₂ (m + m₂) (sum + sum₂) (w + w₂))
-    nodes-read next₂ m₂ sum₂ w₂ b₂ zero k = absurd (omega arith)
-    nodes-read next₂ m₂ sum₂ w₂ b₂ (suc n) k =
-        let o : NodeBounds s (at + 1) z (item (λ e cs. parse n Digits e 0 cs) under (drop (at + 1) s)) next m sum w = node-known s (at + 1) under z next m sum w r (omega arith) h b n (omega arith) in
-        rw (nodes-step n)
-        (then-read (length s) z c (λ rest. parse n l d (c + 1) rest) next m sum w next₂ m₂ sum₂ w₂ (item (λ e cs. parse n Digits e 0 cs) under (drop (at + 1) s)) (sym b ∙ h n (omega arith))
-        (rw (← o .rest) (sym b₂ ∙ h₂ n (omega (arith, o .from)))))
+  pub nodes-more : (next m sum w : ℕ) → r ≡ Read next m sum w → (r₂ : Got) → NodesF s next (c + 1) l d z r₂ → NodesF s at lo l d z (plus m sum w r₂)
+  nodes-more next m sum w b r₂ h₂ zero k = absurd (omega arith)
+  nodes-more next m sum w b r₂ h₂ (suc n) k =
+      let o : NodeBounds s (at + 1) z (item (λ e cs. parse n Digits e 0 cs) under (drop (at + 1) s)) next m sum w = node-known s (at + 1) under z next m sum w r (omega arith) h b n (omega arith) in
+      rw (nodes-step n)
+      (then-more (length s) z c (λ rest. parse n l d (c + 1) rest) next m sum w (item (λ e cs. parse n Digits e 0 cs) under (drop (at + 1) s)) (sym b ∙ h n (omega arith))
+      r₂ (rw (← o .rest) (h₂ n (omega (arith, o .from)))))

@@ -2,8 +2,8 @@
 use reading::Level;
 ghost use mathlib.Core.Path.{_≡_};
 ghost use Prim.Native.Nat.{_*_, _^_, _≤_, _<_};
-ghost use lib.ListN.{length};
-ghost use Rattle.reading.specs.Reading.{many};
+ghost use lib.Dec.{eqb};
+ghost use lib.ListN.{length, getD};
 ghost use Rattle.reading.specs.Place.{least, greatest, lead};
 ghost use Rattle.reader.specs.Check.{checkedOf};
 ghost use Rattle.reader.specs.Got.{NodeIs, NodesIs};
@@ -29,30 +29,28 @@ pub enum Got {
     Read(usize, u64, u64, u64),
 }
 
-// The node reader, past a node's letter or digit: the list that the node holds, or nothing. The node's own size is `size`, and `room` digits may lie
+// Whether a `(` stands at a place.
+fn opens(text: &[u8], at: usize) -> bool
+    ensures { λ r. ⌜ r ≡ eqb (getD (now (text .entry)) at 0) 40 ⌝ }
+{
+    if at >= text.len() {
+        return false;
+    }
+    text[at] == 40
+}
+
+// The node reader, at the `(` behind a node's letter or digit: the list that the node holds. The node's own size is `size`, and `room` digits may lie
 // below it.
 fn node(text: &[u8], at: usize, room: u64, size: u64) -> Got
-    requires { ⌜ at ≤ length (now text) ⌝ }
+    requires { ⌜ (at < length (now text)) × (getD (now text) at 0 ≡ 40) ⌝ }
     ensures { λ r. ⌜ NodeIs (now (text .entry)) at room size r ⌝ }
 {
-    if at == text.len() {
-        return Got::Read(at, 1, size, 1);
-    }
-    if text[at] != 40 {
-        return Got::Read(at, 1, size, 1);
-    }
     if room == 0 {
         return Got::Bad;
     }
     let start = at + 1;
-    let Got::Read(next, cells, sum, wholes) = nodes(
-        text,
-        start,
-        0,
-        Level::Digits,
-        room - 1,
-        size / 9,
-    ) else {
+    let Got::Read(next, cells, sum, wholes) = nodes(text, start, Level::Digits, room - 1, size / 9)
+    else {
         return Got::Bad;
     };
     if next == start {
@@ -67,39 +65,45 @@ fn node(text: &[u8], at: usize, room: u64, size: u64) -> Got
     Got::Read(next + 1, cells, sum, 0)
 }
 
-// The list reader: nodes whose numbers rise from `low` on, up to a `)` or the end.
-fn nodes(text: &[u8], at: usize, low: u8, level: Level, room: u64, size: u64) -> Got
-    requires { ⌜ (at ≤ length (now text)) × (low ≤ many level) × (9 * size < 2 ^ 64) ⌝ }
-    ensures { λ r. ⌜ NodesIs (now (text .entry)) at low level room size r ⌝ }
+// The list reader: nodes whose numbers rise, up to a `)` or the end. A node is whole where no `(` follows.
+fn nodes(text: &[u8], start: usize, level: Level, room: u64, size: u64) -> Got
+    requires { ⌜ (start ≤ length (now text)) × (9 * size < 2 ^ 64) ⌝ }
+    ensures { λ r. ⌜ NodesIs (now (text .entry)) start 0 level room size r ⌝ }
 {
     let length = text.len();
-    if at == length {
-        return Got::Read(at, 0, 0, 0);
-    }
-    let b = text[at];
-    if b == 41 {
-        return Got::Read(at, 0, 0, 0);
-    }
     let base = reading::first_byte(level);
-    if b < base + low {
-        return Got::Bad;
+    let above = base + reading::how_many(level);
+    let mut at = start;
+    let mut low = base;
+    let mut cells: u64 = 0;
+    let mut sum: u64 = 0;
+    let mut wholes: u64 = 0;
+    while at < length {
+        let b = text[at];
+        if b == 41 {
+            break;
+        }
+        if b < low {
+            return Got::Bad;
+        }
+        if above <= b {
+            return Got::Bad;
+        }
+        low = b + 1;
+        at += 1;
+        if !opens(text, at) {
+            wholes += 1;
+            continue;
+        }
+        let under = reading::room_below(level, b - base, room);
+        let Got::Read(next, more, rest, _) = node(text, at, under, size) else {
+            return Got::Bad;
+        };
+        at = next;
+        cells += more;
+        sum += rest;
     }
-    if base + reading::how_many(level) <= b {
-        return Got::Bad;
-    }
-    let number = b - base;
-    let Got::Read(next, cells, sum, wholes) = node(
-        text,
-        at + 1,
-        reading::room_below(level, number, room),
-        size,
-    ) else {
-        return Got::Bad;
-    };
-    let Got::Read(end, more, rest, others) = nodes(text, next, number + 1, level, room, size) else {
-        return Got::Bad;
-    };
-    Got::Read(end, cells + more, sum + rest, wholes + others)
+    Got::Read(at, cells + wholes, sum + wholes * size, wholes)
 }
 
 const LEAST: [u8; 7] = [67, 86, 82, 0, 1, 48, 48];
@@ -154,8 +158,7 @@ fn check_body(text: &[u8]) -> Checked
     requires { ⌜ (length (now text) ≤ 65536) × (7 ≤ lead least greatest (now text)) ⌝ }
     ensures { λ r. ⌜ r ≡ checkedOf (now (text .entry)) ⌝ }
 {
-    let Got::Read(next, cells, size, _) = nodes(text, 7, 0, Level::Faces, 15, 205891132094649)
-    else {
+    let Got::Read(next, cells, size, _) = nodes(text, 7, Level::Faces, 15, 205891132094649) else {
         return refused(9, place::place(text, 7, Level::Faces, 15) as u64);
     };
     if next < text.len() {

@@ -1,22 +1,25 @@
--- The proof of the cycle of calls {node, nodes}. The measures are twice the unread bytes, and one more for the list reader, which calls the node
--- reader past one byte. What each hands back is said by the laws of Readers. Assumes nothing.
-use Prim.Native.Nat.{ℕ, _+_, _-_, _*_, _<_}
+-- The proof of the cycle of calls {node, nodes}. The measure of both is the unread bytes: the list reader calls the node reader past a letter or digit,
+-- and the node reader the list reader past a `(`. The loop's invariant is Runs, of Readers. Assumes nothing.
+use mathlib.Core.Path.{_≡_, sym, ap, _∙_}
+use mathlib.Core.Logic.{⊎-elim}
+use Prim.Native.Nat.{ℕ, _+_, _-_, _<_}
 use native.Mathlib.Omega.{arith}
-use native.Mathlib.Nat.{mul-le-mul-right, suc-mul}
 use lib.ListN.{length, getD}
 use borrow.Author.Needs.{needs}
+use borrow.Author.Tests.{eqb-true, eqb-false, not-true, not-false}
 use borrow.Fn.Kinds.{In}
 use borrow.Fn.PlainCycle.{Measures, is, falls, and}
-use Rattle.reading.specs.Reading.{room}
+use Rattle.reading.specs.Reading.{first, room}
 use Rattle.reading.specs.ReadingLaws.{many-most}
 use Rattle.reader.proofs.Readers as rd
-use Rattle.reader.proofs.Readers.{Opens, Names, From}
+use Rattle.reader.proofs.Readers.{Opens, Runs}
 use Rattle.reader.proofs.node.Reads as node
 use Rattle.reader.proofs.node.Kinds as node-kinds
 use Rattle.reader.proofs.+node+nodes.Lts-node as node-lts
 use Rattle.reader.proofs.nodes.Reads as nodes
 use Rattle.reader.proofs.nodes.Kinds as nodes-kinds
 use Rattle.reader.proofs.+node+nodes.Lts-nodes as nodes-lts
+use Rattle.reader.proofs.opens.Reads as opens-reads
 use Rattle.reading.proofs.first_byte.Reads as first-byte-reads
 use Rattle.reading.proofs.how_many.Reads as how-many-reads
 use Rattle.reading.proofs.room_below.Reads as room-below-reads
@@ -24,10 +27,10 @@ use Rattle.reader.proofs.+node+nodes.{statement}
 use Rattle.reader.proofs.+node+nodes.Tie.{close}
 
 abbrev μ-node : Measures 1 node-kinds.ps ℕ
-μ-node κs a = 2 * (length (a .0 .now) - a .1 .0)
+μ-node κs a = length (a .0 .now) - a .1 .0
 
 abbrev μ-nodes : Measures 1 nodes-kinds.ps ℕ
-μ-nodes κs a = 2 * (length (a .0 .now) - a .1 .0) + 1
+μ-nodes κs a = length (a .0 .now) - a .1 .0
 
 abbrev node-at : ℕ → In 1 node-kinds.ps
 node-at t = and 1 node-kinds.ps (is 1 node-kinds.ps μ-node t) node.Pre
@@ -51,42 +54,20 @@ for-nodes t = (
   first-byte-reads.Learnt,
   how-many-reads.Asked,
   how-many-reads.Learnt,
+  opens-reads.Asked,
+  opens-reads.Learnt,
   room-below-reads.Asked,
   room-below-reads.Learnt,
   node-below t,
   node.Post,
-  nodes-below t,
-  nodes.Post,
 )
 
--- the node reader is at a `(`
-opens : (t : ℕ) (c : node-lts.Else3 (for-node t) (node-at t) node.Post) → let a = c .before .before .before .before .before .args in Opens (a .text .now) (a .at) (a .room)
-opens t c = record { inside = omega arith; bracket = c .before .if2 .left; deep = c .if3 .left }
-
--- the list reader is at a letter or digit
-names : (t : ℕ) (c : nodes-lts.After-room-below (for-nodes t) (nodes-at t) nodes.Post)
-    → let a = c .before .before .before .before .before .before .before .before .before .args in
-    Names (a .text .now) (a .at) (a .low) (a .level) (a .room) (getD (a .text .now) (a .at) 0 - c .before .before .before .before .first-byte .result) (c .room-below .result)
-names t c = record { inside = omega arith; other = c .before .before .before .before .before .if2 .left; low = omega arith; high = omega arith; number = omega arith; below = c .room-below .ensures }
-
--- how far the node's numbers go
-node-from : (t : ℕ) (c : nodes-lts.After-known-told (for-nodes t) (nodes-at t) nodes.Post)
-    → let a = c .before .before .before .before .before .before .before .before .before .before .before .before .before .args in
-    let g = c .before .next .given .0 in
-    From (a .text .now) (a .at + 1) (a .size) (g .0) (g .1 .0) (g .1 .1 .0) (g .1 .1 .1 .0)
-node-from t c = rd.node-known (c .before .before .before .node .ensures) (c .before .next .given .1) (omega arith)
+-- the node reader is at a `(` below which digits may lie
+opens : (t : ℕ) (c : node-lts.Else1 (for-node t) (node-at t) node.Post) → let a = c .before .before .args in Opens (a .text .now) (a .at) (a .room)
+opens t c = record { inside = omega arith; bracket = c .before .before .pre .1 .1; deep = c .if1 .left }
 
 node-returns : (t : ℕ) → node-lts.Need-returns (for-node t) (node-at t) node.Post
-node-returns t c = rd.node-end (c .if1 .taken)
-
-node-shared-slice-read-if2 : (t : ℕ) → node-lts.Need-shared-slice-read-if2 (for-node t) (node-at t) node.Post
-node-shared-slice-read-if2 t c = omega arith
-
-node-returns-2 : (t : ℕ) → node-lts.Need-returns-2 (for-node t) (node-at t) node.Post
-node-returns-2 t c = rd.node-bare (omega arith) (c .if2 .taken)
-
-node-returns-3 : (t : ℕ) → node-lts.Need-returns-3 (for-node t) (node-at t) node.Post
-node-returns-3 t c = rd.node-none (omega arith) (c .before .if2 .left) (c .if3 .taken)
+node-returns t c = rd.node-none (omega arith) (c .before .before .pre .1 .1) (c .if1 .taken)
 
 node-add-start : (t : ℕ) → node-lts.Need-add-start (for-node t) (node-at t) node.Post
 node-add-start t c = omega arith
@@ -103,154 +84,193 @@ node-enum-known-next t c = search needs
 node-enum-told : (t : ℕ) → node-lts.Need-enum-told (for-node t) (node-at t) node.Post
 node-enum-told t c = search needs
 
+node-returns-2 : (t : ℕ) → node-lts.Need-returns-2 (for-node t) (node-at t) node.Post
+node-returns-2 t c = rd.node-bad (opens t (c .before .before .before)) (c .before .before .nodes .ensures) (c .enum-told .given .1)
+
+node-returns-3 : (t : ℕ) → node-lts.Need-returns-3 (for-node t) (node-at t) node.Post
+node-returns-3 t c = rd.node-empty (opens t (c .before .before .before .before .before)) (c .before .before .before .before .nodes .ensures) (c .before .before .next .given .1) (c .if2 .taken)
+
 node-returns-4 : (t : ℕ) → node-lts.Need-returns-4 (for-node t) (node-at t) node.Post
-node-returns-4 t c = rd.node-bad (opens t (c .before .before .before)) (c .before .before .nodes .ensures) (c .enum-told .given .1)
+node-returns-4 t c = rd.node-short (opens t (c .before .before .before .before .before .before)) (c .before .before .before .before .before .nodes .ensures) (c .before .before .before .next .given .1) (c .if3 .taken)
 
 node-returns-5 : (t : ℕ) → node-lts.Need-returns-5 (for-node t) (node-at t) node.Post
-node-returns-5 t c = rd.node-empty (opens t (c .before .before .before .before .before)) (c .before .before .before .before .nodes .ensures) (c .before .before .next .given .1) (c .if4 .taken)
+node-returns-5 t c = rd.node-nine (opens t (c .before .before .before .before .before .before .before)) (c .before .before .before .before .before .before .nodes .ensures) (c .before .before .before .before .next .given .1) (c .before .before .if2 .left) (c .if4 .taken)
+
+node-add-t15 : (t : ℕ) → node-lts.Need-add-t15 (for-node t) (node-at t) node.Post
+node-add-t15 t c = omega (arith, rd.nodes-known (c .before .before .before .before .before .before .nodes .ensures) (c .before .before .before .before .next .given .1))
 
 node-returns-6 : (t : ℕ) → node-lts.Need-returns-6 (for-node t) (node-at t) node.Post
-node-returns-6 t c = rd.node-short (opens t (c .before .before .before .before .before .before)) (c .before .before .before .before .before .nodes .ensures) (c .before .before .before .next .given .1) (c .if5 .taken)
+node-returns-6 t c = rd.node-read (opens t (c .before .before .before .before .before .before .before)) (c .before .before .before .before .before .before .nodes .ensures) (c .before .before .before .before .next .given .1) (c .before .before .if2 .left) (c .before .if3 .left) (c .if4 .left)
 
-node-returns-7 : (t : ℕ) → node-lts.Need-returns-7 (for-node t) (node-at t) node.Post
-node-returns-7 t c = rd.node-nine (opens t (c .before .before .before .before .before .before .before)) (c .before .before .before .before .before .before .nodes .ensures) (c .before .before .before .before .next .given .1) (c .before .before .if4 .left) (c .if6 .taken)
+abbrev Inv : nodes-lts.InvT-loop
+Inv text start level room size length base above at₀ low₀ cells₀ sum₀ wholes₀ at low cells sum wholes = Runs text start level room size at low cells sum wholes
 
-node-add-t10 : (t : ℕ) → node-lts.Need-add-t10 (for-node t) (node-at t) node.Post
-node-add-t10 t c = omega (arith, rd.nodes-known (c .before .before .before .before .before .before .nodes .ensures) (c .before .before .before .before .next .given .1) (omega arith) (omega arith))
+abbrev μ : nodes-lts.MeasureT-loop
+μ text start level room size length′ base above at₀ low₀ cells₀ sum₀ wholes₀ at low cells sum wholes = length text - at
 
-node-returns-8 : (t : ℕ) → node-lts.Need-returns-8 (for-node t) (node-at t) node.Post
-node-returns-8 t c = rd.node-read (opens t (c .before .before .before .before .before .before .before)) (c .before .before .before .before .before .before .nodes .ensures) (c .before .before .before .before .next .given .1) (c .before .before .if4 .left) (c .before .if5 .left) (c .if6 .left)
+-- a letter or digit with no `(` behind it
+whole-on : (t : ℕ) (c : nodes-lts.Then4 (for-nodes t) (nodes-at t) nodes.Post Inv μ)
+    → let l = c .before .before .before .before .before .before .before in
+    let a = l .before .before .before .before .args in
+    Runs (a .text .now) (a .start) (a .level) (a .room) (a .size) (l .loop .at + 1) (getD (a .text .now) (l .loop .at) 0 + 1) (l .loop .cells) (l .loop .sum) (l .loop .wholes + 1)
+whole-on t c =
+    let l = c .before .before .before .before .before .before .before in
+    rd.runs-whole (l .loop .inv) (c .before .before .before .before .before .before .loop-test .taken) (c .before .before .before .before .if1 .left) (omega arith) (omega arith)
+    (eqb-false _ _ (sym (c .before .opens .ensures) ∙ not-true _ (c .if4 .taken)))
 
-nodes-returns : (t : ℕ) → nodes-lts.Need-returns (for-nodes t) (nodes-at t) nodes.Post
-nodes-returns t c = rd.nodes-end (c .if1 .taken)
+-- a `(` is behind it
+bracket : (t : ℕ) (c : nodes-lts.Else4 (for-nodes t) (nodes-at t) nodes.Post Inv μ)
+    → let l = c .before .before .before .before .before .before .before in
+    getD (l .before .before .before .before .args .text .now) (l .loop .at + 1) 0 ≡ 40
+bracket t c = eqb-true _ _ (sym (c .before .opens .ensures) ∙ not-false _ (c .if4 .left))
 
-nodes-shared-slice-read-b : (t : ℕ) → nodes-lts.Need-shared-slice-read-b (for-nodes t) (nodes-at t) nodes.Post
-nodes-shared-slice-read-b t c = omega arith
+-- how many digits may lie below it
+below : (t : ℕ) (c : nodes-lts.After-room-below (for-nodes t) (nodes-at t) nodes.Post Inv μ)
+    → let l = c .before .before .before .before .before .before .before .before in
+    let a = l .before .before .before .before .args in
+    c .room-below .result ≡ room (a .level) (getD (a .text .now) (l .loop .at) 0 - first (a .level)) (a .room)
+below t c =
+    let l = c .before .before .before .before .before .before .before .before in
+    let a = l .before .before .before .before .args in
+    c .room-below .ensures ∙ ap (λ (x : ℕ). room (a .level) (getD (a .text .now) (l .loop .at) 0 - x) (a .room)) (l .before .before .first-byte .ensures)
 
-nodes-returns-2 : (t : ℕ) → nodes-lts.Need-returns-2 (for-nodes t) (nodes-at t) nodes.Post
-nodes-returns-2 t c = rd.nodes-close (omega arith) (c .if2 .taken)
+listed-on : (t : ℕ) (c : nodes-lts.After-known-told (for-nodes t) (nodes-at t) nodes.Post Inv μ)
+    → let l = c .before .before .before .before .before .before .before .before .before .before .before .before in
+    let a = l .before .before .before .before .args in
+    let g = c .before .next .given .0 in
+    Runs (a .text .now) (a .start) (a .level) (a .room) (a .size) (g .0) (getD (a .text .now) (l .loop .at) 0 + 1) (l .loop .cells + g .1 .0) (l .loop .sum + g .1 .1 .0) (l .loop .wholes)
+listed-on t c =
+    let o = c .before .before .before .before .before in
+    let l = o .before .before .before .before .before .before .before in
+    rd.runs-listed (l .loop .inv) (o .before .before .before .before .before .before .loop-test .taken) (o .before .before .before .before .if1 .left) (omega arith) (omega arith)
+    (below t (c .before .before .before .before)) (c .before .before .before .node .ensures) (bracket t o) (c .before .next .given .1)
 
-nodes-first-byte-requires : (t : ℕ) → nodes-lts.Need-first-byte-requires (for-nodes t) (nodes-at t) nodes.Post
+nodes-first-byte-requires : (t : ℕ) → nodes-lts.Need-first-byte-requires (for-nodes t) (nodes-at t) nodes.Post Inv μ
 nodes-first-byte-requires t c κs = search needs
 
-nodes-add-if3 : (t : ℕ) → nodes-lts.Need-add-if3 (for-nodes t) (nodes-at t) nodes.Post
-nodes-add-if3 t c = omega (arith, rd.first-most (c .before .before .before .before .before .args .level), many-most (c .before .before .before .before .before .args .level))
-
-nodes-returns-3 : (t : ℕ) → nodes-lts.Need-returns-3 (for-nodes t) (nodes-at t) nodes.Post
-nodes-returns-3 t c = rd.nodes-low (omega arith) (c .before .before .if2 .left) (omega arith)
-
-nodes-how-many-requires : (t : ℕ) → nodes-lts.Need-how-many-requires (for-nodes t) (nodes-at t) nodes.Post
+nodes-how-many-requires : (t : ℕ) → nodes-lts.Need-how-many-requires (for-nodes t) (nodes-at t) nodes.Post Inv μ
 nodes-how-many-requires t c κs = search needs
 
-nodes-add-if4 : (t : ℕ) → nodes-lts.Need-add-if4 (for-nodes t) (nodes-at t) nodes.Post
-nodes-add-if4 t c = omega (arith, rd.first-most (c .before .before .before .before .before .before .before .args .level), many-most (c .before .before .before .before .before .before .before .args .level))
+nodes-add-above : (t : ℕ) → nodes-lts.Need-add-above (for-nodes t) (nodes-at t) nodes.Post Inv μ
+nodes-add-above t c = omega (arith, rd.first-most (c .before .before .before .args .level), many-most (c .before .before .before .args .level))
 
-nodes-returns-4 : (t : ℕ) → nodes-lts.Need-returns-4 (for-nodes t) (nodes-at t) nodes.Post
-nodes-returns-4 t c = rd.nodes-high (omega arith) (c .before .before .before .before .if2 .left) (omega arith) (omega arith)
+nodes-loop-holds : (t : ℕ) → nodes-lts.Need-loop-holds (for-nodes t) (nodes-at t) nodes.Post Inv μ
+nodes-loop-holds t c = rd.runs-start (omega arith) (c .before .first-byte .ensures)
 
-nodes-sub-number : (t : ℕ) → nodes-lts.Need-sub-number (for-nodes t) (nodes-at t) nodes.Post
-nodes-sub-number t c = omega arith
+nodes-shared-slice-read-b : (t : ℕ) → nodes-lts.Need-shared-slice-read-b (for-nodes t) (nodes-at t) nodes.Post Inv μ
+nodes-shared-slice-read-b t c = omega arith
 
-nodes-add-node : (t : ℕ) → nodes-lts.Need-add-node (for-nodes t) (nodes-at t) nodes.Post
-nodes-add-node t c = omega arith
+nodes-returns : (t : ℕ) → nodes-lts.Need-returns (for-nodes t) (nodes-at t) nodes.Post Inv μ
+nodes-returns t c = rd.runs-low (c .before .before .before .before .loop .inv) (c .before .before .before .loop-test .taken) (c .before .if1 .left) (c .if2 .taken)
 
-nodes-room-below-requires : (t : ℕ) → nodes-lts.Need-room-below-requires (for-nodes t) (nodes-at t) nodes.Post
+nodes-returns-2 : (t : ℕ) → nodes-lts.Need-returns-2 (for-nodes t) (nodes-at t) nodes.Post Inv μ
+nodes-returns-2 t c = rd.runs-high (c .before .before .before .before .before .loop .inv) (c .before .before .before .before .loop-test .taken) (c .before .before .if1 .left) (omega arith) (omega arith)
+
+nodes-add-low : (t : ℕ) → nodes-lts.Need-add-low (for-nodes t) (nodes-at t) nodes.Post Inv μ
+nodes-add-low t c = omega (arith, rd.first-most (c .before .before .before .before .before .before .before .before .before .args .level), many-most (c .before .before .before .before .before .before .before .before .before .args .level))
+
+nodes-add-at : (t : ℕ) → nodes-lts.Need-add-at (for-nodes t) (nodes-at t) nodes.Post Inv μ
+nodes-add-at t c = omega arith
+
+nodes-opens-requires : (t : ℕ) → nodes-lts.Need-opens-requires (for-nodes t) (nodes-at t) nodes.Post Inv μ
+nodes-opens-requires t c κs = search needs
+
+nodes-add-wholes : (t : ℕ) → nodes-lts.Need-add-wholes (for-nodes t) (nodes-at t) nodes.Post Inv μ
+nodes-add-wholes t c = omega (arith, c .before .before .before .before .before .before .before .loop .inv .nine)
+
+nodes-loop-less : (t : ℕ) → nodes-lts.Need-loop-less (for-nodes t) (nodes-at t) nodes.Post Inv μ
+nodes-loop-less t c = omega arith
+
+nodes-loop-again : (t : ℕ) → nodes-lts.Need-loop-again (for-nodes t) (nodes-at t) nodes.Post Inv μ
+nodes-loop-again t c = whole-on t c
+
+nodes-sub-room-below : (t : ℕ) → nodes-lts.Need-sub-room-below (for-nodes t) (nodes-at t) nodes.Post Inv μ
+nodes-sub-room-below t c = omega (arith, c .before .before .before .before .before .before .before .loop .inv .least)
+
+nodes-room-below-requires : (t : ℕ) → nodes-lts.Need-room-below-requires (for-nodes t) (nodes-at t) nodes.Post Inv μ
 nodes-room-below-requires t c κs = search needs
 
-nodes-node-requires : (t : ℕ) → nodes-lts.Need-node-requires (for-nodes t) (nodes-at t) nodes.Post
-nodes-node-requires t c κs = (omega arith, omega arith)
+nodes-node-requires : (t : ℕ) → nodes-lts.Need-node-requires (for-nodes t) (nodes-at t) nodes.Post Inv μ
+nodes-node-requires t c κs =
+    let e = bracket t (c .before) in
+    let i = rd.inside (c .before .before .before .before .before .before .before .before .before .before .before .before .args .text .now) (c .before .before .before .before .before .before .before .before .loop .at + 1) e in
+    (omega (arith, i, c .before .before .before .before .before .before .before .before .loop .inv .from), (i, e))
 
-nodes-enum-known-next : (t : ℕ) → nodes-lts.Need-enum-known-next (for-nodes t) (nodes-at t) nodes.Post
+nodes-enum-known-next : (t : ℕ) → nodes-lts.Need-enum-known-next (for-nodes t) (nodes-at t) nodes.Post Inv μ
 nodes-enum-known-next t c = search needs
 
-nodes-enum-told : (t : ℕ) → nodes-lts.Need-enum-told (for-nodes t) (nodes-at t) nodes.Post
+nodes-enum-told : (t : ℕ) → nodes-lts.Need-enum-told (for-nodes t) (nodes-at t) nodes.Post Inv μ
 nodes-enum-told t c = search needs
 
-nodes-returns-5 : (t : ℕ) → nodes-lts.Need-returns-5 (for-nodes t) (nodes-at t) nodes.Post
-nodes-returns-5 t c = rd.nodes-wrong (names t (c .before .before .before)) (c .before .before .node .ensures) (c .enum-told .given .1)
+nodes-returns-3 : (t : ℕ) → nodes-lts.Need-returns-3 (for-nodes t) (nodes-at t) nodes.Post Inv μ
+nodes-returns-3 t c =
+    rd.runs-wrong (c .before .before .before .before .before .before .before .before .before .before .before .loop .inv) (c .before .before .before .before .before .before .before .before .before .before .loop-test .taken) (c .before .before .before .before .before .before .before .before .if1 .left) (omega arith) (omega arith) (below t (c .before .before .before)) (c .before .before .node .ensures) (c .enum-told .given .1)
 
-nodes-add-nodes : (t : ℕ) → nodes-lts.Need-add-nodes (for-nodes t) (nodes-at t) nodes.Post
-nodes-add-nodes t c = omega (arith, rd.first-most (c .before .before .before .before .before .before .before .before .before .before .before .before .before .args .level), many-most (c .before .before .before .before .before .before .before .before .before .before .before .before .before .args .level))
+nodes-add-cells : (t : ℕ) → nodes-lts.Need-add-cells (for-nodes t) (nodes-at t) nodes.Post Inv μ
+nodes-add-cells t c = let v = listed-on t c in omega (arith, v .few, v .to)
 
-nodes-nodes-requires : (t : ℕ) → nodes-lts.Need-nodes-requires (for-nodes t) (nodes-at t) nodes.Post
-nodes-nodes-requires t c κs =
-    let o = node-from t c in
-    (omega (arith, o .from, o .to), (omega (arith, o .to), omega arith, omega arith))
+nodes-add-sum : (t : ℕ) → nodes-lts.Need-add-sum (for-nodes t) (nodes-at t) nodes.Post Inv μ
+nodes-add-sum t c = let v = listed-on t c in omega (arith, rd.runs-fits v)
 
-nodes-enum-known-end : (t : ℕ) → nodes-lts.Need-enum-known-end (for-nodes t) (nodes-at t) nodes.Post
-nodes-enum-known-end t c = search needs
+nodes-loop-less-2 : (t : ℕ) → nodes-lts.Need-loop-less-2 (for-nodes t) (nodes-at t) nodes.Post Inv μ
+nodes-loop-less-2 t c = omega (arith, rd.node-known (c .before .before .before .node .ensures) (c .before .next .given .1) (omega arith) .from)
 
-nodes-enum-told-2 : (t : ℕ) → nodes-lts.Need-enum-told-2 (for-nodes t) (nodes-at t) nodes.Post
-nodes-enum-told-2 t c = search needs
+nodes-loop-again-2 : (t : ℕ) → nodes-lts.Need-loop-again-2 (for-nodes t) (nodes-at t) nodes.Post Inv μ
+nodes-loop-again-2 t c = listed-on t c
 
-nodes-returns-6 : (t : ℕ) → nodes-lts.Need-returns-6 (for-nodes t) (nodes-at t) nodes.Post
-nodes-returns-6 t c = rd.nodes-bad (names t (c .before .before .before .before .before .before .before)) (c .before .before .before .before .before .before .node .ensures) (c .before .before .before .before .next .given .1) (c .before .before .nodes .ensures) (c .enum-told2 .given .1)
+nodes-add-t25 : (t : ℕ) → nodes-lts.Need-add-t25 (for-nodes t) (nodes-at t) nodes.Post Inv μ
+nodes-add-t25 t c = let v = c .before .loop .inv in omega (arith, v .few, v .to)
 
-nodes-add-t25 : (t : ℕ) → nodes-lts.Need-add-t25 (for-nodes t) (nodes-at t) nodes.Post
-nodes-add-t25 t c =
-    let a = c .before .before .before .before .before .before .before .before .before .before .before .before .before .before .before .before .before .args in
-    let o = node-from t (c .before .before .before .before) in
-    let o₂ = rd.nodes-known (c .before .before .before .nodes .ensures) (c .before .end .given .1) (o .to) (omega arith) in
-    omega (arith, o, o₂)
+nodes-mul-t26 : (t : ℕ) → nodes-lts.Need-mul-t26 (for-nodes t) (nodes-at t) nodes.Post Inv μ
+nodes-mul-t26 t c = omega (arith, rd.runs-fits (c .before .loop .inv))
 
-nodes-add-t27 : (t : ℕ) → nodes-lts.Need-add-t27 (for-nodes t) (nodes-at t) nodes.Post
-nodes-add-t27 t c =
-    let a = c .before .before .before .before .before .before .before .before .before .before .before .before .before .before .before .before .before .args in
-    let o = node-from t (c .before .before .before .before) in
-    let o₂ = rd.nodes-known (c .before .before .before .nodes .ensures) (c .before .end .given .1) (o .to) (omega arith) in
-    omega (arith, o, o₂, suc-mul (getD (a .text .now) (a .at) 0 - c .before .before .before .before .before .before .before .before .before .before .before .before .first-byte .result) (a .size), mul-le-mul-right (a .size) (many-most (a .level)))
+nodes-add-t27 : (t : ℕ) → nodes-lts.Need-add-t27 (for-nodes t) (nodes-at t) nodes.Post Inv μ
+nodes-add-t27 t c = omega (arith, rd.runs-fits (c .before .loop .inv))
 
-nodes-add-t28 : (t : ℕ) → nodes-lts.Need-add-t28 (for-nodes t) (nodes-at t) nodes.Post
-nodes-add-t28 t c =
-    let a = c .before .before .before .before .before .before .before .before .before .before .before .before .before .before .before .before .before .args in
-    let o = node-from t (c .before .before .before .before) in
-    let o₂ = rd.nodes-known (c .before .before .before .nodes .ensures) (c .before .end .given .1) (o .to) (omega arith) in
-    omega (arith, o, o₂, many-most (a .level))
-
-nodes-returns-7 : (t : ℕ) → nodes-lts.Need-returns-7 (for-nodes t) (nodes-at t) nodes.Post
-nodes-returns-7 t c = rd.nodes-read (names t (c .before .before .before .before .before .before .before .before)) (c .before .before .before .before .before .before .before .node .ensures) (c .before .before .before .before .before .next .given .1) (c .before .before .before .nodes .ensures) (c .before .end .given .1)
+nodes-returns-4 : (t : ℕ) → nodes-lts.Need-returns-4 (for-nodes t) (nodes-at t) nodes.Post Inv μ
+nodes-returns-4 t c =
+    ⊎-elim (λ w. rd.runs-end (c .before .loop .inv) (w .left)) (λ w. rd.runs-close (c .before .loop .inv) (w .0 .taken) (w .2 .taken)) (c .loop-test .came)
 
 pub +node+nodes-spec : {M : Type 1} → statement M
 +node+nodes-spec = close μ-node μ-nodes
     (λ t. node-lts.spec (for-node t) (node-at t) node.Post
     (node-returns t)
-    (node-shared-slice-read-if2 t)
-    (node-returns-2 t)
-    (node-returns-3 t)
     (node-add-start t)
     (node-sub-nodes t)
     (node-nodes-requires t)
     (node-enum-known-next t)
     (node-enum-told t)
+    (node-returns-2 t)
+    (node-returns-3 t)
     (node-returns-4 t)
     (node-returns-5 t)
-    (node-returns-6 t)
-    (node-returns-7 t)
-    (node-add-t10 t)
-    (node-returns-8 t))
-    (λ t. nodes-lts.spec (for-nodes t) (nodes-at t) nodes.Post
-    (nodes-returns t)
-    (nodes-shared-slice-read-b t)
-    (nodes-returns-2 t)
+    (node-add-t15 t)
+    (node-returns-6 t))
+    (λ t. nodes-lts.spec (for-nodes t) (nodes-at t) nodes.Post Inv μ
     (nodes-first-byte-requires t)
-    (nodes-add-if3 t)
-    (nodes-returns-3 t)
     (nodes-how-many-requires t)
-    (nodes-add-if4 t)
-    (nodes-returns-4 t)
-    (nodes-sub-number t)
-    (nodes-add-node t)
+    (nodes-add-above t)
+    (nodes-loop-holds t)
+    (nodes-shared-slice-read-b t)
+    (nodes-returns t)
+    (nodes-returns-2 t)
+    (nodes-add-low t)
+    (nodes-add-at t)
+    (nodes-opens-requires t)
+    (nodes-add-wholes t)
+    (nodes-loop-less t)
+    (nodes-loop-again t)
+    (nodes-sub-room-below t)
     (nodes-room-below-requires t)
     (nodes-node-requires t)
     (nodes-enum-known-next t)
     (nodes-enum-told t)
-    (nodes-returns-5 t)
-    (nodes-add-nodes t)
-    (nodes-nodes-requires t)
-    (nodes-enum-known-end t)
-    (nodes-enum-told-2 t)
-    (nodes-returns-6 t)
+    (nodes-returns-3 t)
+    (nodes-add-cells t)
+    (nodes-add-sum t)
+    (nodes-loop-less-2 t)
+    (nodes-loop-again-2 t)
     (nodes-add-t25 t)
+    (nodes-mul-t26 t)
     (nodes-add-t27 t)
-    (nodes-add-t28 t)
-    (nodes-returns-7 t))
+    (nodes-returns-4 t))

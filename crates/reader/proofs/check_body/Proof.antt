@@ -11,7 +11,7 @@ use Rattle.reader.proofs.check_body.Tie as tie
 nodes-requires : tie.Need-nodes-requires
 nodes-requires c κs =
     let a = c .before in
-    (seven (a .args .text .now) (a .pre .0) (a .pre .1), omega arith, omega arith)
+    (seven (a .args .text .now) (a .pre .0) (a .pre .1), omega arith)
 
 enum-known-next : tie.Need-enum-known-next
 enum-known-next c = search needs
