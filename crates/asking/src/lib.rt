@@ -4,9 +4,7 @@ ghost use mathlib.Core.Bool.{true};
 ghost use Rattle.cell.specs.Cell.{IsCell};
 ghost use Rattle.reading.specs.Ground.{wholeCells};
 ghost use Rattle.reading.specs.TextReading.{isText, nodesOf};
-ghost use Rattle.walk.specs.Walk.{Fits};
 ghost use Rattle.asking.specs.Ask.{anyWithin, askRefusal, asked, askedAs};
-ghost use Rattle.asking.specs.AskWalk.{holdsAt};
 use cell::Arrangement;
 use cell::Cell;
 use cell::Found;
@@ -19,20 +17,8 @@ pub enum Asked {
     Refused { refusal: u64, place: u64 },
 }
 
-// Whether the finest cells from one number to before another are among those of the cell where the walk stands.
-fn holds(spot: Spot, from: u64, to: u64) -> bool
-    requires { ⌜ Fits spot ⌝ }
-    ensures { λ r. ⌜ r ≡ holdsAt from to spot ⌝ }
-{
-    let resolution = spot.resolution;
-    let number = spot.number;
-    if code::start_as(resolution, number) > from {
-        return false;
-    }
-    to <= code::end_as(resolution, number)
-}
-
-// "whether all of one cell's finest cells are covered": one whole cell of the text has the cell inside.
+// "whether all of one cell's finest cells are covered": one whole cell of the text has the cell inside. The whole cells rise, so none does behind one
+// that starts behind the cell's start.
 pub fn is_covered(text: &[u8], cell: Cell) -> bool
     requires { ⌜ (isText (now text) ≡ true) × IsCell cell ⌝ }
     ensures { λ r. ⌜ r ≡ anyWithin (wholeCells (nodesOf (now (text .entry)))) cell ⌝ }
@@ -51,7 +37,12 @@ pub fn is_covered(text: &[u8], cell: Cell) -> bool
         if !whole {
             continue;
         }
-        if holds(spot, from, to) {
+        let resolution = spot.resolution;
+        let number = spot.number;
+        if code::start_as(resolution, number) > from {
+            return false;
+        }
+        if to <= code::end_as(resolution, number) {
             return true;
         }
     }

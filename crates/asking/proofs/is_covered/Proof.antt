@@ -2,16 +2,17 @@
 use mathlib.Core.Path.{_≡_, sym, ap₂, _∙_}
 use mathlib.Core.Bool.{true, false}
 use Prim.Native.Nat.{ℕ, _-_}
+use native.Mathlib.Omega.{arith}
 use lib.ListN.{length, drop}
 use borrow.Author.Tests.{not-true, not-false}
 use borrow.Author.Needs.{needs}
 use Rattle.reading.specs.Ground.{wholeCells}
 use Rattle.reading.specs.TextReading.{nodesOf}
-use Rattle.walk.specs.Walk.{origin, walk}
+use Rattle.walk.specs.Walk.{origin, Fits, wholeAt, walk}
 use Rattle.walk.specs.WalkLaws.{goes-here}
 use Rattle.asking.specs.Ask.{anyWithin}
 use Rattle.asking.specs.AskWalk.{anyHolds, walk-asked}
-use Rattle.asking.proofs.Laws.{Asks, asks-start, on, asks-past, asks-yes, asks-no, asks-end}
+use Rattle.asking.proofs.Laws.{Asks, asks-start, on, asks-past, asks-behind, asks-yes, asks-no, asks-end}
 use Rattle.asking.proofs.is_covered.Statement.{statement}
 use Rattle.asking.proofs.is_covered.Tie as tie
 
@@ -57,15 +58,33 @@ loop-again c =
     let b = c .before .before .before in
     asks-past (b .before .before .loop .inv) (b .before .loop-test .taken) (c .before .before .after .ensures) (sym (c .before .whole-at .ensures) ∙ not-true _ (c .if1 .taken))
 
-holds-requires : tie.Need-holds-requires Inv-loop μ-loop
-holds-requires c κs =
+-- the walk stands at a whole cell
+whole : (c : tie.Else1 Inv-loop μ-loop) → let l = c .before .before .before .before .before in wholeAt (drop (l .loop .i) (l .before .before .before .before .args .text .now)) ≡ true
+whole c = sym (c .before .whole-at .ensures) ∙ not-false _ (c .if1 .left)
+
+fits : (c : tie.Else1 Inv-loop μ-loop) → Fits (c .before .before .after .result)
+fits c =
     let b = c .before .before .before in
     on (b .before .before .loop .inv) (b .before .loop-test .taken) (c .before .before .after .ensures) .fits
 
+start-as-requires : tie.Need-start-as-requires Inv-loop μ-loop
+start-as-requires c κs = let f = fits c in (f .fine, f .small)
+
 returns : tie.Need-returns Inv-loop μ-loop
 returns c =
-    let b = c .before .before .before .before .before in
-    asks-yes (b .before .before .loop .inv) (b .before .loop-test .taken) (c .before .before .before .before .after .ensures) (sym (c .before .before .before .whole-at .ensures) ∙ not-false _ (c .before .before .if1 .left)) (sym (c .if2 .taken) ∙ c .before .holds .ensures)
+    let e = c .before .before in
+    let b = e .before .before .before in
+    asks-behind (b .before .before .loop .inv) (b .before .loop-test .taken) (e .before .before .after .ensures) (whole e) (omega (arith, c .before .start-as .ensures))
+    ∙ answer (b .before .before .before)
+
+end-as-requires : tie.Need-end-as-requires Inv-loop μ-loop
+end-as-requires c κs = let f = fits (c .before .before) in (f .fine, f .small)
+
+returns-2 : tie.Need-returns-2 Inv-loop μ-loop
+returns-2 c =
+    let e = c .before .before .before .before in
+    let b = e .before .before .before in
+    asks-yes (b .before .before .loop .inv) (b .before .loop-test .taken) (e .before .before .after .ensures) (whole e) (omega (arith, c .before .before .before .start-as .ensures)) (omega (arith, c .before .end-as .ensures))
     ∙ answer (b .before .before .before)
 
 loop-less-2 : tie.Need-loop-less-2 Inv-loop μ-loop
@@ -73,11 +92,12 @@ loop-less-2 c = search needs
 
 loop-again-2 : tie.Need-loop-again-2 Inv-loop μ-loop
 loop-again-2 c =
-    let b = c .before .before .before .before .before in
-    asks-no (b .before .before .loop .inv) (b .before .loop-test .taken) (c .before .before .before .before .after .ensures) (sym (c .before .before .before .whole-at .ensures) ∙ not-false _ (c .before .before .if1 .left)) (sym (c .if2 .left) ∙ c .before .holds .ensures)
+    let e = c .before .before .before .before in
+    let b = e .before .before .before in
+    asks-no (b .before .before .loop .inv) (b .before .loop-test .taken) (e .before .before .after .ensures) (whole e) (omega (arith, c .before .before .before .start-as .ensures)) (omega (arith, c .before .end-as .ensures))
 
-returns-2 : tie.Need-returns-2 Inv-loop μ-loop
-returns-2 c = asks-end (c .before .loop .inv) (c .loop-test .left) ∙ answer (c .before .before)
+returns-3 : tie.Need-returns-3 Inv-loop μ-loop
+returns-3 c = asks-end (c .before .loop .inv) (c .loop-test .left) ∙ answer (c .before .before)
 
 pub is-covered-spec : {M : Type 1} → statement M
 is-covered-spec =
@@ -94,8 +114,10 @@ is-covered-spec =
     add-i
     loop-less
     loop-again
-    holds-requires
+    start-as-requires
     returns
+    end-as-requires
+    returns-2
     loop-less-2
     loop-again-2
-    returns-2)
+    returns-3)
