@@ -28,6 +28,7 @@ pub fn is_covered(text: &[u8], cell: Cell) -> bool
     let mut spot = Spot {
         resolution: 0,
         number: 0,
+        first: 0,
     };
     let mut i: usize = 7;
     while i < text.len() {

@@ -24,6 +24,7 @@ pub fn put_codes(text: &[u8], codes: &mut [u64])
     let mut spot = Spot {
         resolution: 0,
         number: 0,
+        first: 0,
     };
     let mut count: usize = 0;
     let mut i: usize = 7;

@@ -10,8 +10,9 @@ use Rattle.cell.specs.declared.Cell.{Cell}
 use Rattle.code.specs.Number.{numberOf}
 use Rattle.walk.specs.declared.Spot.{Spot}
 
+-- the cell of resolution k and number n
 abbrev pub spot : (k n : ℕ) → Spot
-spot k n = record { resolution = k; number = n }
+spot k n = record { resolution = k; number = n; first = n / 9 * 9 }
 
 -- where the walk starts: at N, before any letter
 abbrev pub origin : Spot
@@ -21,10 +22,11 @@ origin = spot 0 0
 abbrev pub spotOf : Cell → Spot
 spotOf c = spot (c .resolution) (numberOf c)
 
--- a number of k + 1 digits of base nine
+-- a number of k + 1 digits of base nine, and the number of the first cell beside it
 pub record Fits (s : Spot) : Type 0 where
   pub fine : s .resolution ≤ 15
   pub small : s .number < 9 ^ (s .resolution + 1)
+  pub beside : s .first ≡ s .number / 9 * 9
 
 -- the number of a letter from `N` on, or of a digit
 unfoldable pub numberIn : ℕ → ℕ

@@ -249,7 +249,7 @@ module _ (t : List ℕ) (e : isText t ≡ true) where
   walks-start =
       record {
         within = omega (arith, ap length (text-reads t e .2 .body .all));
-        fits = record { fine = omega arith; small = omega arith };
+        fits = record { fine = omega arith; small = omega arith; beside = refl };
         goes =
             ap (goes origin) (body ∙ sym (append-nil (render Faces (nodesOf t))))
             ∙ goes-nodes (nodesOf t) Faces 15 0 0 0 [] good (omega arith);
@@ -267,14 +267,14 @@ fits-after s b f g = go (eqb b 40) (eqb b 41) g
     go :
         (x y : Bool) → cond x (ltb (s .resolution) 15) (cond y (ltb 0 (s .resolution)) (ltb (numberIn b) 9)) ≡ true →
         Fits (cond x (spot (s .resolution + 1) (s .number * 9)) (cond y (spot (s .resolution - 1) (s .number / 9)) (spot (s .resolution) (s .number / 9 * 9 + numberIn b))))
-    go true y h = record { fine = omega (arith, ltb-true (s .resolution) 15 h); small = omega (arith, up (s .resolution + 1), f .small) }
+    go true y h = record { fine = omega (arith, ltb-true (s .resolution) 15 h); small = omega (arith, up (s .resolution + 1), f .small); beside = refl }
     go false true h =
         let l : 0 < s .resolution = ltb-true 0 (s .resolution) h in
         let e : 9 ^ (s .resolution - 1 + 1 + 1) ≡ 9 ^ (s .resolution + 1) = ap (λ (x : ℕ). 9 ^ x) (omega arith) in
-        record { fine = omega (arith, f .fine); small = omega (arith, up (s .resolution - 1 + 1), f .small) }
+        record { fine = omega (arith, f .fine); small = omega (arith, up (s .resolution - 1 + 1), f .small); beside = refl }
     go false false h =
         let l : numberIn b < 9 = ltb-true (numberIn b) 9 h in
-        record { fine = f .fine; small = omega (arith, up (s .resolution), f .small) }
+        record { fine = f .fine; small = omega (arith, up (s .resolution), f .small); beside = refl }
 
 pub byte-at : (t : List ℕ) (i : ℕ) → i < length t → drop i t ≡ getD t i 0 ∷ drop (i + 1) t
 byte-at t i h = rw (add-one, drop-cons t i 0)

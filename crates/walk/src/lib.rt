@@ -5,10 +5,11 @@ ghost use Prim.Native.Nat.{_<_};
 ghost use lib.ListN.{length, drop};
 ghost use Rattle.walk.specs.Walk.{Fits, numberIn, after, goesOn, wholeAt};
 
-// Where the walk stands: a cell, by its resolution and by its face and digits read in base nine.
+// Where the walk stands: a cell, by its resolution and by its face and digits read in base nine; and the number of the first of the cells beside it.
 pub struct Spot {
     pub resolution: u64,
     pub number: u64,
+    pub first: u64,
 }
 
 // The number of a letter or digit.
@@ -32,21 +33,27 @@ impl Spot {
     {
         let resolution = self.resolution;
         let number = self.number;
+        let first = self.first;
         if b == 40 {
+            let child = number * 9;
             return Spot {
                 resolution: resolution + 1,
-                number: number * 9,
+                number: child,
+                first: child,
             };
         }
         if b == 41 {
+            let parent = number / 9;
             return Spot {
                 resolution: resolution - 1,
-                number: number / 9,
+                number: parent,
+                first: parent / 9 * 9,
             };
         }
         Spot {
             resolution,
-            number: number / 9 * 9 + number_in(b),
+            number: first + number_in(b),
+            first,
         }
     }
 }
