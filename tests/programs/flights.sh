@@ -52,6 +52,8 @@ for program in record name_fixes; do
     try "input in parts" "(printf 0; sleep 0.1; printf ' '; sleep 0.1; printf '0\n1 0') | $program 0 0 0 | tail -c 2 | tr -d '\n' | tail -c 1" 'Q' ''
 done
 
+try "an input that never ends, and a reader who leaves" 'yes 0 0 | name_fixes 0 0 0 | head -n 2' 'Q\nQ\n' ''
+
 # long flights. Once round the equator at resolution 3 is row 13, 111 in base three, so every digit is 3, 4 or 5
 # COUNT LONGITUDE Z: so many lines, with Python's words for longitude and z over i
 lines() { python3 -c "for i in range($1): print($2, $3)"; }
@@ -76,3 +78,5 @@ lines 100000 'i * 300' -500000000000000000 >forth
 try "how long 100,000 fixes take" 'fast 0 0 12 <forth' 'fast\n' ''
 try "how long they take flown back" 'tac forth | fast 0 0 12' 'fast\n' ''
 try "how long they take with too many cells" 'tac forth | fast 0 0 15' 'fast\n' ''
+
+parts=$((parts + 1))
