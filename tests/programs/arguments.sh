@@ -22,5 +22,3 @@ done
 for words in '4 0' '0 4' '256 0'; do
     try "n or s above 3" "echo N | coverage write $words" '' '5; usage coverage'
 done
-
-parts=$((parts + 1))

@@ -170,5 +170,3 @@ for words in 'check two.cvr' 'list two.cvr' 'ask two.cvr P3' 'list full.cvr' 'wr
     try "a full disk" "{ coverage ${words/</ <} >/dev/full; } 2>&1 | uniq >&2" '' 'standard output: No space left on device'
     try "no output" "{ coverage ${words/</ <} 3>&2 2>&1 >&- | uniq >&3; } 3>&2" '' 'standard output: Bad file descriptor'
 done
-
-parts=$((parts + 1))

@@ -78,5 +78,3 @@ lines 100000 'i * 300' -500000000000000000 >forth
 try "how long 100,000 fixes take" 'fast 0 0 12 <forth' 'fast\n' ''
 try "how long they take flown back" 'tac forth | fast 0 0 12' 'fast\n' ''
 try "how long they take with too many cells" 'tac forth | fast 0 0 15' 'fast\n' ''
-
-parts=$((parts + 1))
