@@ -71,10 +71,3 @@ try "more than 65,536 cells" 'record 0 0 15 <many' '' 13
 try "the flight goes on after that" '(cat many; echo 0 0; echo x) | record 0 0 15' '' 'line 65539: 6; 13'
 lines 10000 'i * 90000' 0 >far
 try "10,000 cells far apart, whose text is too long" 'record 0 0 15 <far' '' 13
-
-# "A flight of 100,000 fixes takes well under a second": forth, and back, when every new cell comes before all others
-fast() { (TIMEFORMAT=%U; time record "$@" >/dev/null 2>&1) 2>&1 | awk '{ print ($1 < 1 ? "fast" : $1) }'; }
-lines 100000 'i * 300' -500000000000000000 >forth
-try "how long 100,000 fixes take" 'fast 0 0 12 <forth' 'fast\n' ''
-try "how long they take flown back" 'tac forth | fast 0 0 12' 'fast\n' ''
-try "how long they take with too many cells" 'tac forth | fast 0 0 15' 'fast\n' ''

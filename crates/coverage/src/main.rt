@@ -24,16 +24,11 @@ fn usage() {
 
 // A refusal: its number to standard output, what it means to standard error.
 fn refuse(refusal: u64) {
-    print_number(refusal);
-    console::print(b"\n");
+    let mut out = [0u8; 21];
+    let end = put_number(refusal, 10, &mut out, 0);
+    console::print_first(&out, end);
     console::say(b"coverage: ");
     console::say_refusal(refusal);
-}
-
-fn print_number(x: u64) {
-    let mut digits = [0u8; 20];
-    let n = decimal::put_whole(x, &mut digits, 0);
-    console::print_first(&digits, n);
 }
 
 // The file that the second argument names. Where it cannot be read, standard error says why.
@@ -64,17 +59,33 @@ fn load(path: &mut [u8], text: &mut [u8]) -> Got
     got
 }
 
-// check: refusal, place, cells and size.
-fn check_text(text: &[u8]) {
+// A number and the byte after it, into `out` from `at` on: where they end.
+fn put_number(x: u64, byte: u8, out: &mut [u8], at: usize) -> usize
+    requires { ⌜ at + 21 ≤ length (now out) ⌝ }
+    ensures { λ r. ⌜ r ≤ at + 21 ⌝ }
+{
+    let end = decimal::put_whole(x, out, at);
+    out[end] = byte;
+    end + 1
+}
+
+// refusal, place, cells and size, in one line.
+fn print_numbers(refusal: u64, place: u64, cells: u64, size: u64, out: &mut [u8])
+    requires { ⌜ 84 ≤ length (now out) ⌝ }
+{
+    let second = put_number(refusal, 32, out, 0);
+    let third = put_number(place, 32, out, second);
+    let fourth = put_number(cells, 32, out, third);
+    let end = put_number(size, 10, out, fourth);
+    console::print_first(out, end);
+}
+
+// check: what the reader reports.
+fn check_text(text: &[u8], out: &mut [u8])
+    requires { ⌜ 84 ≤ length (now out) ⌝ }
+{
     let answer = jeguarivo::jgv_coverage_check(text);
-    print_number(answer.refusal);
-    console::print(b" ");
-    print_number(answer.place);
-    console::print(b" ");
-    print_number(answer.cells);
-    console::print(b" ");
-    print_number(answer.size);
-    console::print(b"\n");
+    print_numbers(answer.refusal, answer.place, answer.cells, answer.size, out);
     if answer.refusal != 0 {
         console::say(b"coverage: ");
         console::say_refusal(answer.refusal);
@@ -352,10 +363,10 @@ fn ask_file(text: &[u8]) {
 
 // The three that read a file: 1 is check, 2 is list, 3 is ask.
 fn answer(command: u64, text: &[u8], codes: &mut [u64], out: &mut [u8])
-    requires { ⌜ 64 ≤ length (now out) ⌝ }
+    requires { ⌜ 84 ≤ length (now out) ⌝ }
 {
     match command {
-        1 => check_text(text),
+        1 => check_text(text, out),
         2 => list_text(text, codes, out),
         _ => ask_file(text),
     }
