@@ -1,3 +1,4 @@
 pub mod EntrySteps
 pub mod MeasureSteps
 pub mod PutSteps
+pub mod WholeSteps

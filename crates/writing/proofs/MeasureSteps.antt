@@ -1,12 +1,14 @@
 -- What the measuring functions hand back at each end of theirs. Assumes nothing.
 use mathlib.Core.Path.{_≡_, refl, sym, ap, _∙_}
 use Prim.Native.Nat.{ℕ, zero, suc, _+_, _-_, _*_, _/_, _^_, _≤_, _<_}
+use mathlib.Core.Logic.{⊎-elim}
 use mathlib.Core.List.{List}
 use native.Mathlib.Nat.{suc-mul, mul-le-mul-right}
 use native.Mathlib.Omega.{arith}
 use lib.ListN.{length, getD}
+use Rattle.logic.specs.Order.{lt-or}
 use Rattle.writing.specs.declared.Taken.{Taken}
-use Rattle.writing.specs.Measure.{NodeAt, ListAt, NodeTakes, ListTakes, NodeMeasured, ListMeasured}
+use Rattle.writing.specs.Measure.{AtHand, NodeAt, ListAt, NodeTakes, ListTakes, NodeMeasured, ListMeasured}
 use Rattle.writing.specs.MeasureLaws.{node-finest, node-exact, node-list, node-nine, node-held, list-none, list-node, list-rest, list-in, all-later, list-skip, list-out}
 
 -- ---- a node
@@ -94,3 +96,16 @@ one-less (suc n) z h = rw (less n) (suc-mul n z)
 
 pub at-most-nine : (left z : ℕ) → left ≤ 9 → left * z ≤ 9 * z
 at-most-nine left z h = mul-le-mul-right z h
+
+-- ---- the first finest cell of the code at hand
+
+pub hand-inside :
+    {codes : List ℕ} {at first : ℕ} (left cell size : ℕ) → AtHand codes at first → size ≤ 9 ^ 15 → cell + left * (16 * size) + 2 * size ≤ 2 ^ 63 →
+    first < cell / 16 + size → (at < length codes) × (getD codes at 0 / 16 < cell / 16 + size)
+hand-inside {codes} {at} {first} left cell size a z c l =
+    ⊎-elim (λ h. (h, omega (arith, a .some h))) (λ h. absurd (omega (arith, a .none h))) (lt-or at (length codes))
+
+pub hand-outside :
+    {codes : List ℕ} {at first : ℕ} (cell size : ℕ) → AtHand codes at first → (first < cell / 16 + size → ⊥) →
+    at < length codes → getD codes at 0 / 16 < cell / 16 + size → ⊥
+hand-outside cell size a n h l = n (omega (arith, a .some h))

@@ -10,45 +10,45 @@ use Rattle.logic.specs.Order.{lt-or}
 use Rattle.reading.specs.declared.Level.{Level}
 use Rattle.reading.specs.declared.Level.the-variants.{Digits}
 use Rattle.reading.specs.Reading.{first}
-use Rattle.writing.specs.declared.Taken.{Taken}
 use Rattle.writing.specs.declared.Placed.{Placed}
-use Rattle.writing.specs.Measure.{NodeAt, NodeMeasured}
+use Rattle.writing.specs.Measure.{AtHand, NodeAt}
 use Rattle.writing.specs.MeasureLaws.{node-list, list-node, next-list, all-later, list-skip}
+use Rattle.writing.specs.Whole.{WholeTold}
 use Rattle.writing.specs.Put.{NodeWrote, ListWrote, NodePut, ListPut}
 use Rattle.writing.specs.PutLaws.{whole-wrote, other-code, held-wrote, none-wrote, in-wrote, out-wrote}
-use Rattle.writing.proofs.MeasureSteps.{less, one-less}
+use Rattle.writing.proofs.MeasureSteps.{less, one-less, hand-inside, hand-outside}
 
 -- ---- a node
 
 pub whole-put :
-    {codes : List ℕ} {at cell size place byte : ℕ} {text later : List ℕ} {t : Taken} → 0 < size → NodeMeasured codes at cell size t → t .wholes ≡ 1 →
-    later ≡ set text place byte → NodePut codes at cell size place byte text later (record { next = t .next; place = place + 1 })
-whole-put {codes} {at} {cell} {size} {place} {byte} {text} {later} {t} z m e f =
+    {codes : List ℕ} {at cell size place byte r : ℕ} {text later : List ℕ} → 0 < size → WholeTold codes at cell size r → (r ≡ at → ⊥) →
+    later ≡ set text place byte → NodePut codes at cell size place byte text later (record { next = r; place = place + 1 })
+whole-put {codes} {at} {cell} {size} {place} {byte} {r} {text} {later} z m e f =
     record {
-      is = λ l w c k b s. whole-wrote codes at w k place l c text later (t .next) (t .bytes) (t .wholes) (m .is w k s) e (f ∙ ap (set text place) b);
+      is = λ l w c k b s. let t = m .whole e w k s in whole-wrote codes at w k place l c text later r (t .0) 1 (t .1) refl (f ∙ ap (set text place) b);
       inside = m .inside;
       short = omega arith;
     }
 
 -- a node that is not whole has children
-pub has-children : {codes : List ℕ} {at cell size : ℕ} {t : Taken} → NodeMeasured codes at cell size t → (t .wholes ≡ 1 → ⊥) → 9 ≤ size
-has-children {codes} {at} {cell} {size} {t} m n = ⊎-elim (λ l. absurd (n (m .finest l))) (λ l. l) (lt-or size 9)
+pub has-children : {codes : List ℕ} {at cell size r : ℕ} → WholeTold codes at cell size r → r ≡ at → 9 ≤ size
+has-children {codes} {at} {cell} {size} {r} m e = ⊎-elim (λ l. absurd (m .finest l e)) (λ l. l) (lt-or size 9)
 
 pub held-put :
-    {codes : List ℕ} {at cell size place byte : ℕ} {text one two three later : List ℕ} {t : Taken} {r : Placed} → at < length codes →
-    NodeMeasured codes at cell size t → (t .wholes ≡ 1 → ⊥) → one ≡ set text place byte → two ≡ set one (place + 1) 40 →
-    ListPut codes at 9 (cell + 1) (size / 9) (place + 2) 48 two three r → later ≡ set three (r .place) 41 →
-    NodePut codes at cell size place byte text later (record { next = r .next; place = r .place + 1 })
-held-put {codes} {at} {cell} {size} {place} {byte} {text} {one} {two} {three} {later} {t} {r} h m n a b u d =
+    {codes : List ℕ} {at cell size place byte q : ℕ} {text one two three later : List ℕ} {r : Placed} → at < length codes → WholeTold codes at cell size q →
+    q ≡ at → one ≡ set text place byte → two ≡ set one (place + 1) 40 → ListPut codes at 9 (cell + 1) (size / 9) (place + 2) 48 two three r →
+    later ≡ set three (r .place) 41 → NodePut codes at cell size place byte text later (record { next = r .next; place = r .place + 1 })
+held-put {codes} {at} {cell} {size} {place} {byte} {q} {text} {one} {two} {three} {later} {r} h m n a b u d =
     record { is = go; inside = u .inside; short = omega (arith, u .short, has-children m n) }
   where
     go : (l : Level) (w : List ℕ) (c k : ℕ) → byte ≡ first l + c → NodeAt codes at w cell size k → NodeWrote codes at w k place l c text later (record { next = r .next; place = r .place + 1 })
     go l w c zero e s = absurd (omega (arith, s .sized, has-children m n))
     go l w c (suc k) e s =
-        let i = m .is w (suc k) s in
-        let o = other-code codes at w cell size k s h (t .next) (t .bytes) (t .wholes) i n in
+        let i = m .held n w (suc k) s in
+        let j : (_≡_ {A = ℕ} 0 1 → ⊥) = λ z. omega arith in
+        let o = other-code codes at w cell size k s h (i .0) (i .1) 0 (i .2) j in
         let p : ListWrote codes at w k (place + 2) Digits 0 9 two three r = u .is Digits w 0 k refl (node-list codes at w cell size k s h o) in
-        held-wrote codes at w cell size k s h (t .next) (t .bytes) (t .wholes) i n place l c text one two three later (r .next) (r .place) (a ∙ ap (set text place) e) b p d
+        held-wrote codes at w cell size k s h (i .0) (i .1) 0 (i .2) j place l c text one two three later (r .next) (r .place) (a ∙ ap (set text place) e) b p d
 
 -- ---- a list
 
@@ -102,3 +102,67 @@ pub out-put :
 out-put zero z n u = absurd (z refl)
 out-put {codes} {at} (suc left) {cell} {size} {place} {byte} {text} {later} {r} z n u =
     out-suc codes at left cell size place byte text later r n (rw (less left) at u)
+
+-- ---- a list, cell by cell
+
+-- what is written of the cells that are left completes what is to be written
+pub record Putting (codes : List ℕ) (at left cell size place byte : ℕ) (text : List ℕ) (next finest child ends name more : ℕ) (now : List ℕ) : Type 0 where
+  pub rest : (later : List ℕ) (r : Placed) → ListPut codes next more child size ends name now later r → ListPut codes at left cell size place byte text later r
+  pub inside : next ≤ length codes
+  pub few : more ≤ 9
+  pub cells : child + more * (16 * size) + 2 * size ≤ 2 ^ 63
+  pub room : ends + more * (2 * size - 1) ≤ 2 ^ 63
+  pub names : name + more ≤ 255
+  pub hand : AtHand codes next finest
+  pub long : length now ≡ length text
+
+pub put-starts :
+    {codes : List ℕ} {at left cell size place byte finest : ℕ} {text : List ℕ} → at ≤ length codes → left ≤ 9 → cell + left * (16 * size) + 2 * size ≤ 2 ^ 63 →
+    place + left * (2 * size - 1) ≤ 2 ^ 63 → byte + left ≤ 255 → AtHand codes at finest → Putting codes at left cell size place byte text at finest cell place byte left text
+put-starts h f i j k a = record { rest = λ later r u. u; inside = h; few = f; cells = i; room = j; names = k; hand = a; long = refl }
+
+pub put-ends :
+    {codes : List ℕ} {at left cell size place byte : ℕ} {text : List ℕ} {next finest child ends name more : ℕ} {now : List ℕ} →
+    Putting codes at left cell size place byte text next finest child ends name more now → more ≡ 0 →
+    ListPut codes at left cell size place byte text now (record { next = next; place = ends })
+put-ends v e = v .rest _ _ (none-put (v .inside) e)
+
+module _
+    {codes : List ℕ} {at left cell size place byte : ℕ} {text : List ℕ} {next finest child ends name more : ℕ} {now : List ℕ} (s : size ≤ 9 ^ 15)
+    (v : Putting codes at left cell size place byte text next finest child ends name more now) (z : more ≡ 0 → ⊥)
+  where
+    -- the cell has the code at hand inside
+    pub put-in :
+        {mid later : List ℕ} {n : Placed} {first last from to : ℕ} → finest < child / 16 + size → NodePut codes next child size ends name now mid n →
+        length mid ≡ length now → AtHand codes (n .next) first → later ≡ mid → last ≡ n .next → from ≡ first → to ≡ n .place →
+        Putting codes at left cell size place byte text last from (child + 16 * size) to (name + 1) (more - 1) later
+    put-in {mid} {later} {n} {first} l m e a e₁ e₂ e₃ e₄ =
+        let h = hand-inside more child size (v .hand) s (v .cells) l in
+        rw (e₁, e₂, e₃, e₄)
+        (record {
+          rest = λ later r u. v .rest later r (in-put more (h .0) z (h .1) m u);
+          inside = m .inside;
+          few = omega (arith, v .few);
+          cells = omega (arith, v .cells, one-less more (16 * size) z);
+          room = omega (arith, v .room, one-less more (2 * size - 1) z, m .short);
+          names = omega (arith, v .names);
+          hand = a;
+          long = e ∙ v .long;
+        })
+
+    -- or it has not
+    pub put-out :
+        {later : List ℕ} {last from to : ℕ} → (finest < child / 16 + size → ⊥) → later ≡ now → last ≡ next → from ≡ finest → to ≡ ends →
+        Putting codes at left cell size place byte text last from (child + 16 * size) to (name + 1) (more - 1) later
+    put-out l e₁ e₂ e₃ e₄ =
+        rw (e₁, e₂, e₃, e₄)
+        (record {
+          rest = λ later r u. v .rest later r (out-put more z (hand-outside child size (v .hand) l) u);
+          inside = v .inside;
+          few = omega (arith, v .few);
+          cells = omega (arith, v .cells, one-less more (16 * size) z);
+          room = omega (arith, v .room, one-less more (2 * size - 1) z);
+          names = omega (arith, v .names);
+          hand = v .hand;
+          long = v .long;
+        })

@@ -7,6 +7,8 @@ pub mod Put
 pub mod PutLaws
 pub mod Take
 pub mod TakeLaws
+pub mod Whole
+pub mod WholeLaws
 pub mod Write
 pub mod WriteEntry
 pub mod WriteLaws

@@ -1,8 +1,9 @@
 -- What the measuring pass says of the codes from a place on: for every cell that stands there with its name, the node that is built. Assumes nothing.
 use mathlib.Core.Path.{_≡_}
 use mathlib.Core.Bool.{true}
+use mathlib.Core.Logic.{_⊎_}
 use mathlib.Core.List.{List, [], _∷_, _++_, map}
-use Prim.Native.Nat.{ℕ, suc, _+_, _-_, _*_, _^_, _≤_, _<_}
+use Prim.Native.Nat.{ℕ, suc, _+_, _-_, _*_, _/_, _%_, _^_, _≤_, _<_}
 use lib.ListN.{length, drop, getD}
 use Rattle.cell.specs.declared.Cell.{Cell}
 use Rattle.code.specs.Code.{codeOf, cellOf}
@@ -19,6 +20,18 @@ use Rattle.writing.specs.Take.{restsOf, Each, Standing, Took}
 -- the names of the codes from a place on
 abbrev pub namesFrom : List ℕ → ℕ → List Name
 namesFrom codes at = map nameOf (map cellOf (drop at codes))
+
+-- the finest cells of the codes from a place on
+unfoldable pub area : List ℕ → ℕ
+area [] = 0
+area (c ∷ cs) = 9 ^ (15 - c % 16) + area cs
+
+abbrev pub areaFrom : List ℕ → ℕ → ℕ
+areaFrom codes at = area (drop at codes)
+
+-- n cells of a size have so many whole ones among them: all, and every finest cell of theirs was taken, or not all, and some was not
+abbrev pub Fills : (wholes n size from to : ℕ) → Type 0
+Fills wholes n size from to = ((wholes ≡ n) × (from ≡ n * size + to)) ⊎ ((wholes < n) × (from < n * size + to))
 
 -- the cell named w, of this code and this size, takes the codes from here on, and has the first inside
 pub record NodeAt (codes : List ℕ) (at : ℕ) (w : Name) (cell size k : ℕ) : Type 0 where
@@ -45,14 +58,21 @@ pub record NodeTakes (codes : List ℕ) (at : ℕ) (w : Name) (k next bytes whol
   pub past : Each (Ahead w) (namesFrom codes next)
   pub long : (l : Level) (c : ℕ) (rest : Nodes) → length (render l (nodeOf (under k) c (restsOf w (namesFrom codes at)) rest)) ≡ bytes + length (render l rest)
   pub whole : (c : ℕ) (rest : Nodes) → wholesIn (nodeOf (under k) c (restsOf w (namesFrom codes at)) rest) ≡ wholes + wholesIn rest
+  pub fills : Fills wholes 1 (9 ^ k) (areaFrom codes at) (areaFrom codes next)
 
 pub record ListTakes (codes : List ℕ) (at : ℕ) (w : Name) (c left k next bytes wholes : ℕ) : Type 0 where
   pub took : Took w (namesFrom codes at) (namesFrom codes next)
   pub past : Standing (w ++ ((left + c) ∷ [])) (namesFrom codes next)
   pub long : (l : Level) → length (render l (side (under k) left c (restsOf w (namesFrom codes at)))) ≡ bytes
   pub whole : wholesIn (side (under k) left c (restsOf w (namesFrom codes at))) ≡ wholes
+  pub fills : Fills wholes left (9 ^ k) (areaFrom codes at) (areaFrom codes next)
 
 -- ---- what is promised
+
+-- the first finest cell of the code at a place, or what is above all of them
+pub record AtHand (codes : List ℕ) (at first : ℕ) : Type 0 where
+  pub some : at < length codes → first ≡ getD codes at 0 / 16
+  pub none : length codes ≤ at → first ≡ 2 ^ 60
 
 pub record NodeMeasured (codes : List ℕ) (at cell size : ℕ) (r : Taken) : Type 0 where
   pub is : (w : Name) (k : ℕ) → NodeAt codes at w cell size k → NodeTakes codes at w k (r .next) (r .bytes) (r .wholes)

@@ -36,7 +36,7 @@ use Rattle.writing.specs.WriteEntry.{allCodes}
 use Rattle.writing.specs.BuiltLaws.{under, built-side}
 use Rattle.writing.specs.Take.{restsOf, Since, Each, Standing, Took}
 use Rattle.writing.specs.TakeLaws.{prefix-same, prefix-both, side-in, side-out, took-none, took-join, standing-next, all-ahead, self-node, self-took, self-past, deeper, deeper-node, nine-past}
-use Rattle.writing.specs.Measure.{namesFrom, NodeAt, ListAt, NodeTakes, ListTakes}
+use Rattle.writing.specs.Measure.{namesFrom, area, areaFrom, Fills, NodeAt, ListAt, NodeTakes, ListTakes}
 
 -- ---- codes, cells and names at a place
 
@@ -51,13 +51,19 @@ names-at codes at h =
     let e : drop at codes ≡ getD codes at 0 ∷ drop (at + 1) codes = rw (add-one, drop-cons codes at 0) in
     ap (λ (cs : List ℕ). map nameOf (map cellOf cs)) e
 
+pub area-at : (codes : List ℕ) (at : ℕ) → at < length codes → areaFrom codes at ≡ 9 ^ (15 - getD codes at 0 % 16) + areaFrom codes (at + 1)
+unfolding area
+area-at codes at h =
+    let e : drop at codes ≡ getD codes at 0 ∷ drop (at + 1) codes = rw (add-one, drop-cons codes at 0) in
+    ap area e
+
 names-end : (codes : List ℕ) (at : ℕ) → length codes ≤ at → namesFrom codes at ≡ []
 names-end codes at h = ap (λ (cs : List ℕ). map nameOf (map cellOf cs)) (drop-of-length-le codes h)
 
 pub start-at : (x : ℕ) → isCode x ≡ true → x / 16 ≡ startOf (cellOf x)
 start-at x t = let v = code-is-cell x t in omega (arith, v .fine, code-cell x t, start-code (cellOf x) v)
 
-start-named : (w : Name) → IsName 6 15 w → codeOf (cellNamed w) / 16 ≡ startOf (cellNamed w)
+pub start-named : (w : Name) → IsName 6 15 w → codeOf (cellNamed w) / 16 ≡ startOf (cellNamed w)
 start-named w n = let v = named-cell w n in omega (arith, v .fine, start-code (cellNamed w) v)
 
 length-name : (q : Name) → IsName 6 15 q → length q ≤ 16
@@ -69,10 +75,16 @@ unfolding cellNamed
 resolution-named [] n = absurd n
 resolution-named (x ∷ q) n = refl
 
+resolution-in : (w : Name) (x : ℕ) → IsName 6 15 w → isCode x ≡ true → w ≡ nameOf (cellOf x) → length w ≡ suc (x % 16)
+unfolding cellOf
+resolution-in w x n t e =
+    let f : cellNamed w ≡ cellOf x = ap cellNamed e ∙ cell-named (cellOf x) (code-is-cell x t) in
+    resolution-named w n ∙ ap (λ (c : Cell). suc (c .resolution)) f
+
 -- ---- the test of the code at hand: it lies inside, or comes after
 
 module _ (w : Name) (x k : ℕ) (n : IsName 6 15 w) (t : isCode x ≡ true) (d : length w + k ≡ 16) where
-  end-named : endOf (cellNamed w) ≡ startOf (cellNamed w) + 9 ^ k
+  pub end-named : endOf (cellNamed w) ≡ startOf (cellNamed w) + 9 ^ k
   unfolding endOf sizeOf
   end-named =
       let e : 15 - cellNamed w .resolution ≡ k = omega (arith, resolution-named w n) in
@@ -110,11 +122,13 @@ module _ (codes : List ℕ) (at : ℕ) (w : Name) (cell size k : ℕ) (s : NodeA
   self : w ≡ nameOf (cellOf (getD codes at 0)) → NodeTakes codes at w k (at + 1) 1 1
   self e =
       let f : namesFrom codes at ≡ w ∷ namesFrom codes (at + 1) = names-at codes at h ∙ ap (λ (q : Name). q ∷ namesFrom codes (at + 1)) (sym e) in
+      let r : 15 - getD codes at 0 % 16 ≡ k = omega (arith, resolution-in w (getD codes at 0) (s .named) first-code e, s .depth) in
       record {
         took = rw f (self-took w (namesFrom codes (at + 1)));
         past = self-past w (namesFrom codes (at + 1)) (rw f at (s .standing));
         long = λ l c rest. rw (f, self-node (under k) c w (namesFrom codes (at + 1)) rest) (omega arith);
         whole = λ c rest. rw (f, self-node (under k) c w (namesFrom codes (at + 1)) rest) (omega arith);
+        fills = inl (refl, area-at codes at h ∙ rw r (omega arith));
       }
 
   pub node-finest : size < 9 → NodeTakes codes at w k (at + 1) 1 1
@@ -232,6 +246,7 @@ module _
             past = past;
             long = λ l c rest. rw (node-is c rest, eq-eqb count 9 e) (omega arith);
             whole = λ c rest. rw (node-is c rest, eq-eqb count 9 e) (omega arith);
+            fills = ⊎-elim (λ f. inl (refl, omega (arith, f .1, pow-suc 9 k))) (λ f. absurd (omega (arith, f .0))) (t .fills);
           }
 
       pub node-held : (count ≡ 9 → ⊥) → NodeTakes codes at w (suc k) next (3 + bytes) 0
@@ -248,15 +263,28 @@ module _
                   length-append (render Digits (side (under k) 9 0 (restsOf w (namesFrom codes at)))) (41 ∷ render l rest),
                 ));
             whole = λ c rest. rw (node-is c rest, ne-eqb count 9 e) (omega arith);
+            fills = ⊎-elim (λ f. absurd (e (f .0))) (λ f. inr (omega arith, omega (arith, f .1, pow-suc 9 k))) (t .fills);
           }
 
 -- ---- a list
+
+-- one cell and then n, and a cell of which none was taken
+fills-join :
+    (a b n z from mid to : ℕ) → Fills a 1 z from mid → Fills b n z mid to → Fills (a + b) (suc n) z from to
+fills-join a b n z from mid to (inl f) (inl g) = inl (omega arith, omega (arith, suc-mul n z))
+fills-join a b n z from mid to (inl f) (inr g) = inr (omega arith, omega (arith, suc-mul n z))
+fills-join a b n z from mid to (inr f) (inl g) = inr (omega arith, omega (arith, suc-mul n z))
+fills-join a b n z from mid to (inr f) (inr g) = inr (omega arith, omega (arith, suc-mul n z))
+
+fills-none : (b n z from to : ℕ) → 0 < z → Fills b n z from to → Fills b (suc n) z from to
+fills-none b n z from to h (inl g) = inr (omega arith, omega (arith, suc-mul n z))
+fills-none b n z from to h (inr g) = inr (omega arith, omega (arith, suc-mul n z))
 
 pub list-none : (codes : List ℕ) (at : ℕ) (w : Name) (c cell size k : ℕ) → ListAt codes at w c 0 cell size k → ListTakes codes at w c 0 k at 0 0
 unfolding side
 list-none codes at w c cell size k s =
     let z : 0 + c ≡ c = omega arith in
-    record { took = took-none w (namesFrom codes at); past = rw z (s .standing); long = λ l. refl; whole = refl }
+    record { took = took-none w (namesFrom codes at); past = rw z (s .standing); long = λ l. refl; whole = refl; fills = inl (refl, omega arith) }
 
 module _ (codes : List ℕ) (at : ℕ) (w : Name) (c left cell size k : ℕ) (s : ListAt codes at w c (suc left) cell size k) where
   named-first : IsName 6 15 (w ++ (c ∷ []))
@@ -323,6 +351,7 @@ module _ (codes : List ℕ) (at : ℕ) (w : Name) (c left cell size k : ℕ) (s 
         past = rw shift at (u .past);
         long = λ l. ap (λ (ns : Nodes). length (render l ns)) e ∙ t .long l c (side (under k) left (suc c) (restsOf w (namesFrom codes next))) ∙ ap (λ (x : ℕ). bytes + x) (u .long l);
         whole = ap wholes e ∙ t .whole c (side (under k) left (suc c) (restsOf w (namesFrom codes next))) ∙ ap (λ (x : ℕ). count + x) (u .whole);
+        fills = fills-join count others left (9 ^ k) _ _ _ (t .fills) (u .fills);
       }
 
   -- or it has not, and there is no node of its number
@@ -344,11 +373,12 @@ module _ (codes : List ℕ) (at : ℕ) (w : Name) (c left cell size k : ℕ) (s 
   pub list-out :
       {last more others : ℕ} → Each (Ahead (w ++ (c ∷ []))) (namesFrom codes at) → ListTakes codes at w (suc c) left k last more others →
       ListTakes codes at w c (suc left) k last more others
-  list-out p u =
+  list-out {last} {more} {others} p u =
       let e = side-out (under k) left c w (namesFrom codes at) p in
       record {
         took = u .took;
         past = rw shift at (u .past);
         long = λ l. ap (λ (ns : Nodes). length (render l ns)) e ∙ u .long l;
         whole = ap wholes e ∙ u .whole;
+        fills = fills-none others left (9 ^ k) _ _ (nine-pos k) (u .fills);
       }

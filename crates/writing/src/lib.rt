@@ -1,9 +1,10 @@
 // The accepted text of a list of cells.
 ghost use mathlib.Core.Path.{_≡_};
 ghost use mathlib.Core.Bool.{true, _&&_, not};
-ghost use Prim.Native.Nat.{_+_, _-_, _*_, _^_, _≤_, _<_};
+ghost use Prim.Native.Nat.{_+_, _-_, _*_, _%_, _^_, _≤_, _<_};
 ghost use lib.ListN.{length, set};
-ghost use Rattle.writing.specs.Measure.{NodeMeasured, ListMeasured};
+ghost use Rattle.writing.specs.Measure.{AtHand, NodeMeasured, ListMeasured};
+ghost use Rattle.writing.specs.Whole.{WholeTold};
 ghost use Rattle.writing.specs.Put.{laid, NodePut, ListPut};
 ghost use lib.Dec.{ltb};
 ghost use Rattle.logic.specs.Refusal.{given};
@@ -24,6 +25,16 @@ struct Taken {
     next: usize,
     bytes: u64,
     wholes: u64,
+}
+
+// The first finest cell of the code at a place, or a number above all of them where there is no such place.
+fn finest_at(codes: &[u64], at: usize) -> u64
+    ensures { λ r. ⌜ AtHand (now (codes .entry)) at r ⌝ }
+{
+    if at < codes.len() {
+        return codes[at] / 16;
+    }
+    0x1000_0000_0000_0000
 }
 
 // The node of a cell, given by its code and its size, that has the code at hand inside.
@@ -86,6 +97,41 @@ fn measure_list(codes: &[u64], at: usize, left: u64, cell: u64, size: u64) -> Ta
     measure_list(codes, at, left - 1, cell + 16 * size, size)
 }
 
+// The number of finest cells of a code's cell.
+fn size_in(code: u64) -> u64
+    ensures { λ r. ⌜ r ≡ 9 ^ (15 - code % 16) ⌝ }
+{
+    ternary::nine_power(15 - code % 16)
+}
+
+// The place of the next code after a whole node, or the same place where the node is not whole. It is whole where the codes from here on
+// cover its finest cells with no gap.
+fn whole_until(codes: &[u64], at: usize, cell: u64, size: u64) -> usize
+    requires { ⌜ (at < length (now codes)) × (0 < size) × (size ≤ 9 ^ 15) × (cell + 17 * size ≤ 2 ^ 63) ⌝ }
+    ensures { λ r. ⌜ WholeTold (now (codes .entry)) at cell size r ⌝ }
+{
+    if size < 9 {
+        return at + 1;
+    }
+    if codes[at] == cell {
+        return at + 1;
+    }
+    let mut position = cell / 16;
+    let mut i = at;
+    while i < codes.len() {
+        let code = codes[i];
+        if position < code / 16 {
+            return at;
+        }
+        position = position + size_in(code);
+        i = i + 1;
+        if cell / 16 + size <= position {
+            return i;
+        }
+    }
+    at
+}
+
 // A byte at a place of the text, if there is such a place.
 fn put(text: &mut [u8], place: usize, byte: u8)
     ensures { λ r. ⌜ now (text .exit) ≡ set (now (text .entry)) place byte ⌝ }
@@ -114,11 +160,11 @@ fn put_node(
     requires { ⌜ (at < length (now codes)) × (0 < size) × (size ≤ 9 ^ 15) × (cell + 17 * size ≤ 2 ^ 63) × (place + (2 * size - 1) ≤ 2 ^ 63) ⌝ }
     ensures { λ r. ⌜ NodePut (now (codes .entry)) at cell size place byte (now (text .entry)) (now (text .exit)) r ⌝ }
 {
-    let taken = measure_node(codes, at, cell, size);
     put(text, place, byte);
-    if taken.wholes == 1 {
+    let next = whole_until(codes, at, cell, size);
+    if next != at {
         return Placed {
-            next: taken.next,
+            next,
             place: place + 1,
         };
     }
@@ -145,34 +191,24 @@ fn put_list(
     requires { ⌜ (at ≤ length (now codes)) × (left ≤ 9) × (0 < size) × (size ≤ 9 ^ 15) × (cell + left * (16 * size) + 2 * size ≤ 2 ^ 63) × (place + left * (2 * size - 1) ≤ 2 ^ 63) × (byte + left ≤ 255) ⌝ }
     ensures { λ r. ⌜ ListPut (now (codes .entry)) at left cell size place byte (now (text .entry)) (now (text .exit)) r ⌝ }
 {
-    if left == 0 {
-        return Placed { next: at, place };
-    }
-    if at < codes.len() {
-        if codes[at] / 16 < cell / 16 + size {
-            let node = put_node(codes, at, cell, size, text, place, byte);
-            return put_list(
-                codes,
-                node.next,
-                left - 1,
-                cell + 16 * size,
-                size,
-                text,
-                node.place,
-                byte + 1,
-            );
+    let mut next = at;
+    let mut first = finest_at(codes, at);
+    let mut child = cell;
+    let mut ends = place;
+    let mut name = byte;
+    let mut more = left;
+    while more > 0 {
+        if first < child / 16 + size {
+            let node = put_node(codes, next, child, size, text, ends, name);
+            next = node.next;
+            ends = node.place;
+            first = finest_at(codes, next);
         }
+        child = child + 16 * size;
+        name = name + 1;
+        more = more - 1;
     }
-    put_list(
-        codes,
-        at,
-        left - 1,
-        cell + 16 * size,
-        size,
-        text,
-        place,
-        byte + 1,
-    )
+    Placed { next, place: ends }
 }
 
 // Whether every code is a cell's.
