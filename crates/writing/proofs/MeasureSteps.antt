@@ -3,7 +3,7 @@ use mathlib.Core.Path.{_≡_, refl, sym, ap, _∙_}
 use Prim.Native.Nat.{ℕ, zero, suc, _+_, _-_, _*_, _/_, _^_, _≤_, _<_}
 use mathlib.Core.Logic.{⊎-elim}
 use mathlib.Core.List.{List}
-use native.Mathlib.Nat.{suc-mul, mul-le-mul-right}
+use native.Mathlib.Nat.{suc-mul, mul-le-mul-right, add-assoc}
 use native.Mathlib.Omega.{arith}
 use lib.ListN.{length, getD}
 use Rattle.logic.specs.Order.{lt-or}
@@ -109,3 +109,80 @@ pub hand-outside :
     {codes : List ℕ} {at first : ℕ} (cell size : ℕ) → AtHand codes at first → (first < cell / 16 + size → ⊥) →
     at < length codes → getD codes at 0 / 16 < cell / 16 + size → ⊥
 hand-outside cell size a n h l = n (omega (arith, a .some h))
+
+-- ---- a list, cell by cell
+
+-- what is measured of the cells that are left completes what is to be measured
+pub record Measuring (codes : List ℕ) (at left cell size next first child bytes count more : ℕ) : Type 0 where
+  pub rest :
+      (r : Taken) → ListMeasured codes next more child size r →
+      ListMeasured codes at left cell size (record { next = r .next; bytes = bytes + r .bytes; wholes = count + r .wholes })
+  pub inside : next ≤ length codes
+  pub few : more ≤ left
+  pub cells : child + more * (16 * size) + 2 * size ≤ 2 ^ 63
+  pub short : bytes + more * (2 * size) ≤ left * (2 * size)
+  pub counted : count + more ≤ left
+  pub hand : AtHand codes next first
+
+pub l-starts :
+    {codes : List ℕ} {at left cell size first : ℕ} → at ≤ length codes → cell + left * (16 * size) + 2 * size ≤ 2 ^ 63 → AtHand codes at first →
+    Measuring codes at left cell size at first cell 0 0 left
+l-starts h i a =
+    record {
+      rest =
+          λ r u.
+          let i : 0 + r .bytes ≡ r .bytes = omega arith in
+          let j : 0 + r .wholes ≡ r .wholes = omega arith in
+          rw (i, j) u;
+      inside = h;
+      few = omega arith;
+      cells = i;
+      short = omega arith;
+      counted = omega arith;
+      hand = a;
+    }
+
+pub l-ends :
+    {codes : List ℕ} {at left cell size next first child bytes count more : ℕ} → Measuring codes at left cell size next first child bytes count more → more ≡ 0 →
+    ListMeasured codes at left cell size (record { next = next; bytes = bytes; wholes = count })
+l-ends {codes} {at} {left} {cell} {size} {next} {first} {child} {bytes} {count} v e =
+    let i : bytes + 0 ≡ bytes = omega arith in
+    let j : count + 0 ≡ count = omega arith in
+    rw (i, j) at (v .rest _ (l-none (v .inside) e))
+
+module _
+    {codes : List ℕ} {at left cell size next first child bytes count more : ℕ} (y : 0 < size) (s : size ≤ 9 ^ 15)
+    (v : Measuring codes at left cell size next first child bytes count more) (z : more ≡ 0 → ⊥)
+  where
+    -- the cell has the code at hand inside
+    pub l-takes :
+        {n : Taken} {f last from long sum : ℕ} → first < child / 16 + size → NodeMeasured codes next child size n → AtHand codes (n .next) f → last ≡ n .next →
+        from ≡ f → long ≡ bytes + n .bytes → sum ≡ count + n .wholes → Measuring codes at left cell size last from (child + 16 * size) long sum (more - 1)
+    l-takes {n} l m a e₁ e₂ e₃ e₄ =
+        let h = hand-inside more child size (v .hand) s (v .cells) l in
+        rw (e₁, e₂, e₃, e₄)
+        (record {
+          rest = λ r u. rw (add-assoc bytes (n .bytes) (r .bytes), add-assoc count (n .wholes) (r .wholes)) (v .rest _ (l-in more (h .0) z (h .1) m u));
+          inside = m .inside;
+          few = omega (arith, v .few);
+          cells = omega (arith, v .cells, one-less more (16 * size) z);
+          short = omega (arith, v .short, one-less more (2 * size) z, m .short);
+          counted = omega (arith, v .counted, m .few);
+          hand = a;
+        })
+
+    -- or it has not
+    pub l-skips :
+        {last from long sum : ℕ} → (first < child / 16 + size → ⊥) → last ≡ next → from ≡ first → long ≡ bytes → sum ≡ count →
+        Measuring codes at left cell size last from (child + 16 * size) long sum (more - 1)
+    l-skips l e₁ e₂ e₃ e₄ =
+        rw (e₁, e₂, e₃, e₄)
+        (record {
+          rest = λ r u. v .rest r (l-out more y z (hand-outside child size (v .hand) l) u);
+          inside = v .inside;
+          few = omega (arith, v .few);
+          cells = omega (arith, v .cells, one-less more (16 * size) z);
+          short = omega (arith, v .short, one-less more (2 * size) z);
+          counted = omega (arith, v .counted);
+          hand = v .hand;
+        })

@@ -76,25 +76,28 @@ fn measure_list(codes: &[u64], at: usize, left: u64, cell: u64, size: u64) -> Ta
     requires { ⌜ (at ≤ length (now codes)) × (left ≤ 9) × (0 < size) × (size ≤ 9 ^ 15) × (cell + left * (16 * size) + 2 * size ≤ 2 ^ 63) ⌝ }
     ensures { λ r. ⌜ ListMeasured (now (codes .entry)) at left cell size r ⌝ }
 {
-    if left == 0 {
-        return Taken {
-            next: at,
-            bytes: 0,
-            wholes: 0,
-        };
-    }
-    if at < codes.len() {
-        if codes[at] / 16 < cell / 16 + size {
-            let node = measure_node(codes, at, cell, size);
-            let rest = measure_list(codes, node.next, left - 1, cell + 16 * size, size);
-            return Taken {
-                next: rest.next,
-                bytes: node.bytes + rest.bytes,
-                wholes: node.wholes + rest.wholes,
-            };
+    let mut next = at;
+    let mut first = finest_at(codes, at);
+    let mut child = cell;
+    let mut bytes: u64 = 0;
+    let mut wholes: u64 = 0;
+    let mut more = left;
+    while more > 0 {
+        if first < child / 16 + size {
+            let node = measure_node(codes, next, child, size);
+            next = node.next;
+            bytes = bytes + node.bytes;
+            wholes = wholes + node.wholes;
+            first = finest_at(codes, next);
         }
+        child = child + 16 * size;
+        more = more - 1;
     }
-    measure_list(codes, at, left - 1, cell + 16 * size, size)
+    Taken {
+        next,
+        bytes,
+        wholes,
+    }
 }
 
 // The number of finest cells of a code's cell.

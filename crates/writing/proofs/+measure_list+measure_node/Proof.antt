@@ -1,10 +1,10 @@
--- The proof of the cycle of calls {measure_list, measure_node}. The measures are twenty times the size, and for the list what is left besides. What each
--- hands back is said by the laws of MeasureSteps. Assumes nothing.
+-- The proof of the cycle of calls {measure_list, measure_node}. The measures are twice the size, and one more for the list. What each hands back, and how far
+-- the list has come, is said by the laws of MeasureSteps. Assumes nothing.
 use native.Mathlib.Omega.{arith}
 use borrow.Author.Needs.{needs}
+use Prim.Native.Nat.{ℕ, _+_, _-_, _*_, _<_}
 use mathlib.Core.Logic.{⊎-elim}
 use Rattle.writing.proofs.MeasureSteps as ms
-use Prim.Native.Nat.{ℕ, suc, _+_, _-_, _*_, _/_, _≤_, _<_}
 use borrow.Fn.Kinds.{In}
 use borrow.Fn.PlainCycle.{Measures, is, falls, and}
 use Rattle.writing.proofs.measure_list.Reads as measure-list
@@ -13,14 +13,15 @@ use Rattle.writing.proofs.+measure_list+measure_node.Lts-measure_list a
 use Rattle.writing.proofs.measure_node.Reads as measure-node
 use Rattle.writing.proofs.measure_node.Kinds as measure-node-kinds
 use Rattle.writing.proofs.+measure_list+measure_node.Lts-measure_node as measure-node-lts
+use Rattle.writing.proofs.finest_at.Reads as finest-at-reads
 use Rattle.writing.proofs.+measure_list+measure_node.{statement}
 use Rattle.writing.proofs.+measure_list+measure_node.Tie.{close}
 
 abbrev μ-measure-list : Measures 1 measure-list-kinds.ps ℕ
-μ-measure-list κs a = 20 * a .1 .1 .1 .1 .0 + a .1 .1 .0 + 1
+μ-measure-list κs a = 2 * a .1 .1 .1 .1 .0 + 1
 
 abbrev μ-measure-node : Measures 1 measure-node-kinds.ps ℕ
-μ-measure-node κs a = 20 * a .1 .1 .1 .0
+μ-measure-node κs a = 2 * a .1 .1 .1 .0
 
 abbrev measure-list-at : ℕ → In 1 measure-list-kinds.ps
 measure-list-at t =
@@ -48,65 +49,64 @@ measure-node-below t =
 
 -- what the callees of each are said to do
 abbrev for-list : ℕ → measure-list-lts.Claims
-for-list t = (measure-node-below t, measure-node.Post, measure-list-below t, measure-list.Post)
+for-list t = (finest-at-reads.Asked, finest-at-reads.Learnt, measure-node-below t, measure-node.Post)
 
 abbrev for-node : ℕ → measure-node-lts.Claims
 for-node t = (measure-list-below t, measure-list.Post)
 
-measure-list-returns : (t : ℕ) → measure-list-lts.Need-returns (for-list t) (measure-list-at t) measure-list.Post
-measure-list-returns t c = ms.l-none (omega arith) (c .if1 .taken)
+abbrev measure-list-Inv-loop : measure-list-lts.InvT-loop
+measure-list-Inv-loop codes at left cell size next₀ first₀ child₀ bytes₀ wholes₀ more₀ next first child bytes wholes more =
+    ms.Measuring codes at left cell size next first child bytes wholes more
 
-measure-list-mul-if3 : (t : ℕ) → measure-list-lts.Need-mul-if3 (for-list t) (measure-list-at t) measure-list.Post
-measure-list-mul-if3 t c = search needs
+abbrev measure-list-μ-loop : measure-list-lts.MeasureT-loop
+measure-list-μ-loop codes at left cell size next₀ first₀ child₀ bytes₀ wholes₀ more₀ next first child bytes wholes more =
+    more
 
-measure-list-shared-slice-read-if3 : (t : ℕ) → measure-list-lts.Need-shared-slice-read-if3 (for-list t) (measure-list-at t) measure-list.Post
-measure-list-shared-slice-read-if3 t c = search needs
+measure-list-finest-at-requires : (t : ℕ) → measure-list-lts.Need-finest-at-requires (for-list t) (measure-list-at t) measure-list.Post measure-list-Inv-loop measure-list-μ-loop
+measure-list-finest-at-requires t c κs = search needs
 
-measure-list-add-if3 : (t : ℕ) → measure-list-lts.Need-add-if3 (for-list t) (measure-list-at t) measure-list.Post
-measure-list-add-if3 t c = search needs
+measure-list-loop-holds : (t : ℕ) → measure-list-lts.Need-loop-holds (for-list t) (measure-list-at t) measure-list.Post measure-list-Inv-loop measure-list-μ-loop
+measure-list-loop-holds t c = ms.l-starts (omega arith) (omega arith) (c .finest-at .ensures)
 
-measure-list-measure-node-requires : (t : ℕ) → measure-list-lts.Need-measure-node-requires (for-list t) (measure-list-at t) measure-list.Post
-measure-list-measure-node-requires t c κs = (omega arith, (omega arith, omega arith, omega arith, omega (arith, ms.one-less (c .before .before .before .before .before .args .left) (16 * c .before .before .before .before .before .args .size) (c .before .before .before .if1 .left))))
+measure-list-add-if1 : (t : ℕ) → measure-list-lts.Need-add-if1 (for-list t) (measure-list-at t) measure-list.Post measure-list-Inv-loop measure-list-μ-loop
+measure-list-add-if1 t c = search needs
 
-measure-list-sub-measure-list : (t : ℕ) → measure-list-lts.Need-sub-measure-list (for-list t) (measure-list-at t) measure-list.Post
-measure-list-sub-measure-list t c = search needs
+measure-list-measure-node-requires : (t : ℕ) → measure-list-lts.Need-measure-node-requires (for-list t) (measure-list-at t) measure-list.Post measure-list-Inv-loop measure-list-μ-loop
+measure-list-measure-node-requires t c κs =
+    let v = c .before .before .loop .inv in
+    let h = ms.hand-inside (c .before .before .loop .more) (c .before .before .loop .child) (c .before .before .before .before .before .args .size) (v .hand) (omega arith) (v .cells) (c .if1 .taken) in
+    (omega arith, (h .0, omega arith, omega arith, omega (arith, v .cells, ms.one-less (c .before .before .loop .more) (16 * c .before .before .before .before .before .args .size) (λ e. omega arith))))
 
-measure-list-mul-measure-list : (t : ℕ) → measure-list-lts.Need-mul-measure-list (for-list t) (measure-list-at t) measure-list.Post
-measure-list-mul-measure-list t c = search needs
+measure-list-add-bytes : (t : ℕ) → measure-list-lts.Need-add-bytes (for-list t) (measure-list-at t) measure-list.Post measure-list-Inv-loop measure-list-μ-loop
+measure-list-add-bytes t c = search needs
 
-measure-list-add-measure-list : (t : ℕ) → measure-list-lts.Need-add-measure-list (for-list t) (measure-list-at t) measure-list.Post
-measure-list-add-measure-list t c = search needs
+measure-list-add-wholes : (t : ℕ) → measure-list-lts.Need-add-wholes (for-list t) (measure-list-at t) measure-list.Post measure-list-Inv-loop measure-list-μ-loop
+measure-list-add-wholes t c = search needs
 
-measure-list-measure-list-requires : (t : ℕ) → measure-list-lts.Need-measure-list-requires (for-list t) (measure-list-at t) measure-list.Post
-measure-list-measure-list-requires t c κs =
-    (omega arith, (c .measure-node .ensures .inside, omega arith, omega arith, omega arith, omega (arith, ms.one-less (c .before .before .before .before .before .before .args .left) (16 * c .before .before .before .before .before .before .args .size) (c .before .before .before .before .if1 .left))))
+measure-list-finest-at-requires-2 : (t : ℕ) → measure-list-lts.Need-finest-at-requires-2 (for-list t) (measure-list-at t) measure-list.Post measure-list-Inv-loop measure-list-μ-loop
+measure-list-finest-at-requires-2 t c κs = search needs
 
-measure-list-add-t17 : (t : ℕ) → measure-list-lts.Need-add-t17 (for-list t) (measure-list-at t) measure-list.Post
-measure-list-add-t17 t c =
-    omega (arith, c .before .before .before .measure-node .ensures .short, c .before .before .measure-list .ensures .short, ms.at-most-nine (c .before .before .before .before .before .before .before .before .before .args .left - 1) (2 * c .before .before .before .before .before .before .before .before .before .args .size) (omega arith))
+measure-list-mul-child : (t : ℕ) → measure-list-lts.Need-mul-child (for-list t) (measure-list-at t) measure-list.Post measure-list-Inv-loop measure-list-μ-loop
+measure-list-mul-child t c = search needs
 
-measure-list-add-t19 : (t : ℕ) → measure-list-lts.Need-add-t19 (for-list t) (measure-list-at t) measure-list.Post
-measure-list-add-t19 t c = search needs
+measure-list-add-child : (t : ℕ) → measure-list-lts.Need-add-child (for-list t) (measure-list-at t) measure-list.Post measure-list-Inv-loop measure-list-μ-loop
+measure-list-add-child t c = search needs
 
-measure-list-returns-2 : (t : ℕ) → measure-list-lts.Need-returns-2 (for-list t) (measure-list-at t) measure-list.Post
-measure-list-returns-2 t c =
-    ms.l-in (c .before .before .before .before .before .before .before .before .before .before .before .args .left) (c .before .before .before .before .before .before .before .before .if2 .taken) (c .before .before .before .before .before .before .before .before .before .if1 .left) (c .before .before .before .before .before .before .if3 .taken) (c .before .before .before .before .before .measure-node .ensures) (c .before .before .before .before .measure-list .ensures)
+measure-list-sub-more : (t : ℕ) → measure-list-lts.Need-sub-more (for-list t) (measure-list-at t) measure-list.Post measure-list-Inv-loop measure-list-μ-loop
+measure-list-sub-more t c = search needs
 
-measure-list-sub-measure-list-2 : (t : ℕ) → measure-list-lts.Need-sub-measure-list-2 (for-list t) (measure-list-at t) measure-list.Post
-measure-list-sub-measure-list-2 t c = search needs
+measure-list-loop-less : (t : ℕ) → measure-list-lts.Need-loop-less (for-list t) (measure-list-at t) measure-list.Post measure-list-Inv-loop measure-list-μ-loop
+measure-list-loop-less t c = search needs
 
-measure-list-mul-measure-list-2 : (t : ℕ) → measure-list-lts.Need-mul-measure-list-2 (for-list t) (measure-list-at t) measure-list.Post
-measure-list-mul-measure-list-2 t c = search needs
+measure-list-loop-again : (t : ℕ) → measure-list-lts.Need-loop-again (for-list t) (measure-list-at t) measure-list.Post measure-list-Inv-loop measure-list-μ-loop
+measure-list-loop-again t c =
+    let v = c .before .before .loop .inv in
+    ⊎-elim (λ x. ms.l-takes (omega arith) (omega arith) v (λ e. omega arith) (x .0 .taken) (x .1 .ensures) (x .4 .ensures) (x .5) (x .6) (x .7) (x .8))
+    (λ x. ms.l-skips (omega arith) (omega arith) v (λ e. omega arith) (λ l. omega (arith, x .0 .left)) (x .1) (x .2) (x .3) (x .4))
+    (c .if1 .came)
 
-measure-list-add-measure-list-2 : (t : ℕ) → measure-list-lts.Need-add-measure-list-2 (for-list t) (measure-list-at t) measure-list.Post
-measure-list-add-measure-list-2 t c = search needs
-
-measure-list-measure-list-requires-2 : (t : ℕ) → measure-list-lts.Need-measure-list-requires-2 (for-list t) (measure-list-at t) measure-list.Post
-measure-list-measure-list-requires-2 t c κs = (omega arith, (omega arith, omega arith, omega arith, omega arith, omega (arith, ms.one-less (c .before .before .before .args .left) (16 * c .before .before .before .args .size) (c .before .if1 .left))))
-
-measure-list-returns-3 : (t : ℕ) → measure-list-lts.Need-returns-3 (for-list t) (measure-list-at t) measure-list.Post
-measure-list-returns-3 t c =
-    ms.l-out (c .before .before .before .before .args .left) (omega arith) (c .before .before .if1 .left) (λ h l. ⊎-elim (λ x. omega (arith, x .2 .left)) (λ x. omega (arith, x .left)) (c .before .if2 .came)) (c .measure-list2 .ensures)
+measure-list-returns : (t : ℕ) → measure-list-lts.Need-returns (for-list t) (measure-list-at t) measure-list.Post measure-list-Inv-loop measure-list-μ-loop
+measure-list-returns t c = ms.l-ends (c .before .loop .inv) (omega arith)
 
 measure-node-add-t7 : (t : ℕ) → measure-node-lts.Need-add-t7 (for-node t) (measure-node-at t) measure-node.Post
 measure-node-add-t7 t c = search needs
@@ -145,23 +145,21 @@ pub +measure-list+measure-node-spec : {M : Type 1} → statement M
 +measure-list+measure-node-spec = close μ-measure-list μ-measure-node (λ t. measure-list-lts.spec (for-list t)
     (measure-list-at t)
     measure-list.Post
-    (measure-list-returns t)
-    (measure-list-mul-if3 t)
-    (measure-list-shared-slice-read-if3 t)
-    (measure-list-add-if3 t)
+    measure-list-Inv-loop
+    measure-list-μ-loop
+    (measure-list-finest-at-requires t)
+    (measure-list-loop-holds t)
+    (measure-list-add-if1 t)
     (measure-list-measure-node-requires t)
-    (measure-list-sub-measure-list t)
-    (measure-list-mul-measure-list t)
-    (measure-list-add-measure-list t)
-    (measure-list-measure-list-requires t)
-    (measure-list-add-t17 t)
-    (measure-list-add-t19 t)
-    (measure-list-returns-2 t)
-    (measure-list-sub-measure-list-2 t)
-    (measure-list-mul-measure-list-2 t)
-    (measure-list-add-measure-list-2 t)
-    (measure-list-measure-list-requires-2 t)
-    (measure-list-returns-3 t))
+    (measure-list-add-bytes t)
+    (measure-list-add-wholes t)
+    (measure-list-finest-at-requires-2 t)
+    (measure-list-mul-child t)
+    (measure-list-add-child t)
+    (measure-list-sub-more t)
+    (measure-list-loop-less t)
+    (measure-list-loop-again t)
+    (measure-list-returns t))
     λ t. measure-node-lts.spec
     (for-node t)
     (measure-node-at t)
