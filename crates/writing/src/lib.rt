@@ -104,7 +104,24 @@ fn measure_list(codes: &[u64], at: usize, left: u64, cell: u64, size: u64) -> Ta
 fn size_in(code: u64) -> u64
     ensures { λ r. ⌜ r ≡ 9 ^ (15 - code % 16) ⌝ }
 {
-    ternary::nine_power(15 - code % 16)
+    match code % 16 {
+        0 => 205_891_132_094_649,
+        1 => 22_876_792_454_961,
+        2 => 2_541_865_828_329,
+        3 => 282_429_536_481,
+        4 => 31_381_059_609,
+        5 => 3_486_784_401,
+        6 => 387_420_489,
+        7 => 43_046_721,
+        8 => 4_782_969,
+        9 => 531_441,
+        10 => 59_049,
+        11 => 6_561,
+        12 => 729,
+        13 => 81,
+        14 => 9,
+        _ => 1,
+    }
 }
 
 // The place of the next code after a whole node, or the same place where the node is not whole. It is whole where the codes from here on
@@ -236,7 +253,7 @@ fn follows(code: u64, next: u64) -> bool
     if next <= code {
         return false;
     }
-    code / 16 + ternary::nine_power(15 - code % 16) <= next / 16
+    code / 16 + size_in(code) <= next / 16
 }
 
 // Whether the codes rise and no cell lies inside another.

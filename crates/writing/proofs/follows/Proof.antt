@@ -11,21 +11,18 @@ use Rattle.writing.proofs.follows.Tie as tie
 returns : tie.Need-returns
 returns c = es.not-after (c .before .args .code) (c .before .args .next) (c .if1 .taken)
 
-sub-nine-power : tie.Need-sub-nine-power
-sub-nine-power c = search needs
-
-nine-power-requires : tie.Need-nine-power-requires
-nine-power-requires c κs = search needs
+size-in-requires : tie.Need-size-in-requires
+size-in-requires c κs = search needs
 
 add-result : tie.Need-add-result
 add-result c =
-    let e = c .nine-power .ensures in
+    let e = c .size-in .ensures in
     let g : 9 ^ (15 - c .before .before .args .code % 16) ≤ 9 ^ 15 = nine-le {i = 15 - c .before .before .args .code % 16} {j = 15} (omega arith) in
     omega arith
 
 returns-2 : tie.Need-returns-2
 returns-2 c =
-    es.after (c .before .before .args .code) (c .before .before .args .next) (c .nine-power .result) (c .before .before .pre .0) (c .before .before .pre .1) (c .before .if1 .left) (c .nine-power .ensures)
+    es.after (c .before .before .args .code) (c .before .before .args .next) (c .size-in .result) (c .before .before .pre .0) (c .before .before .pre .1) (c .before .if1 .left) (c .size-in .ensures)
 
 pub follows-spec : {M : Type 1} → statement M
-follows-spec = tie.close (tie.spec returns sub-nine-power nine-power-requires add-result returns-2)
+follows-spec = tie.close (tie.spec returns size-in-requires add-result returns-2)
