@@ -1,6 +1,7 @@
 -- What the parts of writing hand back: the tests of the list, and the answers. Assumes nothing.
 use mathlib.Core.Path.{_≡_, refl, sym, ap, ap₂, _∙_}
 use mathlib.Core.Bool.{Bool, true, false, _&&_, not}
+use mathlib.Core.Logic.{_⊎_, inl, inr, ⊎-elim}
 use mathlib.Core.List.{List, [], _∷_, _++_}
 use Prim.Native.Nat.{ℕ, zero, suc, _+_, _-_, _*_, _/_, _%_, _^_, _≤_, _<_}
 use native.Mathlib.Numerals.{add-one}
@@ -87,6 +88,65 @@ eleven codes e f = sym (ap₂ (λ (b o : Bool). refuse (not b) 4 otherwise refus
 pub none : (codes : List ℕ) → allCodes codes ≡ true → ordered codes ≡ true → 0 ≡ listRefusal codes
 unfolding listRefusal _otherwise_
 none codes e f = sym (ap₂ (λ (b o : Bool). refuse (not b) 4 otherwise refuse (not o) 11) e f)
+
+-- ---- the codes, one after the other
+
+-- the codes up to the place i are cells', and their order is judged
+pub record Judged (codes : List ℕ) (i refusal : ℕ) : Type 0 where
+  pub to : i ≤ length codes
+  pub coded : allCodes codes ≡ allCodes (drop i codes)
+  pub last : 0 < i → isCode (getD codes (i - 1) 0) ≡ true
+  pub order : ((refusal ≡ 0) × (ordered codes ≡ ordered (drop (i - 1) codes))) ⊎ ((refusal ≡ 11) × (ordered codes ≡ false))
+
+pub judge-starts : (codes : List ℕ) → Judged codes 0 0
+judge-starts codes = record { to = omega arith; coded = refl; last = λ h. absurd (omega arith); order = inl (refl, refl) }
+
+module _ {codes : List ℕ} {i refusal : ℕ} (v : Judged codes i refusal) where
+  pub judge-four : i < length codes → isCode (getD codes i 0) ≡ false → 4 ≡ listRefusal codes
+  judge-four h e = four codes (v .coded ∙ codes-step codes i h ∙ ap (λ (b : Bool). b && allCodes (drop (i + 1) codes)) e)
+
+  pub judge-ends : length codes ≤ i → refusal ≡ listRefusal codes
+  judge-ends h =
+      let a : allCodes codes ≡ true = v .coded ∙ codes-end codes i h in
+      ⊎-elim (λ o. o .0 ∙ none codes a (o .1 ∙ order-end codes (i - 1) (omega arith))) (λ o. o .0 ∙ eleven codes a (o .1)) (v .order)
+
+  module _ (h : i < length codes) (e : isCode (getD codes i 0) ≡ true) where
+    same-place : i + 1 - 1 ≡ i
+    same-place = omega arith
+
+    next-judged :
+        {r : ℕ} → ((r ≡ 0) × (ordered codes ≡ ordered (drop i codes))) ⊎ ((r ≡ 11) × (ordered codes ≡ false)) → Judged codes (i + 1) r
+    next-judged o =
+        record {
+          to = omega arith;
+          coded = v .coded ∙ codes-step codes i h ∙ ap (λ (b : Bool). b && allCodes (drop (i + 1) codes)) e;
+          last = λ z. rw same-place e;
+          order = rw same-place o;
+        }
+
+    -- the first code
+    pub judge-first : {r : ℕ} → i ≡ 0 → r ≡ refusal → Judged codes (i + 1) r
+    judge-first z k =
+        let p : i - 1 ≡ i = omega arith in
+        rw k (next-judged (rw p at (v .order)))
+
+    -- a later one, by its order with the one before
+    module _ (z : 0 < i) (b : Bool) (f : b ≡ (ltb (getD codes (i - 1) 0) (getD codes i 0) && not (lies (cellOf (getD codes (i - 1) 0)) (cellOf (getD codes i 0))))) where
+      pair : ordered (drop (i - 1) codes) ≡ (b && ordered (drop i codes))
+      pair =
+          let p : i - 1 + 1 ≡ i = omega arith in
+          rw f (rw p at (order-step codes (i - 1) (omega arith)))
+
+      pub judge-good : {r : ℕ} → b ≡ true → r ≡ refusal → Judged codes (i + 1) r
+      judge-good t k =
+          rw k
+          (next-judged
+          (⊎-elim (λ o. inl (o .0, o .1 ∙ pair ∙ ap (λ (x : Bool). x && ordered (drop i codes)) t)) (λ o. inr o) (v .order)))
+
+      pub judge-bad : {r : ℕ} → b ≡ false → r ≡ 11 → Judged codes (i + 1) r
+      judge-bad t k =
+          next-judged
+          (inr (k, ⊎-elim (λ o. o .1 ∙ pair ∙ ap (λ (x : Bool). x && ordered (drop i codes)) t) (λ o. o .1) (v .order)))
 
 -- ---- the heading
 

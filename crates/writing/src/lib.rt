@@ -10,7 +10,7 @@ ghost use lib.Dec.{ltb};
 ghost use Rattle.logic.specs.Refusal.{given};
 ghost use Rattle.code.specs.Code.{isCode, cellOf};
 ghost use Rattle.reading.specs.Text.{heading};
-ghost use Rattle.writing.specs.WriteEntry.{allCodes, lies, ordered, listRefusal, textOf, writeRefusal, textIn, written};
+ghost use Rattle.writing.specs.WriteEntry.{lies, listRefusal, textOf, writeRefusal, textIn, written};
 ghost use Rattle.writing.specs.EntryLaws.{LengthIs};
 use cell::Arrangement;
 
@@ -231,18 +231,15 @@ fn put_list(
     Placed { next, place: ends }
 }
 
-// Whether every code is a cell's.
-fn all_codes(codes: &[u64]) -> bool
-    ensures { λ r. ⌜ r ≡ allCodes (now (codes .entry)) ⌝ }
+// Whether some cell has this code: `code::is_code` with the size looked up.
+fn is_cell(code: u64) -> bool
+    ensures { λ r. ⌜ r ≡ isCode code ⌝ }
 {
-    let mut i: usize = 0;
-    while i < codes.len() {
-        if !code::is_code(codes[i]) {
-            return false;
-        }
-        i = i + 1;
+    let finest = code / 16;
+    if finest / 205_891_132_094_649 < 6 {
+        return finest % 205_891_132_094_649 % size_in(code) == 0;
     }
-    true
+    false
 }
 
 // Whether the cell of the second code comes after that of the first and not inside.
@@ -256,32 +253,25 @@ fn follows(code: u64, next: u64) -> bool
     code / 16 + size_in(code) <= next / 16
 }
 
-// Whether the codes rise and no cell lies inside another.
-fn in_order(codes: &[u64]) -> bool
-    requires { ⌜ allCodes (now codes) ≡ true ⌝ }
-    ensures { λ r. ⌜ r ≡ ordered (now (codes .entry)) ⌝ }
-{
-    let mut i: usize = 0;
-    while i + 1 < codes.len() {
-        if !follows(codes[i], codes[i + 1]) {
-            return false;
-        }
-        i = i + 1;
-    }
-    true
-}
-
-// 4 or 11, or 0 where the codes make a good list.
+// 4 or 11, or 0 where the codes make a good list: a code that is no cell's comes before all else.
 fn list_refusal(codes: &[u64]) -> u64
     ensures { λ r. ⌜ r ≡ listRefusal (now (codes .entry)) ⌝ }
 {
-    if !all_codes(codes) {
-        return 4;
+    let mut refusal: u64 = 0;
+    let mut i: usize = 0;
+    while i < codes.len() {
+        let code = codes[i];
+        if !is_cell(code) {
+            return 4;
+        }
+        if i > 0 {
+            if !follows(codes[i - 1], code) {
+                refusal = 11;
+            }
+        }
+        i = i + 1;
     }
-    if !in_order(codes) {
-        return 11;
-    }
-    0
+    refusal
 }
 
 // The length of the text of a good list.

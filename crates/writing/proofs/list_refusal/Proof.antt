@@ -1,27 +1,82 @@
--- `writing::list_refusal` meets its contract. Assumes nothing.
+-- `writing::list_refusal` meets its contract: the codes up to the place i are judged. Assumes nothing.
 use native.Mathlib.Omega.{arith}
-use mathlib.Core.Path.{_≡_, refl, sym, ap, _∙_}
+use borrow.Author.Needs.{needs}
+use mathlib.Core.Path.{_≡_, sym, _∙_}
+use mathlib.Core.Logic.{⊎-elim}
+use Prim.Native.Nat.{_-_}
+use lib.ListN.{length}
 use borrow.Author.Tests.{not-true, not-false}
 use Rattle.writing.proofs.EntrySteps as es
-use borrow.Author.Needs.{needs}
 use Rattle.writing.proofs.list_refusal.Statement.{statement}
 use Rattle.writing.proofs.list_refusal.Tie as tie
 
-all-codes-requires : tie.Need-all-codes-requires
-all-codes-requires c κs = search needs
+abbrev Inv-loop : tie.InvT-loop
+Inv-loop codes refusal₀ i₀ refusal i = es.Judged codes i refusal
 
-returns : tie.Need-returns
-returns c = es.four (c .before .before .before .args .codes .now) (sym (c .before .all-codes .ensures) ∙ not-true _ (c .if1 .taken))
+abbrev μ-loop : tie.MeasureT-loop
+μ-loop codes refusal₀ i₀ refusal i = length codes - i
 
-in-order-requires : tie.Need-in-order-requires
-in-order-requires c κs = sym (c .before .all-codes .ensures) ∙ not-false _ (c .if1 .left)
+loop-holds : tie.Need-loop-holds Inv-loop μ-loop
+loop-holds c = es.judge-starts (c .before .args .codes .now)
 
-returns-2 : tie.Need-returns-2
-returns-2 c = es.eleven (c .before .before .before .before .before .args .codes .now) (sym (c .before .before .before .all-codes .ensures) ∙ not-false _ (c .before .before .if1 .left)) (sym (c .before .in-order .ensures) ∙ not-true _ (c .if2 .taken))
+mul-code : tie.Need-mul-code Inv-loop μ-loop
+mul-code c = search needs
 
-returns-3 : tie.Need-returns-3
-returns-3 c = es.none (c .before .before .before .before .before .args .codes .now) (sym (c .before .before .before .all-codes .ensures) ∙ not-false _ (c .before .before .if1 .left)) (sym (c .before .in-order .ensures) ∙ not-false _ (c .if2 .left))
+shared-slice-read-code : tie.Need-shared-slice-read-code Inv-loop μ-loop
+shared-slice-read-code c = search needs
+
+is-cell-requires : tie.Need-is-cell-requires Inv-loop μ-loop
+is-cell-requires c κs = search needs
+
+returns : tie.Need-returns Inv-loop μ-loop
+returns c = es.judge-four (c .before .before .before .before .loop .inv) (omega arith) (sym (c .before .is-cell .ensures) ∙ not-true _ (c .if1 .taken))
+
+sub-follows : tie.Need-sub-follows Inv-loop μ-loop
+sub-follows c = search needs
+
+mul-follows : tie.Need-mul-follows Inv-loop μ-loop
+mul-follows c = search needs
+
+shared-slice-read-follows : tie.Need-shared-slice-read-follows Inv-loop μ-loop
+shared-slice-read-follows c = search needs
+
+follows-requires : tie.Need-follows-requires Inv-loop μ-loop
+follows-requires c κs = (c .before .before .before .before .before .before .loop .inv .last (omega arith), sym (c .before .before .before .is-cell .ensures) ∙ not-false _ (c .before .before .if1 .left))
+
+add-i : tie.Need-add-i Inv-loop μ-loop
+add-i c = search needs
+
+loop-less : tie.Need-loop-less Inv-loop μ-loop
+loop-less c = omega arith
+
+loop-again : tie.Need-loop-again Inv-loop μ-loop
+loop-again c =
+    let v = c .before .before .before .before .before .loop .inv in
+    let e = sym (c .before .before .is-cell .ensures) ∙ not-false _ (c .before .if1 .left) in
+    ⊎-elim (λ x. es.judge-bad v (omega arith) e (omega arith) (x .2 .result) (x .2 .ensures) (not-true _ (x .3 .taken)) (x .4))
+    (⊎-elim (λ x. es.judge-good v (omega arith) e (omega arith) (x .2 .result) (x .2 .ensures) (not-false _ (x .3 .left)) (x .4))
+    (λ x. es.judge-first v (omega arith) e (omega (arith, x .0 .left)) (x .1)))
+    (c .if2 .came)
+
+returns-2 : tie.Need-returns-2 Inv-loop μ-loop
+returns-2 c = es.judge-ends (c .before .loop .inv) (omega arith)
 
 pub list-refusal-spec : {M : Type 1} → statement M
 list-refusal-spec =
-    tie.close (tie.spec all-codes-requires returns in-order-requires returns-2 returns-3)
+    tie.close
+    (tie.spec
+    Inv-loop
+    μ-loop
+    loop-holds
+    mul-code
+    shared-slice-read-code
+    is-cell-requires
+    returns
+    sub-follows
+    mul-follows
+    shared-slice-read-follows
+    follows-requires
+    add-i
+    loop-less
+    loop-again
+    returns-2)
