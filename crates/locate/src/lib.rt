@@ -1,15 +1,15 @@
 // The cell of a fix (01 "From a fix to a cell"). Computed in unsigned numbers: how far east of -1,800,000,000, and z by its sign and size.
 ghost use mathlib.Core.Path.{_≡_};
-ghost use mathlib.Core.Bool.{true};
-ghost use Prim.Native.Nat.{_+_, _*_, _/_, _%_, _^_, _≤_, _<_};
-ghost use lib.IntN.{subℕ};
+ghost use mathlib.Core.Bool.{true, cond};
+ghost use Prim.Native.Nat.{_+_, _-_, _*_, _/_, _%_, _^_, _≤_, _<_};
+ghost use lib.IntN.{negℤ, subℕ};
 ghost use Rattle.cell.specs.Cell.{IsArrangement, found};
 ghost use Rattle.cell.specs.Neighbour.{turnOf};
 ghost use Rattle.signed.specs.Sign.{withSign};
 ghost use Rattle.root.specs.Floor.{axisOf};
 ghost use Rattle.locate.specs.Fix.{quarter, inRange, offsetOf, beltCell, capCell, fixCell, fixRefusal};
-ghost use Rattle.locate.specs.Fix.{startNorth, startSouth, turnedNorth, turnedSouth};
-ghost use Rattle.locate.specs.End.{Stands};
+ghost use Rattle.locate.specs.Fix.{turnedNorth};
+ghost use Rattle.locate.specs.End.{Stands, endOf};
 use cell::Arrangement;
 use cell::Cell;
 use cell::Found;
@@ -124,49 +124,71 @@ fn across(a: u64) -> Axis
     }
 }
 
-// So many turns by (u, v) -> (-v, u); x is -u and y is -v.
+// x or y. A turn and a sign are as good as random, so that a jump would be guessed wrong half of the time: they choose numbers, not ways.
+fn chosen(first: bool, x: Axis, y: Axis) -> Axis
+    ensures { λ r. ⌜ r ≡ cond first x y ⌝ }
+{
+    if first { x } else { y }
+}
+
+// -x or x.
+fn flipped(flip: bool, x: Axis) -> Axis
+    ensures { λ r. ⌜ (axisOf r ≡ cond flip (negℤ (axisOf x)) (axisOf x)) × (r .size ≡ x .size) ⌝ }
+{
+    let minus = x.minus;
+    Axis {
+        minus: minus != flip,
+        size: x.size,
+    }
+}
+
+// So many turns by (u, v) -> (-v, u): an odd number changes u and v over, and each of the two then has its sign.
 fn turned(turns: u64, u: Axis, v: Axis) -> End
     requires { ⌜ turns < 4 ⌝ }
     requires { ⌜ u .size ≤ quarter ⌝ }
     requires { ⌜ v .size ≤ quarter ⌝ }
     ensures { λ r. ⌜ Stands (turnedNorth turns (axisOf u, axisOf v)) r ⌝ }
 {
-    let x = root::negated(u);
-    let y = root::negated(v);
-    match turns {
-        0 => End { p: u, q: v },
-        1 => End { p: y, q: u },
-        2 => End { p: x, q: y },
-        _ => End { p: v, q: x },
+    let odd = turns % 2 == 1;
+    let late = turns > 1;
+    End {
+        p: flipped(odd != late, chosen(odd, v, u)),
+        q: flipped(late, chosen(odd, u, v)),
     }
 }
 
-// "Start at (u, v) = (t h, -h/2). Turn (c - n) mod 4 times by (u, v) -> (-v, u)."
-fn north_end(n: u64, east: u64) -> End
-    requires { ⌜ n ≤ 3 ⌝ }
+// "Turn (c - n) mod 4 times by (u, v) -> (-v, u)"; in the south "turns (c - s) mod 4 by (u, v) -> (v, -u)": these lead back, so they are
+// (s - c) mod 4 turns of the north.
+fn turns_of(arrangement: Arrangement, south: bool, c: u64) -> u64
+    requires { ⌜ IsArrangement arrangement ⌝ }
+    requires { ⌜ c ≤ 3 ⌝ }
+    ensures { λ r. ⌜ (r < 4) × (r ≡ cond south ((arrangement .south + 4 - c) % 4) (turnOf c (arrangement .north))) ⌝ }
+{
+    if south {
+        return (arrangement.south + 4 - c) % 4;
+    }
+    (c + 4 - arrangement.north) % 4
+}
+
+// "Start at (u, v) = (t h, -h/2)", in the south "a start of (t h, +h/2)", turned.
+fn end_of(arrangement: Arrangement, south: bool, east: u64) -> End
+    requires { ⌜ IsArrangement arrangement ⌝ }
     requires { ⌜ east < 3600000000 ⌝ }
-    ensures { λ r. ⌜ Stands (turnedNorth (turnOf (east / quarter) n) (startNorth (east % quarter))) r ⌝ }
+    ensures { λ r. ⌜ Stands (endOf arrangement south east) r ⌝ }
 {
     let v = Axis {
-        minus: true,
+        minus: !south,
         size: QUARTER,
     };
-    let turns = (east / QUARTER + 4 - n) % 4;
+    let turns = turns_of(arrangement, south, east / QUARTER);
     turned(turns, across(east % QUARTER), v)
 }
 
-// "a start of (t h, +h/2), turns (c - s) mod 4 by (u, v) -> (v, -u)": these lead back, so they are (s - c) mod 4 turns of the north.
-fn south_end(s: u64, east: u64) -> End
-    requires { ⌜ s ≤ 3 ⌝ }
-    requires { ⌜ east < 3600000000 ⌝ }
-    ensures { λ r. ⌜ Stands (turnedSouth (turnOf (east / quarter) s) (startSouth (east % quarter))) r ⌝ }
+// "face S", "face N".
+fn cap_face(south: bool) -> u64
+    ensures { λ r. ⌜ r ≡ cond south 5 0 ⌝ }
 {
-    let v = Axis {
-        minus: false,
-        size: QUARTER,
-    };
-    let turns = (s + 4 - east / QUARTER) % 4;
-    turned(turns, across(east % QUARTER), v)
+    if south { 5 } else { 0 }
 }
 
 // "For the end (p, q): column floor(m (1/2 + p)), row floor(m (1/2 - q))", by (10^9 h)^2.
@@ -203,10 +225,8 @@ fn cell_of(arrangement: Arrangement, resolution: u64, longitude: i64, z: i64) ->
         return belt(resolution, m, east, offset(south, size));
     }
     let height = 3 * (1_000_000_000_000_000_000 - size);
-    if south {
-        return cap(5, resolution, m, height, south_end(arrangement.south, east));
-    }
-    cap(0, resolution, m, height, north_end(arrangement.north, east))
+    let end = end_of(arrangement, south, east);
+    cap(cap_face(south), resolution, m, height, end)
 }
 
 // The cell of that resolution in which a fix lies, or the refusal.

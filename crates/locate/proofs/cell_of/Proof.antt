@@ -1,13 +1,15 @@
 -- `locate::cell_of` meets its contract: each return is the place that the tests before it pick. Assumes nothing.
 use mathlib.Core.Path.{_≡_, sym, ap, ap₂, _∙_}
-use mathlib.Core.Bool.{Bool, true, false}
+use mathlib.Core.Bool.{Bool, true, false, cond}
 use Prim.Native.Nat.{ℕ, _-_, _*_, _^_, _≤_, _<_}
 use native.Mathlib.Omega.{arith}
 use borrow.Author.Needs.{needs}
-use lib.IntN.{natAbs}
+use lib.IntN.{ℤ, natAbs}
+use Rattle.cell.specs.declared.Arrangement.{Arrangement}
 use Rattle.signed.specs.Sign.{negative, withSign}
 use Rattle.signed.specs.SignLaws.{back, below-zero, sign-and-size}
-use Rattle.locate.specs.Fix.{inBelt, eastOf, offsetOf, heightOf, beltCell, northCell, southCell}
+use Rattle.locate.specs.Fix.{inBelt, eastOf, offsetOf, heightOf, beltCell, capCell, northCell, southCell, fixCell}
+use Rattle.locate.specs.End.{endOf}
 use Rattle.locate.specs.FixLaws.{fix-belt, fix-south, fix-north}
 use Rattle.locate.specs.RangeLaws.{longitude-low, east-small, z-small, belt-at, cap-at, offset-small}
 use Rattle.locate.proofs.Laws.{stands-cell}
@@ -52,6 +54,12 @@ offset-is c =
     let z = n .before .before .before .before .args .z in
     c .offset .ensures ∙ ap₂ (λ (b : Bool) (y : ℕ). offsetOf (withSign b y)) (sign-is n) (size-is (n .before)) ∙ ap offsetOf (sign-and-size z)
 
+-- the cell at a cap's end, by the sign
+cap-cell : (a : Arrangement) (k : ℕ) (L z : ℤ) {east t : ℕ} (b : Bool) → b ≡ negative z → east ≡ eastOf L → t ≡ heightOf z → inBelt z ≡ false → capCell (cond b 5 0) k t (endOf a b east) ≡ fixCell a k L z
+unfolding southCell northCell
+cap-cell a k L z true s e h o = ap₂ (southCell (a .south) k) e h ∙ sym (fix-south a k L z o (below-zero z ∙ sym s))
+cap-cell a k L z false s e h o = ap₂ (northCell (a .north) k) e h ∙ sym (fix-north a k L z o (below-zero z ∙ sym s))
+
 power-requires : tie.Need-power-requires
 power-requires c κs = search needs
 
@@ -92,41 +100,29 @@ sub-height c = omega (arith, size-le (c .before .before))
 mul-height : tie.Need-mul-height
 mul-height c = search needs
 
-south-end-requires : tie.Need-south-end-requires
-south-end-requires c κs = let e = c .before .before .before .before in let v = e .before .before .pre .0 in (omega (arith, v .northern, v .southern), east-lt e)
+end-of-requires : tie.Need-end-of-requires
+end-of-requires c κs = let e = c .before .before .before in (e .before .before .pre .0, east-lt e)
+
+cap-face-requires : tie.Need-cap-face-requires
+cap-face-requires c κs = search needs
 
 cap-requires : tie.Need-cap-requires
 cap-requires c κs = search needs
 
 returns-2 : tie.Need-returns-2
-unfolding southCell
 returns-2 c =
-    let m = c .before .before .before .before .before in
+    let f = c .before in
+    let x = f .before in
+    let n = x .before .before in
+    let m = n .before in
     let e = m .before in
     let a = e .before .before .args in
-    let n = c .before .before .before .before in
+    let south : Bool = n .is-negative .result in
+    let t : ℕ = 3 * (10 ^ 18 - m .magnitude .result) in
     c .cap .ensures
-    ∙ stands-cell 5 (a .resolution) _ _ _ (c .before .south-end .ensures)
-    ∙ ap₂ (southCell (a .arrangement .south) (a .resolution)) (east-is e) (height-is m)
-    ∙ sym (fix-south (a .arrangement) (a .resolution) (a .longitude) (a .z) (belt-not (c .before .before .before)) (below-zero (a .z) ∙ sym (sign-is n) ∙ c .before .before .if2 .taken))
-
-north-end-requires : tie.Need-north-end-requires
-north-end-requires c κs = let e = c .before .before .before .before in let v = e .before .before .pre .0 in (omega (arith, v .northern, v .southern), east-lt e)
-
-cap-requires-2 : tie.Need-cap-requires-2
-cap-requires-2 c κs = search needs
-
-returns-3 : tie.Need-returns-3
-unfolding northCell
-returns-3 c =
-    let m = c .before .before .before .before .before in
-    let e = m .before in
-    let a = e .before .before .args in
-    let n = c .before .before .before .before in
-    c .cap2 .ensures
-    ∙ stands-cell 0 (a .resolution) _ _ _ (c .before .north-end .ensures)
-    ∙ ap₂ (northCell (a .arrangement .north) (a .resolution)) (east-is e) (height-is m)
-    ∙ sym (fix-north (a .arrangement) (a .resolution) (a .longitude) (a .z) (belt-not (c .before .before .before)) (below-zero (a .z) ∙ sym (sign-is n) ∙ c .before .before .if2 .left))
+    ∙ stands-cell (f .cap-face .result) (a .resolution) t _ _ (x .end-of .ensures)
+    ∙ ap (λ (y : ℕ). capCell y (a .resolution) t (endOf (a .arrangement) south (e .shifted .result))) (f .cap-face .ensures)
+    ∙ cap-cell (a .arrangement) (a .resolution) (a .longitude) (a .z) south (sign-is n) (east-is e) (height-is m) (belt-not (x .before))
 
 pub cell-of-spec : {M : Type 1} → statement M
 cell-of-spec =
@@ -142,9 +138,7 @@ cell-of-spec =
     returns
     sub-height
     mul-height
-    south-end-requires
+    end-of-requires
+    cap-face-requires
     cap-requires
-    returns-2
-    north-end-requires
-    cap-requires-2
-    returns-3)
+    returns-2)
