@@ -18,18 +18,13 @@ use root::Axis;
 // A quarter turn of longitude, the width of a face of O to R.
 const QUARTER: u64 = 900_000_000;
 
-// 4 x 10^18 is 2^20 x 5^18.
-const UNITS: u64 = 4_000_000_000_000_000_000;
+// 3^15.
+const FINEST: u64 = 14_348_907;
 
-const TWOS: u64 = 1_048_576;
+// 4 x 10^18 / 3^15 rounded up, and what 3^15 times that is more than 4 x 10^18.
+const STEP: u64 = 278_766_877_506;
 
-const FIVES: u64 = 3_814_697_265_625;
-
-// A floor, and what is left over.
-struct Part {
-    whole: u64,
-    rest: u64,
-}
+const OVER: u64 = 13_985_942;
 
 // A point of a cap, in multiples of h / 1,800,000,000.
 struct End {
@@ -62,33 +57,28 @@ fn offset(south: bool, size: u64) -> u64
     2_000_000_000_000_000_000 - 3 * size
 }
 
-// m x / (4 x 10^18), by the twos first: with 3^14 x 5^18 below 2^64 nothing is wider than a word.
-fn part_of(m: u64, x: u64) -> Part
-    requires { ⌜ m ≤ 3 ^ 14 ⌝ }
-    requires { ⌜ x < 4 * 10 ^ 18 ⌝ }
-    ensures { λ r. ⌜ (r .whole ≡ m * x / (4 * 10 ^ 18)) × (r .rest ≡ m * x % (4 * 10 ^ 18)) ⌝ }
+// The row at resolution 15. By STEP it is found or is one too small: the rest says which.
+fn finest_row(offset: u64) -> u64
+    requires { ⌜ offset < 4 * 10 ^ 18 ⌝ }
+    ensures { λ r. ⌜ r ≡ 3 ^ 15 * offset / (4 * 10 ^ 18) ⌝ }
 {
-    let low = m * (x % TWOS);
-    let high = m * (x / TWOS) + low / TWOS;
-    Part {
-        whole: high / FIVES,
-        rest: high % FIVES * TWOS + low % TWOS,
+    let whole = offset / STEP;
+    let rest = FINEST * (offset % STEP) + OVER * whole;
+    if rest < 4_000_000_000_000_000_000 {
+        whole
+    } else {
+        whole + 1
     }
 }
 
-// The row floor(m offset / (4 x 10^18)); at resolution 15 it has one digit more than at 14.
+// The row floor(m offset / (4 x 10^18)): the first digits of that at resolution 15.
 fn belt_row(resolution: u64, m: u64, offset: u64) -> u64
     requires { ⌜ resolution ≤ 15 ⌝ }
     requires { ⌜ m ≡ 3 ^ resolution ⌝ }
     requires { ⌜ offset < 4 * 10 ^ 18 ⌝ }
     ensures { λ r. ⌜ r ≡ 3 ^ resolution * offset / (4 * 10 ^ 18) ⌝ }
 {
-    if resolution < 15 {
-        let part = part_of(m, offset);
-        return part.whole;
-    }
-    let part = part_of(4_782_969, offset);
-    3 * part.whole + 3 * part.rest / UNITS
+    finest_row(offset) * m / FINEST
 }
 
 // "face c of O to R, column floor(a m / 900,000,000), row floor(m (2 x 10^18 - 3z) / (4 x 10^18))"

@@ -1,7 +1,12 @@
--- Numbers that fit. Assumes nothing.
-use Prim.Native.Nat.{ℕ, _*_, _^_, _≤_, _<_}
-use native.Mathlib.Nat.{mul-le-mul}
+-- Numbers that fit, and the fractions of the finest resolution. Assumes nothing.
+use mathlib.Core.Path.{_≡_, sym, ap, ap₂, _∙_}
+use Prim.Native.Nat.{ℕ, _+_, _-_, _*_, _/_, _^_, _≤_, _<_}
+use native.Mathlib.Nat.{mul-le-mul, mul-left-comm, mul-lt-mul-of-pos-left, mul-div-mul-left}
 use native.Mathlib.Omega.{arith}
+use lib.IntN.{subℕ}
+use Rattle.ternary.specs.Powers.{power-add}
+use Rattle.nucleus.specs.Nucleus.{floorZ}
+use Rattle.nucleus.specs.FlooredLaws.{floor-times}
 
 -- a square of 24 bits
 pub square-lt : (m : ℕ) → m < 2 ^ 24 → m * m < 2 ^ 48
@@ -10,3 +15,22 @@ square-lt m h = let a : m * m ≤ 16777215 * 16777215 = mul-le-mul {n₂ = 16777
 -- the height's square is positive, and below the side's
 pub height-le : (m h : ℕ) → h < m → h * h ≤ m * m
 height-le m h l = mul-le-mul {n₂ = m} {m₂ = m} (omega arith) (omega arith)
+
+-- 3^15 is 3^(15-k) times 3^k
+pub up-times : (k : ℕ) → k ≤ 15 → 3 ^ (15 - k) * 3 ^ k ≡ 14348907
+up-times k h = let e : 15 - k + k ≡ 15 = omega arith in sym (power-add (15 - k) k) ∙ ap (λ (x : ℕ). 3 ^ x) e
+
+module _ (up m : ℕ) (u0 : 0 < up) (m0 : 0 < m) (e : up * m ≡ 14348907) where
+  pub finer-along : (a : ℕ) → 450000000 * (up * a) / 14348907 ≡ 450000000 * a / m
+  finer-along a = ap₂ _/_ (mul-left-comm 450000000 up a) (sym e) ∙ mul-div-mul-left (450000000 * a) m u0
+
+  pub finer-z : (b : ℕ) → floorZ (subℕ (2000000000000000000 * 14348907) (2000000000000000000 * (up * b))) (3 * 14348907) ≡ floorZ (subℕ (2000000000000000000 * m) (2000000000000000000 * b)) (3 * m)
+  finer-z b =
+      let p : 2000000000000000000 * 14348907 ≡ up * (2000000000000000000 * m) = ap (λ (x : ℕ). 2000000000000000000 * x) (sym e) ∙ mul-left-comm 2000000000000000000 up m in
+      let q : 2000000000000000000 * (up * b) ≡ up * (2000000000000000000 * b) = mul-left-comm 2000000000000000000 up b in
+      let r : 3 * 14348907 ≡ up * (3 * m) = ap (λ (x : ℕ). 3 * x) (sym e) ∙ mul-left-comm 3 up m in
+      (λ i. floorZ (subℕ (p i) (q i)) (r i)) ∙ floor-times up (2000000000000000000 * m) (2000000000000000000 * b) (3 * m) u0 (omega arith)
+
+  -- a number of the coarser side, scaled
+  pub finer-lt : (a : ℕ) → a < 2 * m → up * a < 28697814
+  finer-lt a h = let l : up * a < up * (2 * m) = mul-lt-mul-of-pos-left h u0 in omega (arith, mul-left-comm up 2 m)

@@ -1,8 +1,13 @@
 -- The floor of a fraction (a - b) / d, towards minus infinity, by its two sides. Assumes nothing.
 use mathlib.Core.Path.{_≡_, refl, sym, ap, _∙_}
+use mathlib.Core.Bool.{Bool, true, false, cond}
+use mathlib.Core.Logic.{⊎-elim}
 use Prim.Native.Nat.{ℕ, suc, _+_, _-_, _*_, _/_, _%_, _≤_, _<_}
-use native.Mathlib.Nat.{add-mul, suc-mul, zero-mul, div-add-mod', mod-lt, lt-of-mul-lt-mul-right}
+use native.Mathlib.Nat.{add-zero, add-mul, mul-add, mul-pos, mul-left-comm, mul-le-mul-left, mul-lt-mul-of-pos-left, suc-mul, zero-mul, div-add-mod', mod-lt, lt-of-mul-lt-mul-right}
 use native.Mathlib.Omega.{arith}
+use lib.Dec.{eqb}
+use borrow.Author.Tests.{ne-eqb}
+use Rattle.logic.specs.Order.{lt-or}
 use lib.IntN.{ℤ, pos, negsuc, negℤ, subℕ}
 use Rattle.signed.specs.SignLaws.{by-sign, pos-sub, negsuc-sub, neg-sub, sub-same, sub-at, sub-below}
 use Rattle.division.specs.DivisionLaws.{low, high}
@@ -81,3 +86,26 @@ floor-plus n a b d e = ap (λ (x : ℤ). floorZ x d) (pos-sub n ∙ sub-same n 0
 
 pub floor-minus : (n a b d : ℕ) → n + a ≡ b → floorZ (negℤ (pos n)) d ≡ floorZ (subℕ a b) d
 floor-minus n a b d e = ap (λ (x : ℤ). floorZ x d) (neg-sub n ∙ sub-same 0 n a b (omega arith))
+
+-- by the quotient of the size
+pub floor-signed : (n d : ℕ) → 0 < d → (b : Bool) → cond b (subℕ 0 (n / d + cond (eqb (n % d) 0) 0 1)) (pos (n / d)) ≡ floorZ (cond b (negℤ (pos n)) (pos n)) d
+unfolding floorZ
+floor-signed n d d0 false = refl
+floor-signed n d d0 true =
+    ⊎-elim (λ l. let e = ne-eqb (n % d) 0 (λ z. absurd (omega arith)) in rw e (sym (floor-odd n d d0 (λ z. absurd (omega arith)))))
+    (λ l. let z : n % d ≡ 0 = omega arith in rw z (ap (subℕ 0) (add-zero (n / d)) ∙ sym (floor-even n d d0 z)))
+    (lt-or 0 (n % d))
+
+-- both numbers of a fraction times j
+pub floor-times : (j a b d : ℕ) → 0 < j → 0 < d → floorZ (subℕ (j * a) (j * b)) (j * d) ≡ floorZ (subℕ a b) d
+floor-times j a b d j0 d0 =
+    let f = floored a b d d0 in
+    let l : j * (b + f .p * d) ≤ j * (a + f .q * d) = mul-le-mul-left j (f .below) in
+    let u : j * (a + f .q * d) < j * (b + f .p * d + d) = mul-lt-mul-of-pos-left (f .above) j0 in
+    let e = mul-add j b (f .p * d) in
+    let g = mul-add j a (f .q * d) in
+    let h = mul-add j (b + f .p * d) d in
+    let p = mul-left-comm j (f .p) d in
+    let q = mul-left-comm j (f .q) d in
+    floored-one (floored (j * a) (j * b) (j * d) (mul-pos j0 d0))
+    (record { p = f .p; q = f .q; is = f .is; below = omega arith; above = omega arith })

@@ -1,6 +1,8 @@
 // The ground nucleus of a cell, in whole numbers: the fractions that the rules send to the cell's middle, floored.
 ghost use mathlib.Core.Path.{_≡_};
-ghost use Prim.Native.Nat.{_+_, _*_, _/_, _^_, _≤_, _<_};
+ghost use mathlib.Core.Bool.{cond};
+ghost use Prim.Native.Nat.{_+_, _-_, _*_, _/_, _^_, _≤_, _<_};
+ghost use lib.Dec.{eqb};
 ghost use lib.IntN.{pos, negℤ, subℕ};
 ghost use Rattle.cell.specs.Cell.{IsCell, IsArrangement};
 ghost use Rattle.locate.specs.Fix.{quarter};
@@ -8,6 +10,11 @@ ghost use Rattle.nucleus.specs.Nucleus.{floorZ, centred, northNucleus, s
 ghost use Rattle.nucleus.specs.TriangleLaws.{middle, OffCentre, Inside, IsStart};
 use cell::Arrangement;
 use cell::Cell;
+use division::Quotient;
+
+// 3^15. A coarser cell's fractions are taken with both numbers 3^(15-k) times as great: then the divisors are known beforehand, and dividing by them
+// is multiplying.
+const FINEST: u64 = 14_348_907;
 
 // A longitude, in ten-millionths of a degree, and the sine of the authalic latitude, in units of 10^-18.
 pub struct Fix {
@@ -57,17 +64,37 @@ fn longitude_at(face: u64, along: u64, height: u64) -> i64
     signed::difference(east, 1_800_000_000)
 }
 
-// z of a cell of the belt whose middle lies b / 2m of the side below the top.
-fn belt_z(m: u64, b: u64) -> i64
-    requires { ⌜ m < 2 ^ 24 ⌝ }
-    requires { ⌜ 0 < b ⌝ }
-    requires { ⌜ b < 2 * m ⌝ }
-    ensures { λ r. ⌜ r ≡ floorZ (subℕ (2 * 10 ^ 18 * m) (2 * 10 ^ 18 * b)) (3 * m) ⌝ }
+// How far two numbers lie apart.
+fn apart(x: u64, y: u64) -> u64
+    ensures { λ r. ⌜ r ≡ x - y + (y - x) ⌝ }
 {
-    if b <= m {
-        return z_above(2 * (m - b), 3 * m);
+    if x < y { y - x } else { x - y }
+}
+
+// A fraction, floored towards minus infinity, by its sign and the quotient of its size.
+fn floored(minus: bool, q: Quotient) -> i64
+    requires { ⌜ q .whole < 10 ^ 18 ⌝ }
+    ensures { λ r. ⌜ r ≡ cond minus (subℕ 0 (q .whole + cond (eqb (q .rest) 0) 0 1)) (pos (q .whole)) ⌝ }
+{
+    let whole = q.whole;
+    let rest = q.rest;
+    if minus {
+        if rest == 0 {
+            return signed::difference(0, whole);
+        }
+        return signed::difference(0, whole + 1);
     }
-    z_below(2 * (b - m), 3 * m)
+    signed::as_signed(whole)
+}
+
+// z of a cell of the belt whose middle lies b / 2m of the side below the top, for m = 3^15.
+fn belt_z(b: u64) -> i64
+    requires { ⌜ 0 < b ⌝ }
+    requires { ⌜ b < 2 * 3 ^ 15 ⌝ }
+    ensures { λ r. ⌜ r ≡ floorZ (subℕ (2 * 10 ^ 18 * 3 ^ 15) (2 * 10 ^ 18 * b)) (3 * 3 ^ 15) ⌝ }
+{
+    let q = division::scaled(1_000_000_000, 2, 2 * apart(FINEST, b), 3 * FINEST);
+    floored(FINEST < b, q)
 }
 
 // Whether the middle of a cap's cell, a / 2m from the left and b / 2m from the top, is the pole.
@@ -174,9 +201,10 @@ pub fn ground_nucleus(arrangement: Arrangement, cell: Cell) -> Fix
         return north_nucleus(arrangement.north, m, a, b);
     }
     if face < 5 {
+        let up = ternary::power(15 - cell.resolution);
         return Fix {
-            longitude: longitude_at(face - 1, a, m),
-            z: belt_z(m, b),
+            longitude: longitude_at(face - 1, up * a, FINEST),
+            z: belt_z(up * b),
         };
     }
     south_nucleus(arrangement.south, m, a, b)

@@ -1,58 +1,54 @@
 -- `nucleus::belt_z` meets its contract. Assumes nothing.
-use mathlib.Core.Path.{_∙_}
-use Prim.Native.Nat.{_-_, _*_}
+use mathlib.Core.Path.{_≡_, ap, ap₂, _∙_}
+use mathlib.Core.Bool.{Bool, cond}
+use mathlib.Core.Logic.{⊎-elim}
+use Prim.Native.Nat.{ℕ, _+_, _-_, _*_, _<_}
 use native.Mathlib.Omega.{arith}
+use lib.Dec.{eqb, ltb, lit<}
+use lib.IntN.{ℤ, pos, negℤ, subℕ}
 use borrow.Author.Needs.{needs}
+use borrow.Author.Tests.{lt-ltb, le-ltb}
+use Rattle.logic.specs.Order.{lt-or}
 use Rattle.signed.specs.SignLaws.{back-as}
-use Rattle.nucleus.specs.FlooredLaws.{floor-plus, floor-minus}
+use Rattle.nucleus.specs.Nucleus.{floorZ}
+use Rattle.nucleus.specs.FlooredLaws.{floor-plus, floor-minus, floor-signed}
 use Rattle.nucleus.proofs.belt_z.Statement.{statement}
 use Rattle.nucleus.proofs.belt_z.Tie as tie
 
-mul-z-above : tie.Need-mul-z-above
-mul-z-above c = search needs
+-- the sign of m - b
+signed : (n b : ℕ) → n ≡ 14348907 - b + (b - 14348907) → floorZ (cond (ltb 14348907 b) (negℤ (pos (1000000000000000000 * (2 * n)))) (pos (1000000000000000000 * (2 * n)))) 43046721 ≡ floorZ (subℕ 28697814000000000000000000 (2000000000000000000 * b)) 43046721
+signed n b e =
+    ⊎-elim (λ h. rw (lt-ltb 14348907 b h) (floor-minus (1000000000000000000 * (2 * n)) 28697814000000000000000000 (2000000000000000000 * b) 43046721 (omega arith)))
+    (λ h. rw (le-ltb 14348907 b h) (floor-plus (1000000000000000000 * (2 * n)) 28697814000000000000000000 (2000000000000000000 * b) 43046721 (omega arith)))
+    (lt-or 14348907 b)
 
-mul-z-above-2 : tie.Need-mul-z-above-2
-mul-z-above-2 c = search needs
+apart-requires : tie.Need-apart-requires
+apart-requires c κs = search needs
 
-z-above-requires : tie.Need-z-above-requires
-z-above-requires c κs = search needs
+mul-scaled : tie.Need-mul-scaled
+mul-scaled c = search needs
+
+mul-scaled-2 : tie.Need-mul-scaled-2
+mul-scaled-2 c = search needs
+
+scaled-requires : tie.Need-scaled-requires
+scaled-requires c κs = search needs
+
+floored-requires : tie.Need-floored-requires
+floored-requires c κs = search needs
 
 returns : tie.Need-returns
 returns c =
-    let a = c .before .before .args in
-    back-as (c .z-above .ok)
-    (c .z-above .ensures
-    ∙ floor-plus (1000000000000000000 * (2 * (a .m - a .b))) (2000000000000000000 * a .m) (2000000000000000000 * a .b) (3 * a .m) (omega arith))
-
-sub-z-below : tie.Need-sub-z-below
-sub-z-below c = search needs
-
-mul-z-below : tie.Need-mul-z-below
-mul-z-below c = search needs
-
-mul-z-below-2 : tie.Need-mul-z-below-2
-mul-z-below-2 c = search needs
-
-z-below-requires : tie.Need-z-below-requires
-z-below-requires c κs = search needs
-
-returns-2 : tie.Need-returns-2
-returns-2 c =
-    let a = c .before .before .args in
-    back-as (c .z-below .ok)
-    (c .z-below .ensures
-    ∙ floor-minus (1000000000000000000 * (2 * (a .b - a .m))) (2000000000000000000 * a .m) (2000000000000000000 * a .b) (3 * a .m) (omega arith))
+    let b = c .before .before .before .args .b in
+    let q = c .before .scaled .ensures in
+    let n : ℕ = c .before .before .apart .result in
+    back-as (c .floored .ok)
+    (c .floored .ensures
+    ∙ ap₂ (λ (w r : ℕ). cond (ltb 14348907 b) (subℕ 0 (w + cond (eqb r 0) 0 1)) (pos w)) (q .whole) (q .rest)
+    ∙ floor-signed (1000000000000000000 * (2 * n)) 43046721 (lit< tt) (ltb 14348907 b)
+    ∙ signed n b (c .before .before .apart .ensures))
 
 pub belt-z-spec : {M : Type 1} → statement M
 belt-z-spec =
     tie.close
-    (tie.spec
-    mul-z-above
-    mul-z-above-2
-    z-above-requires
-    returns
-    sub-z-below
-    mul-z-below
-    mul-z-below-2
-    z-below-requires
-    returns-2)
+    (tie.spec apart-requires mul-scaled mul-scaled-2 scaled-requires floored-requires returns)

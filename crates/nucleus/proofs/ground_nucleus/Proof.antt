@@ -1,14 +1,19 @@
 -- `nucleus::ground_nucleus` meets its contract, by the face. Assumes nothing.
-use mathlib.Core.Path.{sym, ap, _∙_}
-use Prim.Native.Nat.{ℕ, _+_, _-_, _*_}
+use mathlib.Core.Path.{_≡_, sym, ap, _∙_}
+use Prim.Native.Nat.{ℕ, _+_, _-_, _*_, _<_}
+use native.Mathlib.Nat.{mul-pos}
 use native.Mathlib.Omega.{arith}
 use borrow.Author.Needs.{needs}
-use Rattle.ternary.specs.Powers.{power-le}
+use lib.IntN.{subℕ}
+use Rattle.ternary.specs.Powers.{power-le, power-pos}
 use Rattle.signed.specs.SignLaws.{back-as}
+use Rattle.cell.specs.Neighbour.{rows}
 use Rattle.cell.specs.CellLaws.{row-small, column-small}
-use Rattle.nucleus.specs.Nucleus.{fix, beltLongitude, beltZ, northNucleus, southNucleus}
+use Rattle.locate.specs.Fix.{quarter}
+use Rattle.nucleus.specs.Nucleus.{beltLongitude, beltZ, northNucleus, southNucleus}
 use Rattle.nucleus.specs.TriangleLaws.{middle, Inside}
 use Rattle.nucleus.specs.PlaceLaws.{on-north, on-belt, on-south}
+use Rattle.nucleus.proofs.Laws.{up-times, finer-along, finer-z, finer-lt}
 use Rattle.nucleus.proofs.ground_nucleus.Statement.{statement}
 use Rattle.nucleus.proofs.ground_nucleus.Tie as tie
 
@@ -58,24 +63,64 @@ returns c =
     ∙ ap (λ (x : ℕ). northNucleus (s .arrangement .north) x (middle x (a p) (b p))) (p .power .ensures)
     ∙ sym (on-north (s .arrangement) (s .cell) (omega arith))
 
+sub-power : tie.Need-sub-power
+sub-power c = omega (arith, c .before .before .before .before .before .before .pre .1 .fine)
+
+power-requires-2 : tie.Need-power-requires-2
+power-requires-2 c κs = omega arith
+
+-- the middle at the finest resolution
+module _ (c : tie.After-power2) where
+  abbrev known : tie.After-power
+  known = c .before .before .before .before .before .before
+
+  abbrev up : ℕ
+  up = c .power2 .result
+
+  abbrev side : ℕ
+  side = rows (known .before .args .cell)
+
+  up-pos : 0 < up
+  up-pos = rw (c .power2 .ensures) (power-pos (15 - known .before .args .cell .resolution))
+
+  side-pos : 0 < side
+  side-pos = power-pos (known .before .args .cell .resolution)
+
+  finest : up * side ≡ 14348907
+  finest = ap (λ (x : ℕ). x * side) (c .power2 .ensures) ∙ up-times (known .before .args .cell .resolution) (known .before .pre .1 .fine)
+
+  along-lt : up * a known < 28697814
+  along-lt = finer-lt up side up-pos side-pos finest (a known) (omega (arith, inside known, known .power .ensures))
+
+  down-lt : up * b known < 28697814
+  down-lt = finer-lt up side up-pos side-pos finest (b known) (omega (arith, inside known, known .power .ensures))
+
+mul-longitude-at : tie.Need-mul-longitude-at
+mul-longitude-at c = omega (arith, along-lt c)
+
 longitude-at-requires : tie.Need-longitude-at-requires
-longitude-at-requires c κs = let p = c .before .before .before .before in omega (arith, inside p)
+longitude-at-requires c κs = omega (arith, along-lt c)
+
+mul-belt-z : tie.Need-mul-belt-z
+mul-belt-z c = omega (arith, down-lt (c .before))
 
 belt-z-requires : tie.Need-belt-z-requires
-belt-z-requires c κs = let p = c .before .before .before .before .before in omega (arith, inside p)
+belt-z-requires c κs = (mul-pos (up-pos (c .before)) (omega arith), down-lt (c .before))
 
 returns-2 : tie.Need-returns-2
 unfolding beltLongitude beltZ
 returns-2 c =
-    let p = c .before .before .before .before .before .before in
-    let s = p .before .args in
+    let w = c .before .before in
+    let s = known w .before .args in
+    let f : ℕ = s .cell .face - 1 in
+    let x = ap (λ (y : ℕ). subℕ (f * quarter + y) 1800000000) (finer-along (up w) (side w) (up-pos w) (side-pos w) (finest w) (a (known w))) in
+    let y = finer-z (up w) (side w) (up-pos w) (side-pos w) (finest w) (b (known w)) in
     (λ i.
     record {
-      longitude = back-as (c .before .longitude-at .ok) (c .before .longitude-at .ensures) i;
-      z = back-as (c .belt-z .ok) (c .belt-z .ensures) i;
+      longitude = back-as (c .before .longitude-at .ok) (c .before .longitude-at .ensures ∙ x) i;
+      z = back-as (c .belt-z .ok) (c .belt-z .ensures ∙ y) i;
     })
-    ∙ ap (λ (x : ℕ). fix (beltLongitude x (s .cell .face - 1) (s .cell .column)) (beltZ x (s .cell .row))) (p .power .ensures)
-    ∙ sym (on-belt (s .arrangement) (s .cell) (s .cell .face - 1) (omega arith) (omega arith))
+    ∙ sym (on-belt (s .arrangement) (s .cell) f (omega arith) (omega arith))
 
 south-nucleus-requires : tie.Need-south-nucleus-requires
 south-nucleus-requires c κs = let p = c .before .before .before .before in (omega (arith, p .before .pre .0), inside p)
@@ -100,7 +145,11 @@ ground-nucleus-spec =
     add-b
     north-nucleus-requires
     returns
+    sub-power
+    power-requires-2
+    mul-longitude-at
     longitude-at-requires
+    mul-belt-z
     belt-z-requires
     returns-2
     south-nucleus-requires
