@@ -2,9 +2,10 @@
 use mathlib.Core.Path.{_≡_, sym, ap, _∙_, subst}
 use mathlib.Core.Bool.{Bool, true, false, cond}
 use mathlib.Core.Logic.{⊎-elim}
-use Prim.Native.Nat.{ℕ, zero, suc, _+_, _-_, _*_, _/_, _%_, _^_, _≤_, _<_}
-use native.Mathlib.Nat.{le-of-lt, lt-of-not-le, mul-le-mul, mul-le-mul-left, mul-add, mul-one, mul-assoc, mul-comm, mul-left-comm, div-add-mod'}
+use Prim.Native.Nat.{ℕ, zero, suc, _+_, _-_, _*_, _^_, _≤_, _<_}
+use native.Mathlib.Nat.{le-of-lt, lt-of-not-le, mul-le-mul, mul-lt-mul-of-pos-left, mul-add, mul-one, mul-assoc, div-lt-iff-lt-mul}
 use native.Mathlib.Omega.{arith}
+use lib.Dec.{lit<}
 use lib.IntN.{pos, negℤ, natAbs}
 use Rattle.logic.specs.Order.{lt-or}
 use Rattle.root.specs.declared.Axis.{Axis}
@@ -27,15 +28,6 @@ one-more y r = mul-add y r 1 ∙ ap (λ (x : ℕ). y * r + x) (mul-one y)
 -- g root, with room for another g
 pub part-small : (g r : ℕ) → g ≤ 900000000 → r < 1000000000 → g * r + g ≤ 900000000000000000
 part-small g r h l = let k : g * (r + 1) ≤ 900000000 * 1000000000 = mul-le-mul {n₂ = 900000000} {m₂ = 1000000000} h (omega arith) in omega (arith, one-more g r)
-
--- ---- the estimate without a loop: a quotient of a quotient
-
-pub quotients : (n x : ℕ) → (n * (x / 262144) + n * (x % 262144) / 262144) / 762939453125 ≡ share (n * 9) x
-quotients n x =
-    let a : n * x ≡ n * (x / 262144) * 262144 + n * (x % 262144) =
-    ap (λ (y : ℕ). n * y) (sym (div-add-mod' x 262144)) ∙ mul-add n (x / 262144 * 262144) (x % 262144) ∙ ap (λ (y : ℕ). y + n * (x % 262144)) (sym (mul-assoc n (x / 262144) 262144)) in
-    let b : n * 9 * x ≡ 9 * (n * x) = simp (mul-assoc, mul-comm, mul-left-comm) in
-    omega arith
 
 -- ---- the value lies between them
 
@@ -93,9 +85,10 @@ apart b m g root hm hg hr =
     let e : m * highPart b g root ≡ m * lowPart b g root + m * g = ap (λ (x : ℕ). m * x) (ends-apart b g root hg hr) ∙ mul-add m (lowPart b g root) g in
     omega (arith, product-small m g hm hg)
 
-high-small : (b : Bool) (g root : ℕ) → g ≤ 900000000 → root < 1000000000 → highPart b g root ≤ 1800000000000000000
-high-small false g root hg hr = omega (arith, part-small g root hg hr, one-more g root)
-high-small true g root hg hr = omega arith
+low-small : (b : Bool) (g root : ℕ) → g ≤ 900000000 → root < 1000000000 → lowPart b g root < 1800000000000000000
+low-small false g root hg hr =
+    let h : g * root ≤ 900000000 * 999999999 = mul-le-mul {n₂ = 900000000} {m₂ = 999999999} hg (omega arith) in omega arith
+low-small true g root hg hr = omega arith
 
 -- ---- which of the two it is
 
@@ -117,14 +110,11 @@ module _ {m t root : ℕ} {p : Axis} (v : Given m t root p) where
   pub root-fits : root < 1000000000
   root-fits = root-small root t (v .under) (v .height)
 
-  pub high-fits : highPart (p .minus) (p .size) root ≤ 1800000000000000000
-  high-fits = high-small (p .minus) (p .size) root (v .size) root-fits
+  pub low-fits : lowPart (p .minus) (p .size) root < 1800000000000000000
+  low-fits = low-small (p .minus) (p .size) root (v .size) root-fits
 
-  pub low-fits : lowPart (p .minus) (p .size) root ≤ 1800000000000000000
-  low-fits = omega (arith, high-fits, ends-apart (p .minus) (p .size) root (v .size) root-fits)
-
-  pub high-in : high ≤ m
-  high-in = let h : m * highPart (p .minus) (p .size) root ≤ m * 1800000000000000000 = mul-le-mul-left m high-fits in omega arith
+  pub low-lt : low < m
+  low-lt = div-lt-iff-lt-mul {k = 1800000000000000000} {x = m * lowPart (p .minus) (p .size) root} {y = m} (lit< tt) .1 (mul-lt-mul-of-pos-left low-fits (v .positive))
 
   pub size-fits : natAbs (axisOf p) ≤ 900000000
   size-fits = rw (axis-size p) (v .size)
@@ -138,13 +128,24 @@ module _ {m t root : ℕ} {p : Axis} (v : Given m t root p) where
   settled : {w : ℕ} → IsFloor m t (axisOf p) w → w ≡ rootFloor m t (axisOf p)
   settled f = one-floor f (floor-is m t (axisOf p) (v .positive) size-fits (v .height))
 
-  pub agreed : low ≡ high → low ≡ rootFloor m t (axisOf p)
+  agreed : low ≡ high → low ≡ rootFloor m t (axisOf p)
   agreed e = settled (record { below = low-below; above = subst (λ (w : ℕ). atMost m t (axisOf p) (w + 1) ≡ false) (sym e) high-above })
 
-  pub upper : atMost m t (axisOf p) high ≡ true → high ≡ rootFloor m t (axisOf p)
-  upper y = settled (record { below = y; above = high-above })
+  -- the rest has room for the upper end too
+  pub roomy : (w r : ℕ) → w * 1800000000000000000 + r ≡ m * lowPart (p .minus) (p .size) root → r + m * p .size < 1800000000000000000 → w ≡ rootFloor m t (axisOf p)
+  roomy w r e h =
+      let f : m * highPart (p .minus) (p .size) root ≡ m * lowPart (p .minus) (p .size) root + m * p .size =
+      ap (λ (x : ℕ). m * x) (ends-apart (p .minus) (p .size) root (v .size) root-fits) ∙ mul-add m (lowPart (p .minus) (p .size) root) (p .size)
+      in
+      let a : w ≡ low = omega arith in
+      let b : low ≡ high = omega arith in
+      a ∙ agreed b
 
-  pub lower : atMost m t (axisOf p) high ≡ false → low ≡ rootFloor m t (axisOf p)
-  lower n =
-      settled
-      (record { below = low-below; above = at-most-up m t (axisOf p) high (low + 1) (apart (p .minus) m (p .size) root (v .small) (v .size) root-fits) n })
+  -- the exact test of the next
+  pub upper : {w : ℕ} → w ≡ low → atMost m t (axisOf p) (w + 1) ≡ true → w + 1 ≡ rootFloor m t (axisOf p)
+  upper {w} e y =
+      let l = apart (p .minus) m (p .size) root (v .small) (v .size) root-fits in
+      settled (record { below = y; above = at-most-up m t (axisOf p) (high + 1) (w + 1 + 1) (omega arith) high-above })
+
+  pub lower : {w : ℕ} → w ≡ low → atMost m t (axisOf p) (w + 1) ≡ false → w ≡ rootFloor m t (axisOf p)
+  lower e n = settled (record { below = subst (λ (x : ℕ). atMost m t (axisOf p) x ≡ true) (sym e) low-below; above = n })

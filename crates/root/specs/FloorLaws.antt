@@ -3,7 +3,7 @@ use mathlib.Core.Path.{_≡_, refl, sym, ap, ap₂, _∙_, subst}
 use mathlib.Core.Bool.{Bool, true, false, _&&_, _||_, cond}
 use mathlib.Core.Logic.{_⊎_, inl, inr, ⊎-elim}
 use Prim.Native.Nat.{ℕ, zero, suc, _+_, _-_, _*_, _/_, _^_, _≤_, _<_}
-use native.Mathlib.Nat.{le-refl, le-trans, le-of-eq, le-of-lt, lt-of-lt-of-le, eq-or-lt-of-le, mul-le-mul-left, mul-lt-mul-of-pos-left, mul-pos, mul-sub, mul-assoc, mul-comm, mul-left-comm, zero-mul}
+use native.Mathlib.Nat.{le-refl, le-trans, le-of-eq, le-of-lt, lt-of-lt-of-le, eq-or-lt-of-le, mul-le-mul-left, mul-lt-mul-of-pos-left, mul-pos, mul-sub, mul-add, mul-one, mul-assoc, mul-comm, mul-left-comm, zero-mul, div-add-mod', mod-lt}
 use native.Mathlib.Omega.{arith}
 use lib.Arith.{lt-of-le-ne}
 use lib.Dec.{leb, lit≤, lit<}
@@ -169,21 +169,25 @@ unfolding atMost
 at-most-scaled c m t (pos g) w h = plus-scaled c m t g w h
 at-most-scaled c m t (negsuc g) w h = minus-scaled c m t (suc g) w h
 
--- a third of the floor in three times as many rows is the floor
-pub floor-third : (m t : ℕ) (p : ℤ) → 0 < m → natAbs p ≤ 900000000 → t < 10 ^ 18 → rootFloor (3 * m) t p / 3 ≡ rootFloor m t p
-floor-third m t p m0 hp ht =
-    let w : ℕ = rootFloor (3 * m) t p in
-    let f : IsFloor (3 * m) t p w = floor-is (3 * m) t p (omega arith) hp ht in
+-- the c-th part of the floor in c times as many rows is the floor
+pub floor-part : (c m t : ℕ) (p : ℤ) → 0 < c → 0 < m → natAbs p ≤ 900000000 → t < 10 ^ 18 → rootFloor (c * m) t p / c ≡ rootFloor m t p
+floor-part c m t p c0 m0 hp ht =
+    let w : ℕ = rootFloor (c * m) t p in
+    let f : IsFloor (c * m) t p w = floor-is (c * m) t p (mul-pos c0 m0) hp ht in
+    let e = div-add-mod' w c in
+    let l = mod-lt w c0 in
+    let s = mul-comm c (w / c) in
+    let u : c * (w / c + 1) ≡ c * (w / c) + c = mul-add c (w / c) 1 ∙ ap (λ (x : ℕ). c * (w / c) + x) (mul-one c) in
     one-floor
     (record {
-      below = sym (at-most-scaled 3 m t p (w / 3) (lit< tt)) ∙ at-most-down (3 * m) t p (3 * (w / 3)) w (omega arith) (f .below);
-      above = sym (at-most-scaled 3 m t p (w / 3 + 1) (lit< tt)) ∙ at-most-up (3 * m) t p (w + 1) (3 * (w / 3 + 1)) (omega arith) (f .above);
+      below = sym (at-most-scaled c m t p (w / c) c0) ∙ at-most-down (c * m) t p (c * (w / c)) w (omega arith) (f .below);
+      above = sym (at-most-scaled c m t p (w / c + 1) c0) ∙ at-most-up (c * m) t p (w + 1) (c * (w / c + 1)) (omega arith) (f .above);
     })
     (floor-is m t p m0 hp ht)
 
 -- 3^(k+1) is 3^k * 3
 pub floor-third' : (m t : ℕ) (p : ℤ) → 0 < m → natAbs p ≤ 900000000 → t < 10 ^ 18 → rootFloor (m * 3) t p / 3 ≡ rootFloor m t p
-floor-third' m t p m0 hp ht = ap (λ (x : ℕ). rootFloor x t p / 3) (mul-comm m 3) ∙ floor-third m t p m0 hp ht
+floor-third' m t p m0 hp ht = ap (λ (x : ℕ). rootFloor x t p / 3) (mul-comm m 3) ∙ floor-part 3 m t p (lit< tt) m0 hp ht
 
 -- ---- the size of an axis
 

@@ -4,7 +4,7 @@ ghost use Prim.Native.Nat.{_+_, _*_, _^_, _≤_, _<_};
 ghost use lib.IntN.{negℤ};
 ghost use Rattle.wide.specs.Value.{three};
 ghost use Rattle.root.specs.Floor.{square, plusAt, minusAt, atMost, rootFloor, axisOf};
-ghost use Rattle.root.specs.Bracket.{lowPart, highPart, share};
+ghost use Rattle.root.specs.Bracket.{lowPart};
 use wide::Three;
 
 // A signed whole number: the part of the root that a floor adds or takes away.
@@ -136,56 +136,73 @@ fn reaches(m: u64, t: u64, p: Axis, w: u64) -> bool
 
 // ---- the floor
 
-// What the value lies between, in parts of 1,800,000,000,000,000,000 of m.
-struct Ends {
-    low: u64,
-    high: u64,
+// 3^15: a floor is taken at the finest resolution, where the divisors are known.
+const FINEST: u64 = 14_348_907;
+
+// What a value is counted in, so many of 3^15: 900,000,000,000,000,000 is the middle.
+const UNITS: u64 = 1_800_000_000_000_000_000;
+
+// UNITS / 3^15 rounded up, and what 3^15 times that is more than UNITS.
+const STEP: u64 = 125_445_094_878;
+
+const OVER: u64 = 10_598_346;
+
+// A whole part, or one less, and the rest.
+struct Parted {
+    whole: u64,
+    rest: u64,
 }
 
-// By `root` and by `root + 1`, between which the root lies: the larger takes away more.
-fn bracket(root: u64, p: Axis) -> Ends
+// The lower of the two that the value lies between, by `root` or by `root + 1`: the larger takes away more.
+fn low_end(root: u64, p: Axis) -> u64
     requires { ⌜ (root < 1000000000) × (p .size ≤ 900000000) ⌝ }
-    ensures { λ r. ⌜ (r .low ≡ lowPart (p .minus) (p .size) root) × (r .high ≡ highPart (p .minus) (p .size) root) ⌝ }
+    ensures { λ r. ⌜ r ≡ lowPart (p .minus) (p .size) root ⌝ }
 {
     let minus = p.minus;
     let size = p.size;
     let part = size * root;
     if minus {
-        return Ends {
-            low: 900_000_000_000_000_000 - part - size,
-            high: 900_000_000_000_000_000 - part,
-        };
+        return 900_000_000_000_000_000 - part - size;
     }
-    Ends {
-        low: 900_000_000_000_000_000 + part,
-        high: 900_000_000_000_000_000 + part + size,
-    }
+    900_000_000_000_000_000 + part
 }
 
-// The whole part of m x / 1,800,000,000,000,000,000, which is 9 * 2^18 * 762,939,453,125. From 3^2 on the nine is taken out of m and 2^18 out of x,
-// so that no product passes 2^64.
-fn estimate(k: u64, m: u64, x: u64) -> u64
-    requires { ⌜ (k ≤ 15) × (m ≡ 3 ^ k) × (x ≤ 1800000000000000000) ⌝ }
-    ensures { λ r. ⌜ r ≡ share m x ⌝ }
+// 3^15 x in UNITS: x / STEP, which is the whole part but for the little that STEP is too large.
+fn part_of(x: u64) -> Parted
+    requires { ⌜ x < 1800000000000000000 ⌝ }
+    ensures { λ r. ⌜ r .whole * 1800000000000000000 + r .rest ≡ 3 ^ 15 * x ⌝ }
+    ensures { λ r. ⌜ (r .whole < 3 ^ 15) × (r .rest < 2 * 1800000000000000000) ⌝ }
 {
-    if k < 2 {
-        return m * x / 1_800_000_000_000_000_000;
+    let whole = x / STEP;
+    Parted {
+        whole,
+        rest: FINEST * (x % STEP) + OVER * whole,
     }
-    let n = m / 9;
-    (n * (x / 262_144) + n * (x % 262_144) / 262_144) / 762_939_453_125
 }
 
-// The floor of m (1/2 + p h / 1,800,000,000), with m = 3^k, h = sqrt(t) / 10^9 and root the whole root of t. Where the estimates by `root` and by
-// `root + 1` agree they are the floor; elsewhere they are a step apart, and the exact test of the upper one decides.
+// The floor at resolution 15. Where the rest has room for the upper end too, both ends have the same whole part, and it is the floor; elsewhere the
+// floor is the lower end's or the next, and the exact test decides.
+fn finest(t: u64, root: u64, p: Axis) -> u64
+    requires { ⌜ (t < 10 ^ 18) × (p .size ≤ 900000000) × (root * root ≤ t) × (t < (root + 1) * (root + 1)) ⌝ }
+    ensures { λ r. ⌜ (r ≡ rootFloor (3 ^ 15) t (axisOf p)) × (r < 3 ^ 15) ⌝ }
+{
+    let size = p.size;
+    let part = part_of(low_end(root, p));
+    let whole = part.whole;
+    let rest = part.rest;
+    if rest + FINEST * size < UNITS {
+        return whole;
+    }
+    let low = whole + rest / UNITS;
+    let up = low + 1;
+    if reaches(FINEST, t, p, up) { up } else { low }
+}
+
+// The floor of m (1/2 + p h / 1,800,000,000), with m = 3^k, h = sqrt(t) / 10^9 and root the whole root of t: the first digits of that at
+// resolution 15.
 pub fn floor(k: u64, m: u64, t: u64, root: u64, p: Axis) -> u64
     requires { ⌜ (k ≤ 15) × (m ≡ 3 ^ k) × (t < 10 ^ 18) × (p .size ≤ 900000000) × (root * root ≤ t) × (t < (root + 1) * (root + 1)) ⌝ }
     ensures { λ r. ⌜ (r ≡ rootFloor (3 ^ k) t (axisOf p)) × (r < 3 ^ k) ⌝ }
 {
-    let b = bracket(root, p);
-    let low = estimate(k, m, b.low);
-    let high = estimate(k, m, b.high);
-    if low == high {
-        return low;
-    }
-    if reaches(m, t, p, high) { high } else { low }
+    finest(t, root, p) * m / FINEST
 }

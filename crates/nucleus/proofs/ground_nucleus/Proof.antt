@@ -96,10 +96,10 @@ module _ (c : tie.After-power2) where
   down-lt = finer-lt up side up-pos side-pos finest (b known) (omega (arith, inside known, known .power .ensures))
 
 mul-longitude-at : tie.Need-mul-longitude-at
-mul-longitude-at c = omega (arith, along-lt c)
+mul-longitude-at c = omega (arith, along-lt c, down-lt c)
 
 longitude-at-requires : tie.Need-longitude-at-requires
-longitude-at-requires c κs = omega (arith, along-lt c)
+longitude-at-requires c κs = omega (arith, along-lt c, down-lt c)
 
 mul-belt-z : tie.Need-mul-belt-z
 mul-belt-z c = omega (arith, down-lt (c .before))
