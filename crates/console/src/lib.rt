@@ -195,6 +195,21 @@ pub fn put_byte(line: &mut [u8], at: usize, byte: u8) -> usize
     at
 }
 
+// The same for more bytes.
+pub fn put_bytes(line: &mut [u8], at: usize, bytes: &[u8]) -> usize
+    requires { ⌜ at ≤ length (now line) ⌝ }
+    ensures { λ r. ⌜ r ≤ length (now (line .exit)) ⌝ }
+    ensures { λ r. ⌜ length (now (line .exit)) ≡ length (now (line .entry)) ⌝ }
+{
+    let mut end = at;
+    let mut i: usize = 0;
+    while i < bytes.len() {
+        end = put_byte(line, end, bytes[i]);
+        i = i + 1;
+    }
+    end
+}
+
 // A length that an entry answered. It is within the room; where it were not, all of the room.
 pub fn within(n: u64, room: usize) -> usize
     ensures { λ r. ⌜ r ≤ room ⌝ }

@@ -16,7 +16,7 @@ struct Flight {
     stop: u64,
 }
 
-// One line, which ended. A fix that is refused, and a line that is no fix, is said and skipped.
+// One line. A fix that is refused, and a line that is no fix, is said and skipped.
 fn fly_line(
     n: u64,
     s: u64,
@@ -26,15 +26,13 @@ fn fly_line(
     flight: Flight,
 ) -> Flight
     requires { ⌜ Held (now codes) (flight .count) ⌝ }
-    requires { ⌜ flight .at ≤ length (now line) ⌝ }
     ensures { λ r. ⌜ Held (now (codes .exit)) (r .count) ⌝ }
     ensures { λ r. ⌜ r .at ≡ 0 ⌝ }
 {
     let count = flight.count;
-    let at = flight.at;
     let stop = flight.stop;
     let lines = console::next(flight.lines);
-    match flight::fly(n, s, resolution, &line[..at], codes, count) {
+    match flight::fly(n, s, resolution, line, codes, count) {
         Added::Count(held) => Flight {
             count: held,
             lines,
@@ -61,12 +59,12 @@ fn fly_line(
     }
 }
 
-// One more byte of the flight.
-fn fly_byte(
+// The rest of a line, which ended. What came of it before is in `line`.
+fn fly_rest(
     n: u64,
     s: u64,
     resolution: u64,
-    byte: u8,
+    rest: &[u8],
     line: &mut [u8],
     codes: &mut [u64],
     flight: Flight,
@@ -74,21 +72,16 @@ fn fly_byte(
     requires { ⌜ Held (now codes) (flight .count) ⌝ }
     requires { ⌜ flight .at ≤ length (now line) ⌝ }
     ensures { λ r. ⌜ Held (now (codes .exit)) (r .count) ⌝ }
-    ensures { λ r. ⌜ r .at ≤ length (now (line .exit)) ⌝ }
+    ensures { λ r. ⌜ r .at ≡ 0 ⌝ }
 {
-    if byte == 10 {
-        return fly_line(n, s, resolution, line, codes, flight);
+    if flight.at == 0 {
+        return fly_line(n, s, resolution, rest, codes, flight);
     }
-    let at = console::put_byte(line, flight.at, byte);
-    Flight {
-        count: flight.count,
-        lines: flight.lines,
-        at,
-        stop: flight.stop,
-    }
+    let at = console::put_bytes(line, flight.at, rest);
+    fly_line(n, s, resolution, &line[..at], codes, flight)
 }
 
-// The next bytes of the flight.
+// The next bytes of the flight. What comes of a line that does not end here is kept in `line`.
 fn fly_bytes(
     n: u64,
     s: u64,
@@ -106,8 +99,18 @@ fn fly_bytes(
     let mut flight = before;
     let mut i: usize = 0;
     while i < bytes.len() {
-        flight = fly_byte(n, s, resolution, bytes[i], line, codes, flight);
-        i = i + 1;
+        let end = bytes::scan::find(bytes, i, bytes.len(), 10);
+        if end == bytes.len() {
+            let at = console::put_bytes(line, flight.at, &bytes[i..]);
+            return Flight {
+                count: flight.count,
+                lines: flight.lines,
+                at,
+                stop: flight.stop,
+            };
+        }
+        flight = fly_rest(n, s, resolution, &bytes[i..end], line, codes, flight);
+        i = end + 1;
     }
     flight
 }
@@ -166,7 +169,7 @@ fn write_text(n: u64, s: u64, codes: &[u64], text: &mut [u8]) {
 }
 
 // The last line may have no end.
-fn fly_rest(
+fn fly_last(
     n: u64,
     s: u64,
     resolution: u64,
@@ -178,10 +181,11 @@ fn fly_rest(
     requires { ⌜ flight .at ≤ length (now line) ⌝ }
     ensures { λ r. ⌜ Held (now (codes .exit)) (r .count) ⌝ }
 {
-    if flight.at == 0 {
+    let at = flight.at;
+    if at == 0 {
         return flight;
     }
-    fly_line(n, s, resolution, line, codes, flight)
+    fly_line(n, s, resolution, &line[..at], codes, flight)
 }
 
 // What the flight comes to, where nothing stopped it.
@@ -213,6 +217,6 @@ fn main() {
     let mut line = [0u8; 64];
     let mut codes = [0u64; 65536];
     let flight = fly_all(n, s, resolution, &mut bytes, &mut line, &mut codes);
-    let flight = fly_rest(n, s, resolution, &line, &mut codes, flight);
+    let flight = fly_last(n, s, resolution, &line, &mut codes, flight);
     land(n, s, &codes, &mut bytes, flight); // the bytes are read, so their room is the text's
 }

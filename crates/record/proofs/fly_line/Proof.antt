@@ -1,23 +1,19 @@
 -- `fly_line` meets its contract: `fly` keeps what is held, whichever way it answers. Assumes nothing.
-use mathlib.Core.Path.{_≡_, refl, sym, subst}
+use mathlib.Core.Path.{_≡_, refl, subst}
 use mathlib.Core.List.{List}
 use Prim.Native.Nat.{ℕ}
-use lib.Seq.{length-take-le}
 use Rattle.track.specs.declared.Added.{Added}
 use Rattle.track.specs.Track.{Held, heldAfter}
 use borrow.Author.Needs.{needs}
 use Rattle.record.proofs.fly_line.Statement.{statement}
 use Rattle.record.proofs.fly_line.Tie as tie
 
-next-requires : tie.Need-next-requires
-next-requires c κs = search needs
-
 -- what is held where the answer is known
 held-as : (codes : List ℕ) (count : ℕ) {r q : Added} → r ≡ q → Held codes (heldAfter r count) → Held codes (heldAfter q count)
 held-as codes count e h = subst (λ (a : Added). Held codes (heldAfter a count)) e h
 
-slice-aggregate-fly : tie.Need-slice-aggregate-fly
-slice-aggregate-fly c = sym (length-take-le _ _ (c .before .before .before .before .pre .1))
+next-requires : tie.Need-next-requires
+next-requires c κs = search needs
 
 fly-requires : tie.Need-fly-requires
 fly-requires c κs = search needs
@@ -32,7 +28,7 @@ same-length : tie.Need-same-length
 same-length c = search needs
 
 returns : tie.Need-returns
-returns c = (held-as _ (c .before .before .before .before .before .before .before .before .before .before .before .before .args .flight .count) (c .before .before .refusal .given .1) (c .before .before .before .before .before .before .fly .ensures .1 .1), refl)
+returns c = (held-as _ (c .before .before .before .before .before .before .before .before .before .before .before .args .flight .count) (c .before .before .refusal .given .1) (c .before .before .before .before .before .before .fly .ensures .1 .1), refl)
 
 slice-aggregate-say-line : tie.Need-slice-aggregate-say-line
 slice-aggregate-say-line c = search needs
@@ -44,20 +40,19 @@ same-length-2 : tie.Need-same-length-2
 same-length-2 c = search needs
 
 returns-2 : tie.Need-returns-2
-returns-2 c = (held-as _ (c .before .before .before .before .before .before .before .before .before .before .before .args .flight .count) (c .before .held .given .1) (c .before .before .before .before .before .fly .ensures .1 .1), refl)
+returns-2 c = (held-as _ (c .before .before .before .before .before .before .before .before .before .before .args .flight .count) (c .before .held .given .1) (c .before .before .before .before .before .fly .ensures .1 .1), refl)
 
 same-length-3 : tie.Need-same-length-3
 same-length-3 c = search needs
 
 returns-3 : tie.Need-returns-3
-returns-3 c = (held-as _ (c .before .before .before .before .before .before .before .before .before .before .before .before .before .before .args .flight .count) (c .before .before .before .before .refusal .given .1) (c .before .before .before .before .before .before .before .before .fly .ensures .1 .1), refl)
+returns-3 c = (held-as _ (c .before .before .before .before .before .before .before .before .before .before .before .before .before .args .flight .count) (c .before .before .before .before .refusal .given .1) (c .before .before .before .before .before .before .before .before .fly .ensures .1 .1), refl)
 
 pub fly-line-spec : {M : Type 1} → statement M
 fly-line-spec =
     tie.close
     (tie.spec
     next-requires
-    slice-aggregate-fly
     fly-requires
     enum-known-held
     enum-known-refusal
