@@ -1,14 +1,14 @@
 -- What the measuring functions hand back at each end of theirs. Assumes nothing.
-use mathlib.Core.Path.{_≡_, refl, sym, ap, _∙_}
+use mathlib.Core.Path.{_≡_, refl}
 use Prim.Native.Nat.{ℕ, zero, suc, _+_, _-_, _*_, _/_, _^_, _≤_, _<_}
 use mathlib.Core.Logic.{⊎-elim}
 use mathlib.Core.List.{List}
-use native.Mathlib.Nat.{suc-mul, mul-le-mul-right, add-assoc}
+use native.Mathlib.Nat.{suc-mul, add-assoc}
 use native.Mathlib.Omega.{arith}
 use lib.ListN.{length, getD}
 use Rattle.logic.specs.Order.{lt-or}
 use Rattle.writing.specs.declared.Taken.{Taken}
-use Rattle.writing.specs.Measure.{AtHand, NodeAt, ListAt, NodeTakes, ListTakes, NodeMeasured, ListMeasured}
+use Rattle.writing.specs.Measure.{AtHand, NodeAt, NodeTakes, NodeMeasured, ListMeasured}
 use Rattle.writing.specs.MeasureLaws.{node-finest, node-exact, node-list, node-nine, node-held, list-none, list-node, list-rest, list-in, all-later, list-skip, list-out}
 
 -- ---- a node
@@ -93,9 +93,6 @@ l-out {codes} {at} (suc left) {cell} {size} {r} z e n u = l-out-suc codes at lef
 pub one-less : (left z : ℕ) → (left ≡ 0 → ⊥) → left * z ≡ (left - 1) * z + z
 one-less zero z h = absurd (h refl)
 one-less (suc n) z h = rw (less n) (suc-mul n z)
-
-pub at-most-nine : (left z : ℕ) → left ≤ 9 → left * z ≤ 9 * z
-at-most-nine left z h = mul-le-mul-right z h
 
 -- ---- the first finest cell of the code at hand
 

@@ -1,7 +1,7 @@
 -- What the whole test says of the node that has the code at hand inside, and how far it has come. Assumes nothing.
 use mathlib.Core.Path.{_≡_}
 use mathlib.Core.List.{List}
-use Prim.Native.Nat.{ℕ, _+_, _*_, _/_, _^_, _≤_, _<_}
+use Prim.Native.Nat.{ℕ, _+_, _/_, _≤_, _<_}
 use lib.ListN.{length}
 use Rattle.reading.specs.Prefix.{Name}
 use Rattle.writing.specs.Measure.{areaFrom, NodeAt, NodeTakes}

@@ -1,22 +1,20 @@
 -- A node is whole where the codes inside cover its finest cells with no gap. Assumes nothing.
-use mathlib.Core.Path.{_≡_, refl, sym, ap, ap₂, _∙_}
+use mathlib.Core.Path.{_≡_, sym, ap, _∙_}
 use mathlib.Core.Bool.{true}
-use mathlib.Core.Logic.{_⊎_, inl, inr, ⊎-elim}
+use mathlib.Core.Logic.{_⊎_, ⊎-elim}
 use mathlib.Core.List.{List, [], _∷_, _++_, map}
 use Prim.Native.Nat.{ℕ, zero, suc, _+_, _-_, _*_, _/_, _%_, _^_, _≤_, _<_}
-use native.Mathlib.Numerals.{add-one}
 use native.Mathlib.Omega.{arith}
-use lib.ListN.{length, drop, getD, length-append, length-map, length-drop, drop-of-length-le}
+use lib.ListN.{length, drop, getD, length-map, length-drop, drop-of-length-le}
 use Rattle.logic.specs.Order.{lt-or}
 use Rattle.ternary.specs.Powers.{nine-pos}
-use Rattle.cell.specs.declared.Cell.{Cell}
-use Rattle.code.specs.Code.{codeOf, cellOf, isCode, sizeOf}
+use Rattle.code.specs.Code.{cellOf, isCode, sizeOf}
 use Rattle.code.specs.CodeLaws.{code-is-cell}
 use Rattle.code.specs.Inside.{Inside, startOf, endOf}
 use Rattle.code.specs.InsideLaws.{inside-within}
 use Rattle.reading.specs.ReadingLaws.{eq-or}
 use Rattle.reading.specs.Ground.{cellNamed}
-use Rattle.reading.specs.Prefix.{Name, nameOf, Prefix, Ahead, IsName, Rise}
+use Rattle.reading.specs.Prefix.{Name, nameOf, Prefix, Ahead, Rise}
 use Rattle.reading.specs.RisingLaws.{ahead-before}
 use Rattle.reading.specs.NamedLaws.{named-cell, name-named, prefix-inside}
 use Rattle.writing.specs.WriteEntry.{allCodes}

@@ -1,7 +1,7 @@
 -- `writing::whole_until` meets its contract: the codes up to the place i cover the cell up to the position. Assumes nothing.
 use native.Mathlib.Omega.{arith}
 use borrow.Author.Needs.{needs}
-use Prim.Native.Nat.{_+_, _-_, _%_, _^_, _≤_}
+use Prim.Native.Nat.{_-_, _%_}
 use lib.ListN.{length, getD}
 use Rattle.ternary.specs.Powers.{nine-le}
 use Rattle.writing.specs.Whole.{Tiled}
