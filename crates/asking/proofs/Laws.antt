@@ -1,83 +1,325 @@
--- The answer along the walk: what is left of the text decides. Assumes nothing.
-use mathlib.Core.Path.{_≡_, refl, sym, ap, ap₂, subst, _∙_}
-use mathlib.Core.Bool.{Bool, true, false, _&&_, _||_}
-use mathlib.Core.List.{List, _∷_}
-use Prim.Native.Nat.{ℕ, _+_, _≤_, _<_}
-use lib.ListN.{length, drop, getD}
-use lib.Dec.{leb}
-use borrow.Author.Tests.{le-leb, lt-leb}
-use Rattle.code.specs.Number.{endAs}
-use Rattle.reading.specs.TextReading.{isText}
-use Rattle.walk.specs.declared.Spot.{Spot}
-use Rattle.walk.specs.Walk.{origin, after, wholeAt, walk, Walks}
-use Rattle.walk.specs.WalkLaws.{walks-start, walks-on, past-whole, past-other, walked}
-use Rattle.asking.specs.AskWalk.{holdsAt, anyHolds, startAt, Ahead, Onward, walk-onward, none-ahead}
+-- The answer along the nodes of a text: the nodes from here on decide. Assumes nothing.
+use mathlib.Core.Path.{_≡_, refl, sym, ap, ap₂, _∙_}
+use mathlib.Core.Logic.{⊎-elim}
+use mathlib.Core.Bool.{Bool, true, false, _&&_, _||_, not, cond}
+use mathlib.Core.List.{List, [], _∷_, _++_, append-nil, append-assoc}
+use Prim.Native.Nat.{ℕ, suc, _+_, _-_, _*_, _/_, _^_, _≤_, _<_}
+use native.Mathlib.Omega.{arith}
+use native.Mathlib.Nat.{suc-mul, mul-le-mul-right}
+use lib.ListN.{length, drop, getD, drop-of-length-le}
+use lib.Seq.{drop-drop, drop-append-add}
+use lib.Dec.{leb, eqb}
+use borrow.Author.Tests.{le-leb, lt-leb, eq-eqb, ne-eqb}
+use Rattle.logic.specs.Bools.{clash}
+use Rattle.logic.specs.Order.{lt-or}
+use Rattle.cell.specs.declared.Cell.{Cell}
+use Rattle.code.specs.Inside.{startOf, endOf}
+use Rattle.code.specs.InsideLaws.{size-pos}
+use Rattle.reading.specs.declared.Level.{Level}
+use Rattle.reading.specs.declared.Level.the-variants.{Faces, Digits}
+use Rattle.reading.specs.Reading.{Nodes, end, whole, listed, first, many, room, render, Good}
+use Rattle.reading.specs.ReadingLaws.{many-most}
+use Rattle.reading.specs.ParseLaws.{Stop}
+use Rattle.reading.specs.TextReading.{isText, nodesOf}
+use Rattle.walk.specs.Walk.{opens, wholeAt}
+use Rattle.walk.specs.WalkLaws.{not-shut, whole-name, opens-nodes, body, good, byte-at}
+use Rattle.asking.specs.AskNodes.{anyIn, and-none, in-short, in-behind, openPast, shutIn, shut-list, nodeIn}
 
--- what holds before the byte at i
-pub record Asks (t : List ℕ) (from to i : ℕ) (s : Spot) : Type 0 where
-  pub walks : Walks t i s
-  pub left : anyHolds from to (walk s (drop i t)) ≡ anyHolds from to (walk origin (drop 7 t))
-  pub onward : Onward (walk s (drop i t))
+-- the byte at a place, where the bytes from there on are known
+module _ (t : List ℕ) (i : ℕ) {b : ℕ} {bs : List ℕ} (e : drop i t ≡ b ∷ bs) where
+  pub inside : i < length t
+  inside = ⊎-elim (λ h. h) (λ h. absurd (omega (arith, ap length (sym e ∙ drop-of-length-le t {i = i} h)))) (lt-or i (length t))
 
-pub asks-start : (t : List ℕ) (from to : ℕ) → isText t ≡ true → Asks t from to 7 origin
-asks-start t from to e = record { walks = walks-start t e; left = refl; onward = walk-onward t e }
+  there : getD t i 0 ∷ drop (i + 1) t ≡ b ∷ bs
+  there = sym (byte-at t i inside) ∙ e
 
-module _ {t : List ℕ} {from to i : ℕ} {s s′ : Spot} (l : Asks t from to i s) (h : i < length t) (e : s′ ≡ after s (getD t i 0)) where
-  -- the walk stands at the next byte
-  pub on : Walks t (i + 1) s′
-  on = rw e (walks-on (l .walks) h)
+  byte : getD t i 0 ≡ b
+  byte = let f = there in cc
 
-  module _ (w : wholeAt (drop i t) ≡ false) where
-    past : walk s (drop i t) ≡ walk s′ (drop (i + 1) t)
-    past = past-other (l .walks) h w ∙ sym (ap (λ (x : Spot). walk x (drop (i + 1) t)) e)
+  after : drop (i + 1) t ≡ bs
+  after = let f = there in cc
 
-    pub asks-past : Asks t from to (i + 1) s′
-    asks-past =
-        record {
-          walks = on;
-          left = ap (anyHolds from to) (sym past) ∙ l .left;
-          onward = subst Onward past (l .onward);
-        }
+stop-opens : (rest : List ℕ) → Stop rest → opens rest ≡ false
+stop-opens [] s = refl
+stop-opens (b ∷ bs) s = rw s
 
-  module _ (w : wholeAt (drop i t) ≡ true) where
-    met : walk s (drop i t) ≡ s′ ∷ walk s′ (drop (i + 1) t)
-    met = past-whole (l .walks) h w ∙ sym (ap (λ (x : Spot). x ∷ walk x (drop (i + 1) t)) e)
+or-none : (b : Bool) → (b || false) ≡ b
+or-none true = refl
+or-none false = refl
 
-    decided : (holdsAt from to s′ || anyHolds from to (walk s′ (drop (i + 1) t))) ≡ anyHolds from to (walk origin (drop 7 t))
-    unfolding anyHolds
-    decided = ap (anyHolds from to) (sym met) ∙ l .left
+-- What holds before the byte at i: the nodes of a list, or the faces, stand from there on; their cells have this size, and the first one starts at
+-- `before`.
+pub record Asks (t : List ℕ) (from to : ℕ) (r : Bool) (base before size i : ℕ) : Type 0 where
+  pub level : Level
+  pub depth : ℕ
+  pub lo : ℕ
+  pub nodes : Nodes
+  pub rest : List ℕ
+  pub left : drop i t ≡ render level nodes ++ rest
+  pub stop : Stop rest
+  pub good : Good level depth lo nodes
+  pub kind : base ≡ first level
+  pub same : anyIn from to before size nodes ≡ r
+  pub fits : before + 9 * size ≤ 9 ^ 16
 
-    rest : Ahead (startAt s′) (walk s′ (drop (i + 1) t)) × Onward (walk s′ (drop (i + 1) t))
-    rest = subst Onward met (l .onward)
+pub asks-start : (t : List ℕ) (from to : ℕ) → isText t ≡ true → Asks t from to (anyIn from to 0 (9 ^ 15) (nodesOf t)) 78 0 (9 ^ 15) 7
+asks-start t from to e =
+    record {
+      level = Faces;
+      depth = 15;
+      lo = 0;
+      nodes = nodesOf t;
+      rest = [];
+      left = body t e ∙ sym (append-nil (render Faces (nodesOf t)));
+      stop = tt;
+      good = good t e;
+      kind = refl;
+      same = refl;
+      fits = omega arith;
+    }
 
-    -- a whole cell that starts behind the asked one
-    pub asks-behind : from < startAt s′ → false ≡ anyHolds from to (walk origin (drop 7 t))
-    unfolding holdsAt
-    asks-behind b =
-        sym (ap₂ _||_ (ap (λ (x : Bool). x && leb to (endAs (s′ .resolution) (s′ .number))) (lt-leb (startAt s′) from b))
-        (none-ahead from to (startAt s′) (walk s′ (drop (i + 1) t)) b (rest .0)))
-        ∙ decided
+-- no nodes are left
+module _ {t : List ℕ} {from to : ℕ} {r : Bool} {base before size i : ℕ} (v : Asks t from to r base before size i) where
+  pub asks-end : length t ≤ i → false ≡ r
+  unfolding anyIn
+  asks-end h = go (v .nodes) (v .left) (v .same)
+    where
+      none : {b : ℕ} {bs : List ℕ} → drop i t ≡ b ∷ bs → false ≡ r
+      none e = absurd (omega (arith, inside t i e))
 
-    module _ (b : startAt s′ ≤ from) where
-      -- one that holds it
-      pub asks-yes : to ≤ endAs (s′ .resolution) (s′ .number) → true ≡ anyHolds from to (walk origin (drop 7 t))
-      unfolding holdsAt
-      asks-yes y =
-          let k : holdsAt from to s′ ≡ true = ap₂ _&&_ (le-leb (startAt s′) from b) (le-leb to (endAs (s′ .resolution) (s′ .number)) y) in
-          sym (ap (λ (x : Bool). x || anyHolds from to (walk s′ (drop (i + 1) t))) k) ∙ decided
+      go : (ns : Nodes) → drop i t ≡ render (v .level) ns ++ v .rest → anyIn from to before size ns ≡ r → false ≡ r
+      go end e s = s
+      go (whole c ns) e s = none e
+      go (listed c is ns) e s = none e
 
-      -- and one that ends before the asked one does
-      pub asks-no : endAs (s′ .resolution) (s′ .number) < to → Asks t from to (i + 1) s′
-      unfolding holdsAt
-      asks-no y =
-          let k : holdsAt from to s′ ≡ false = ap₂ _&&_ (le-leb (startAt s′) from b) (lt-leb to (endAs (s′ .resolution) (s′ .number)) y) in
+  pub asks-shut : getD t i 0 ≡ 41 → false ≡ r
+  unfolding anyIn
+  asks-shut h = go (v .nodes) (v .left) (v .same)
+    where
+      other : (l : Level) (c : ℕ) → first l + c ≡ 41 → false ≡ r
+      other l c e = clash (sym (ap (λ (x : ℕ). eqb x 41) e) ∙ not-shut c l)
+
+      go : (ns : Nodes) → drop i t ≡ render (v .level) ns ++ v .rest → anyIn from to before size ns ≡ r → false ≡ r
+      go end e s = s
+      go (whole c ns) e s = other (v .level) c (sym (byte t i e) ∙ h)
+      go (listed c is ns) e s = other (v .level) c (sym (byte t i e) ∙ h)
+
+-- a letter or digit of number c stands here
+pub record Named (t : List ℕ) (base i c : ℕ) (l : Level) : Type 0 where
+  pub number : getD t i 0 - base ≡ c
+  pub least : base ≤ getD t i 0
+  pub few : c < many l
+
+module _ {t : List ℕ} {from to : ℕ} {r : Bool} {base before size i : ℕ} (v : Asks t from to r base before size i) (h : i < length t) (q : getD t i 0 ≡ 41 → ⊥) where
+  none : (rest : List ℕ) → Stop rest → drop i t ≡ rest → ⊥
+  none [] s e = omega (arith, ap length (sym (byte-at t i h) ∙ e))
+  none (b ∷ bs) s e = q (byte t i e ∙ s)
+
+  named : {c : ℕ} {bs : List ℕ} → c < many (v .level) → drop i t ≡ (first (v .level) + c) ∷ bs → Named t base i c (v .level)
+  named k e = record { number = omega (arith, byte t i e, v .kind); least = omega (arith, byte t i e, v .kind); few = k }
+
+  pub asks-named : (c : ℕ) × Named t base i c (v .level)
+  asks-named = go (v .nodes) (v .left) (v .good)
+    where
+      go : (ns : Nodes) → drop i t ≡ render (v .level) ns ++ v .rest → Good (v .level) (v .depth) (v .lo) ns → (c : ℕ) × Named t base i c (v .level)
+      go end e g = absurd (none (v .rest) (v .stop) e)
+      go (whole c ns) e g = (c, named (g .1) e)
+      go (listed c is ns) e g = (c, named (g .1) e)
+
+  -- where the cell starts
+  abbrev starts : ℕ
+  starts = before + (getD t i 0 - base) * size
+
+  start-is : (c : ℕ) {bs : List ℕ} → drop i t ≡ (first (v .level) + c) ∷ bs → starts ≡ before + c * size
+  start-is c e = ap (λ (x : ℕ). before + x * size) (omega (arith, byte t i e, v .kind))
+
+  -- the cell's finest cells have numbers of 64 bits
+  pub asks-fits : starts + size ≤ 9 ^ 16
+  asks-fits =
+      let n = asks-named in
+      let e : starts ≡ before + n .0 * size = ap (λ (x : ℕ). before + x * size) (n .1 .number) in
+      omega (arith, v .fits, mul-le-mul-right size (n .1 .few), suc-mul (n .0) size, mul-le-mul-right size (many-most (v .level)))
+
+  -- it starts behind the asked one's start
+  pub asks-behind : from < starts → false ≡ r
+  asks-behind k = go (v .nodes) (v .left) (v .good) (v .same)
+    where
+      go : (ns : Nodes) → drop i t ≡ render (v .level) ns ++ v .rest → Good (v .level) (v .depth) (v .lo) ns → anyIn from to before size ns ≡ r → false ≡ r
+      go end e g s = absurd (none (v .rest) (v .stop) e)
+      go (whole c ns) e g s =
+          sym (in-behind from to (whole c ns) (v .level) (v .depth) c before size (omega arith, g .1, g .2) (omega (arith, start-is c e))) ∙ s
+      go (listed c is ns) e g s =
+          sym (in-behind from to (listed c is ns) (v .level) (v .depth) c before size (omega arith, g .1, g .2, g .3, g .4, g .5, g .6) (omega (arith, start-is c e))) ∙ s
+
+  -- a whole node, and one that holds a list
+  whole-here : (c : ℕ) (ns : Nodes) → c < many (v .level) → drop i t ≡ (first (v .level) + c) ∷ (render (v .level) ns ++ v .rest) → wholeAt (drop i t) ≡ true
+  whole-here c ns k e =
+      ap wholeAt e ∙ whole-name c (v .level) k 0 0 (render (v .level) ns ++ v .rest) ∙ ap not (opens-nodes ns (v .level) (v .rest) (stop-opens (v .rest) (v .stop)))
+
+  list-here : (c : ℕ) {bs : List ℕ} → c < many (v .level) → drop i t ≡ (first (v .level) + c) ∷ 40 ∷ bs → wholeAt (drop i t) ≡ false
+  list-here c {bs} k e = ap wholeAt e ∙ whole-name c (v .level) k 0 0 (40 ∷ bs)
+
+  listed-here : (c : ℕ) (is ns : Nodes) → drop i t ≡ render (v .level) (listed c is ns) ++ v .rest
+      → drop i t ≡ (first (v .level) + c) ∷ 40 ∷ (render Digits is ++ (41 ∷ (render (v .level) ns ++ v .rest)))
+  listed-here c is ns e =
+      e ∙ ap (λ (x : List ℕ). (first (v .level) + c) ∷ 40 ∷ x) (append-assoc (render Digits is) (41 ∷ render (v .level) ns) (v .rest))
+
+  -- it ends before the asked one does
+  pub asks-past : starts + size < to → Asks t from to r base before size (i + nodeIn (drop i t))
+  unfolding anyIn nodeIn
+  asks-past k = go (v .nodes) (v .left) (v .good) (v .same)
+    where
+      go : (ns : Nodes) → drop i t ≡ render (v .level) ns ++ v .rest → Good (v .level) (v .depth) (v .lo) ns → anyIn from to before size ns ≡ r → Asks t from to r base before size (i + nodeIn (drop i t))
+      go end e g s = absurd (none (v .rest) (v .stop) e)
+      go (whole c ns) e g s =
+          let n : nodeIn (drop i t) ≡ 1 = ap (λ (b : Bool). cond b 1 (2 + shutIn 1 (drop 2 (drop i t)))) (whole-here c ns (g .1) e) in
+          let f : (leb (before + c * size) from && leb to (before + c * size + size)) ≡ false =
+          ap (λ (b : Bool). leb (before + c * size) from && b) (lt-leb to (before + c * size + size) (omega (arith, start-is c e))) ∙ and-none (leb (before + c * size) from) in
           record {
-            walks = on;
-            left = sym (ap (λ (x : Bool). x || anyHolds from to (walk s′ (drop (i + 1) t))) k) ∙ decided;
-            onward = rest .1;
+            level = v .level;
+            depth = v .depth;
+            lo = suc c;
+            nodes = ns;
+            rest = v .rest;
+            left = ap (λ (x : ℕ). drop (i + x) t) n ∙ after t i e;
+            stop = v .stop;
+            good = g .2;
+            kind = v .kind;
+            same = sym (ap (λ (b : Bool). b || anyIn from to before size ns) f) ∙ s;
+            fits = v .fits;
+          }
+      go (listed c is ns) e g s =
+          let tail : List ℕ = render (v .level) ns ++ v .rest in
+          let o : drop i t ≡ (first (v .level) + c) ∷ 40 ∷ (render Digits is ++ (41 ∷ tail)) = listed-here c is ns e in
+          let xs : List ℕ = (first (v .level) + c) ∷ 40 ∷ render Digits is in
+          let n : nodeIn (drop i t) ≡ length xs + 1 =
+          ap (λ (b : Bool). cond b 1 (2 + shutIn 1 (drop 2 (drop i t)))) (list-here c (g .1) o)
+          ∙ ap (λ (x : List ℕ). 2 + shutIn 1 (drop 2 x)) o ∙ omega (arith, shut-list is tail) in
+          let f : anyIn from to (before + c * size) (size / 9) is ≡ false =
+          in-short from to is Digits (room (v .level) c (v .depth) - 1) 0 (before + c * size) (size / 9) (g .5) (omega (arith, start-is c o)) in
+          record {
+            level = v .level;
+            depth = v .depth;
+            lo = suc c;
+            nodes = ns;
+            rest = v .rest;
+            left = ap (λ (x : ℕ). drop (i + x) t) n ∙ sym (drop-drop (length xs + 1) i t) ∙ ap (drop (length xs + 1)) o ∙ drop-append-add xs (41 ∷ tail) 1;
+            stop = v .stop;
+            good = g .6;
+            kind = v .kind;
+            same = sym (ap (λ (b : Bool). b || anyIn from to before size ns) f) ∙ s;
+            fits = v .fits;
           }
 
--- behind the last byte no cell is left
-pub asks-end : {t : List ℕ} {from to i : ℕ} {s : Spot} → Asks t from to i s → length t ≤ i → false ≡ anyHolds from to (walk origin (drop 7 t))
-unfolding anyHolds
-asks-end {t} {from} {to} {i} {s} l h = sym (ap (anyHolds from to) (walked t i s h)) ∙ l .left
+  module _ (a : starts ≤ from) (b : to ≤ starts + size) where
+    -- it is whole, and holds the asked one
+    pub asks-yes : wholeAt (drop i t) ≡ true → true ≡ r
+    unfolding anyIn
+    asks-yes w = go (v .nodes) (v .left) (v .good) (v .same)
+      where
+        go : (ns : Nodes) → drop i t ≡ render (v .level) ns ++ v .rest → Good (v .level) (v .depth) (v .lo) ns → anyIn from to before size ns ≡ r → true ≡ r
+        go end e g s = absurd (none (v .rest) (v .stop) e)
+        go (whole c ns) e g s =
+            let f : (leb (before + c * size) from && leb to (before + c * size + size)) ≡ true =
+            ap₂ _&&_ (le-leb (before + c * size) from (omega (arith, start-is c e))) (le-leb to (before + c * size + size) (omega (arith, start-is c e))) in
+            sym (ap (λ (x : Bool). x || anyIn from to before size ns) f) ∙ s
+        go (listed c is ns) e g s = clash (sym w ∙ list-here c (g .1) (listed-here c is ns e))
+
+    -- the asked one lies in its list, if anywhere
+    pub asks-into : from < to → wholeAt (drop i t) ≡ false → Asks t from to r 48 starts (size / 9) (i + 2)
+    unfolding anyIn
+    asks-into m w = go (v .nodes) (v .left) (v .good) (v .same)
+      where
+        go : (ns : Nodes) → drop i t ≡ render (v .level) ns ++ v .rest → Good (v .level) (v .depth) (v .lo) ns → anyIn from to before size ns ≡ r → Asks t from to r 48 starts (size / 9) (i + 2)
+        go end e g s = absurd (none (v .rest) (v .stop) e)
+        go (whole c ns) e g s = clash (sym (whole-here c ns (g .1) e) ∙ w)
+        go (listed c is ns) e g s =
+            let tail : List ℕ = render (v .level) ns ++ v .rest in
+            let o : drop i t ≡ (first (v .level) + c) ∷ 40 ∷ (render Digits is ++ (41 ∷ tail)) = listed-here c is ns e in
+            let f : anyIn from to before size ns ≡ false =
+            in-behind from to ns (v .level) (v .depth) (suc c) before size (g .6) (omega (arith, start-is c o, suc-mul c size)) in
+            record {
+              level = Digits;
+              depth = room (v .level) c (v .depth) - 1;
+              lo = 0;
+              nodes = is;
+              rest = 41 ∷ tail;
+              left = sym (drop-drop 2 i t) ∙ ap (drop 2) o;
+              stop = refl;
+              good = g .5;
+              kind = refl;
+              same =
+                  ap (λ (x : ℕ). anyIn from to x (size / 9) is) (start-is c o) ∙ sym (or-none (anyIn from to (before + c * size) (size / 9) is))
+                  ∙ sym (ap (λ (x : Bool). anyIn from to (before + c * size) (size / 9) is || x) f) ∙ s;
+              fits = omega (arith, asks-fits);
+            }
+
+-- ---- past a list
+
+past-most : (d b : ℕ) → openPast d b ≤ d + 1
+unfolding openPast
+past-most d b = go (eqb b 40) (eqb b 41)
+  where
+    go : (x y : Bool) → cond x (d + 1) (cond y (d - 1) d) ≤ d + 1
+    go true y = omega arith
+    go false true = omega arith
+    go false false = omega arith
+
+-- what holds before the byte at i, with so many lists open
+pub record Shuts (t : List ℕ) (at depth i : ℕ) : Type 0 where
+  pub tied : i + shutIn depth (drop i t) ≡ at + shutIn 1 (drop at t)
+  pub some : 0 < depth
+  pub few : depth + at ≤ i + 1
+
+pub shuts-start : (t : List ℕ) (at : ℕ) → Shuts t at 1 at
+shuts-start t at = record { tied = refl; some = omega arith; few = omega arith }
+
+pub shuts-end : {t : List ℕ} {at depth i : ℕ} → Shuts t at depth i → length t ≤ i → i ≡ at + shutIn 1 (drop at t)
+unfolding shutIn
+shuts-end {t} {at} {depth} {i} v h =
+    let e : shutIn depth (drop i t) ≡ 0 = ap (shutIn depth) (drop-of-length-le t {i = i} h) in
+    omega (arith, v .tied)
+
+module _ {t : List ℕ} {at depth i depth′ : ℕ} (v : Shuts t at depth i) (h : i < length t) (e : depth′ ≡ openPast depth (getD t i 0)) where
+  next : shutIn depth (drop i t) ≡ 1 + cond (eqb depth′ 0) 0 (shutIn depth′ (drop (i + 1) t))
+  unfolding shutIn
+  next =
+      ap (shutIn depth) (byte-at t i h) ∙ ap (λ (x : ℕ). 1 + cond (eqb x 0) 0 (shutIn x (drop (i + 1) t))) (sym e)
+
+  pub shuts-done : depth′ ≡ 0 → i + 1 ≡ at + shutIn 1 (drop at t)
+  shuts-done z =
+      let f : shutIn depth (drop i t) ≡ 1 = next ∙ ap (λ (b : Bool). 1 + cond b 0 (shutIn depth′ (drop (i + 1) t))) (eq-eqb depth′ 0 z) in
+      omega (arith, v .tied)
+
+  pub shuts-on : (depth′ ≡ 0 → ⊥) → Shuts t at depth′ (i + 1)
+  shuts-on z =
+      let f : shutIn depth (drop i t) ≡ 1 + shutIn depth′ (drop (i + 1) t) =
+      next ∙ ap (λ (b : Bool). 1 + cond b 0 (shutIn depth′ (drop (i + 1) t))) (ne-eqb depth′ 0 z) in
+      record { tied = omega (arith, v .tied); some = omega (arith, z); few = omega (arith, v .few, past-most depth (getD t i 0)) }
+
+-- ---- past a node
+
+pub node-some : (bs : List ℕ) → 0 < nodeIn bs
+unfolding nodeIn
+node-some bs = go (wholeAt bs)
+  where
+    go : (b : Bool) → 0 < cond b 1 (2 + shutIn 1 (drop 2 bs))
+    go true = omega arith
+    go false = omega arith
+
+module _ (t : List ℕ) (i : ℕ) where
+  pub node-whole : wholeAt (drop i t) ≡ true → i + 1 ≡ i + nodeIn (drop i t)
+  unfolding nodeIn
+  node-whole w = sym (ap (λ (b : Bool). i + cond b 1 (2 + shutIn 1 (drop 2 (drop i t)))) w)
+
+  pub node-list : wholeAt (drop i t) ≡ false → i + 2 + shutIn 1 (drop (i + 2) t) ≡ i + nodeIn (drop i t)
+  unfolding nodeIn
+  node-list w =
+      let e : nodeIn (drop i t) ≡ 2 + shutIn 1 (drop (i + 2) t) =
+      ap (λ (b : Bool). cond b 1 (2 + shutIn 1 (drop 2 (drop i t)))) w ∙ ap (λ (x : List ℕ). 2 + shutIn 1 x) (drop-drop 2 i t) in
+      omega arith
+
+-- a cell has a finest cell
+pub some-finest : (x : Cell) → startOf x < endOf x
+unfolding endOf
+some-finest x = omega (arith, size-pos x)

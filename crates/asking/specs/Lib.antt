@@ -1,3 +1,3 @@
 pub mod Ask
 pub mod AskLaws
-pub mod AskWalk
+pub mod AskNodes

@@ -40,12 +40,12 @@ module _ (c : ℕ) where
   name-number Belt h = rw (le-ltb (78 + c) 78 (omega arith)) (omega arith)
   name-number Digits h = rw (lt-ltb (48 + c) 78 (omega arith)) (omega arith)
 
-  not-open : (l : Level) → eqb (first l + c) 40 ≡ false
+  pub not-open : (l : Level) → eqb (first l + c) 40 ≡ false
   not-open Faces = ne-eqb (78 + c) 40 (omega arith)
   not-open Belt = ne-eqb (78 + c) 40 (omega arith)
   not-open Digits = ne-eqb (48 + c) 40 (omega arith)
 
-  not-shut : (l : Level) → eqb (first l + c) 41 ≡ false
+  pub not-shut : (l : Level) → eqb (first l + c) 41 ≡ false
   not-shut Faces = ne-eqb (78 + c) 41 (omega arith)
   not-shut Belt = ne-eqb (78 + c) 41 (omega arith)
   not-shut Digits = ne-eqb (48 + c) 41 (omega arith)
@@ -64,7 +64,7 @@ module _ (c : ℕ) where
     unfolding goesOn
     goes-on-name = rw (not-open l, not-shut l, name-number l h) (lt-ltb c 9 (below-nine l h))
 
-    whole-name : (bs : List ℕ) → wholeAt ((first l + c) ∷ bs) ≡ not (opens bs)
+    pub whole-name : (bs : List ℕ) → wholeAt ((first l + c) ∷ bs) ≡ not (opens bs)
     unfolding wholeAt
     whole-name bs = rw (not-open l, not-shut l)
 
@@ -115,7 +115,7 @@ last-in (whole c ns) l d lo p g =
 last-in (listed c is ns) l d lo p g =
     let e = last-in ns l d (suc c) (p / 9 * 9 + c) (g .6) in omega (arith, below-nine c l (g .1))
 
-opens-nodes : (ns : Nodes) (l : Level) (rest : List ℕ) → opens rest ≡ false → opens (render l ns ++ rest) ≡ false
+pub opens-nodes : (ns : Nodes) (l : Level) (rest : List ℕ) → opens rest ≡ false → opens (render l ns ++ rest) ≡ false
 opens-nodes end l rest e = e
 opens-nodes (whole c ns) l rest e = not-open c l
 opens-nodes (listed c is ns) l rest e = not-open c l
@@ -227,21 +227,25 @@ text-reads t e = go (readText t) refl e
     go (taken n s ns) q h = (n, s, accepted-read q)
 
 module _ (t : List ℕ) (e : isText t ≡ true) where
-  body : drop 7 t ≡ render Faces (nodesOf t)
+  pub body : drop 7 t ≡ render Faces (nodesOf t)
   body = ap (drop 7) (text-reads t e .2 .body .all)
 
-  good : Good Faces 15 0 (nodesOf t)
+  pub good : Good Faces 15 0 (nodesOf t)
   good = text-reads t e .2 .body .good
+
+  pub spots-text : spotsIn 0 0 (nodesOf t) ≡ map spotOf (wholeCells (nodesOf t))
+  unfolding wholeCells
+  spots-text =
+      spots-named (nodesOf t) 0 0 ∙ named-cells (names (nodesOf t)) (names-good (nodesOf t) Faces 15 0 15 good (omega arith))
 
   -- "with the whole cells in the order they stand"
   pub walk-text : walk origin (drop 7 t) ≡ map spotOf (wholeCells (nodesOf t))
-  unfolding wholeCells walk
+  unfolding walk
   walk-text =
       ap (walk origin) (body ∙ sym (append-nil (render Faces (nodesOf t))))
       ∙ walk-nodes (nodesOf t) Faces 15 0 0 0 [] good refl
       ∙ append-nil (spotsIn 0 0 (nodesOf t))
-      ∙ spots-named (nodesOf t) 0 0
-      ∙ named-cells (names (nodesOf t)) (names-good (nodesOf t) Faces 15 0 15 good (omega arith))
+      ∙ spots-text
 
   -- the walk starts behind the heading
   pub walks-start : Walks t 7 origin

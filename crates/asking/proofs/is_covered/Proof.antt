@@ -1,33 +1,34 @@
--- `asking::is_covered` meets its contract: what is left of the text decides. Assumes nothing.
+-- `asking::is_covered` meets its contract: the nodes from here on decide. Assumes nothing.
 use mathlib.Core.Path.{_≡_, sym, ap₂, _∙_}
-use mathlib.Core.Bool.{true, false}
-use Prim.Native.Nat.{ℕ, _-_}
+use Prim.Native.Nat.{ℕ, _-_, _^_, _<_}
 use native.Mathlib.Omega.{arith}
 use lib.ListN.{length, drop}
-use borrow.Author.Tests.{not-true, not-false}
 use borrow.Author.Needs.{needs}
 use Rattle.reading.specs.Ground.{wholeCells}
+use Rattle.reading.specs.ReadingLaws.{many-most}
 use Rattle.reading.specs.TextReading.{nodesOf}
-use Rattle.walk.specs.Walk.{origin, Fits, wholeAt, walk}
-use Rattle.walk.specs.WalkLaws.{goes-here}
 use Rattle.asking.specs.Ask.{anyWithin}
-use Rattle.asking.specs.AskWalk.{anyHolds, walk-asked}
-use Rattle.asking.proofs.Laws.{Asks, asks-start, on, asks-past, asks-behind, asks-yes, asks-no, asks-end}
+use Rattle.asking.specs.AskNodes.{anyIn, nodes-asked}
+use Rattle.asking.proofs.Laws.{Asks, asks-start, asks-end, asks-shut, asks-named, asks-fits, asks-behind, asks-past, asks-yes, asks-into, node-some, some-finest}
 use Rattle.asking.proofs.is_covered.Statement.{statement}
 use Rattle.asking.proofs.is_covered.Tie as tie
 
 abbrev Inv-loop : tie.InvT-loop
-Inv-loop text from to spot₀ i₀ spot i = Asks text from to i spot
+Inv-loop text from to base₀ before₀ size₀ i₀ base before size i = Asks text from to (anyIn from to 0 (9 ^ 15) (nodesOf text)) base before size i
 
 abbrev μ-loop : tie.MeasureT-loop
-μ-loop text from to spot₀ i₀ spot i = length text - i
+μ-loop text from to base₀ before₀ size₀ i₀ base before size i = length text - i
 
 -- the loop's first state gives the answer
-answer : (c : tie.After-end-of Inv-loop μ-loop) → let a = c .before .before .before .args in anyHolds (c .before .start-of .result) (c .end-of .result) (walk origin (drop 7 (a .text .now))) ≡ anyWithin (wholeCells (nodesOf (a .text .now))) (a .cell)
+answer : (c : tie.After-end-of Inv-loop μ-loop) → let a = c .before .before .before .args in
+    anyIn (c .before .start-of .result) (c .end-of .result) 0 (9 ^ 15) (nodesOf (a .text .now)) ≡ anyWithin (wholeCells (nodesOf (a .text .now))) (a .cell)
 answer c =
     let a = c .before .before .before .args in
-    ap₂ (λ (x y : ℕ). anyHolds x y (walk origin (drop 7 (a .text .now)))) (c .before .start-of .ensures) (c .end-of .ensures)
-    ∙ walk-asked (a .text .now) (c .before .before .before .pre .0) (a .cell)
+    ap₂ (λ (x y : ℕ). anyIn x y 0 (9 ^ 15) (nodesOf (a .text .now))) (c .before .start-of .ensures) (c .end-of .ensures)
+    ∙ nodes-asked (a .text .now) (c .before .before .before .pre .0) (a .cell)
+
+some : (c : tie.After-end-of Inv-loop μ-loop) → c .before .start-of .result < c .end-of .result
+some c = omega (arith, some-finest (c .before .before .before .args .cell), c .before .start-of .ensures, c .end-of .ensures)
 
 start-of-requires : tie.Need-start-of-requires Inv-loop μ-loop
 start-of-requires c κs = c .before .pre .1
@@ -38,66 +39,58 @@ end-of-requires c κs = c .before .before .pre .1
 loop-holds : tie.Need-loop-holds Inv-loop μ-loop
 loop-holds c = asks-start _ _ _ (c .before .before .before .pre .0)
 
-shared-slice-read-after : tie.Need-shared-slice-read-after Inv-loop μ-loop
-shared-slice-read-after c = search needs
+shared-slice-read-b : tie.Need-shared-slice-read-b Inv-loop μ-loop
+shared-slice-read-b c = search needs
 
-after-requires : tie.Need-after-requires Inv-loop μ-loop
-after-requires c κs = let l = c .before .before .loop .inv in (l .walks .fits, goes-here (l .walks) (c .before .loop-test .taken))
+returns : tie.Need-returns Inv-loop μ-loop
+returns c = asks-shut (c .before .before .before .loop .inv) (c .if1 .taken) ∙ answer (c .before .before .before .before)
+
+sub-start : tie.Need-sub-start Inv-loop μ-loop
+sub-start c = omega (arith, asks-named (c .before .before .before .loop .inv) (c .before .before .loop-test .taken) (c .if1 .left) .1 .least)
+
+cast-start : tie.Need-cast-start Inv-loop μ-loop
+cast-start c =
+    let n = asks-named (c .before .before .before .loop .inv) (c .before .before .loop-test .taken) (c .if1 .left) .1 in
+    omega (arith, n .number, n .few, many-most (c .before .before .before .loop .inv .level))
+
+mul-start : tie.Need-mul-start Inv-loop μ-loop
+mul-start c = omega (arith, asks-fits (c .before .before .before .loop .inv) (c .before .before .loop-test .taken) (c .if1 .left))
+
+add-start : tie.Need-add-start Inv-loop μ-loop
+add-start c = omega (arith, asks-fits (c .before .before .before .loop .inv) (c .before .before .loop-test .taken) (c .if1 .left))
+
+returns-2 : tie.Need-returns-2 Inv-loop μ-loop
+returns-2 c = asks-behind (c .before .before .before .before .loop .inv) (c .before .before .before .loop-test .taken) (c .before .if1 .left) (c .if2 .taken) ∙ answer (c .before .before .before .before .before)
+
+add-if3 : tie.Need-add-if3 Inv-loop μ-loop
+add-if3 c = omega (arith, asks-fits (c .before .before .before .before .loop .inv) (c .before .before .before .loop-test .taken) (c .before .if1 .left))
+
+past-node-requires : tie.Need-past-node-requires Inv-loop μ-loop
+past-node-requires c κs = search needs
+
+loop-less : tie.Need-loop-less Inv-loop μ-loop
+loop-less c = omega (arith, c .past-node .ensures, node-some (drop (c .before .before .before .before .before .before .loop .i) (c .before .before .before .before .before .before .before .before .before .before .args .text .now)))
+
+loop-again : tie.Need-loop-again Inv-loop μ-loop
+loop-again c = rw (c .past-node .ensures) (asks-past (c .before .before .before .before .before .before .loop .inv) (c .before .before .before .before .before .loop-test .taken) (c .before .before .before .if1 .left) (c .before .if3 .taken))
 
 whole-at-requires : tie.Need-whole-at-requires Inv-loop μ-loop
 whole-at-requires c κs = search needs
 
+returns-3 : tie.Need-returns-3 Inv-loop μ-loop
+returns-3 c = asks-yes (c .before .before .before .before .before .before .before .loop .inv) (c .before .before .before .before .before .before .loop-test .taken) (c .before .before .before .before .if1 .left) (c .before .before .before .if2 .left) (c .before .before .if3 .left) (sym (c .before .whole-at .ensures) ∙ c .if4 .taken) ∙ answer (c .before .before .before .before .before .before .before .before)
+
 add-i : tie.Need-add-i Inv-loop μ-loop
-add-i c = search needs
-
-loop-less : tie.Need-loop-less Inv-loop μ-loop
-loop-less c = search needs
-
-loop-again : tie.Need-loop-again Inv-loop μ-loop
-loop-again c =
-    let b = c .before .before .before in
-    asks-past (b .before .before .loop .inv) (b .before .loop-test .taken) (c .before .before .after .ensures) (sym (c .before .whole-at .ensures) ∙ not-true _ (c .if1 .taken))
-
--- the walk stands at a whole cell
-whole : (c : tie.Else1 Inv-loop μ-loop) → let l = c .before .before .before .before .before in wholeAt (drop (l .loop .i) (l .before .before .before .before .args .text .now)) ≡ true
-whole c = sym (c .before .whole-at .ensures) ∙ not-false _ (c .if1 .left)
-
-fits : (c : tie.Else1 Inv-loop μ-loop) → Fits (c .before .before .after .result)
-fits c =
-    let b = c .before .before .before in
-    on (b .before .before .loop .inv) (b .before .loop-test .taken) (c .before .before .after .ensures) .fits
-
-start-as-requires : tie.Need-start-as-requires Inv-loop μ-loop
-start-as-requires c κs = let f = fits c in (f .fine, f .small)
-
-returns : tie.Need-returns Inv-loop μ-loop
-returns c =
-    let e = c .before .before in
-    let b = e .before .before .before in
-    asks-behind (b .before .before .loop .inv) (b .before .loop-test .taken) (e .before .before .after .ensures) (whole e) (omega (arith, c .before .start-as .ensures))
-    ∙ answer (b .before .before .before)
-
-end-as-requires : tie.Need-end-as-requires Inv-loop μ-loop
-end-as-requires c κs = let f = fits (c .before .before) in (f .fine, f .small)
-
-returns-2 : tie.Need-returns-2 Inv-loop μ-loop
-returns-2 c =
-    let e = c .before .before .before .before in
-    let b = e .before .before .before in
-    asks-yes (b .before .before .loop .inv) (b .before .loop-test .taken) (e .before .before .after .ensures) (whole e) (omega (arith, c .before .before .before .start-as .ensures)) (omega (arith, c .before .end-as .ensures))
-    ∙ answer (b .before .before .before)
+add-i c = omega (arith, c .before .before .before .before .before .before .before .before .before .before .before .good)
 
 loop-less-2 : tie.Need-loop-less-2 Inv-loop μ-loop
 loop-less-2 c = search needs
 
 loop-again-2 : tie.Need-loop-again-2 Inv-loop μ-loop
-loop-again-2 c =
-    let e = c .before .before .before .before in
-    let b = e .before .before .before in
-    asks-no (b .before .before .loop .inv) (b .before .loop-test .taken) (e .before .before .after .ensures) (whole e) (omega (arith, c .before .before .before .start-as .ensures)) (omega (arith, c .before .end-as .ensures))
+loop-again-2 c = asks-into (c .before .before .before .before .before .before .before .loop .inv) (c .before .before .before .before .before .before .loop-test .taken) (c .before .before .before .before .if1 .left) (c .before .before .before .if2 .left) (c .before .before .if3 .left) (some (c .before .before .before .before .before .before .before .before)) (sym (c .before .whole-at .ensures) ∙ c .if4 .left)
 
-returns-3 : tie.Need-returns-3 Inv-loop μ-loop
-returns-3 c = asks-end (c .before .loop .inv) (c .loop-test .left) ∙ answer (c .before .before)
+returns-4 : tie.Need-returns-4 Inv-loop μ-loop
+returns-4 c = asks-end (c .before .loop .inv) (c .loop-test .left) ∙ answer (c .before .before)
 
 pub is-covered-spec : {M : Type 1} → statement M
 is-covered-spec =
@@ -108,16 +101,20 @@ is-covered-spec =
     start-of-requires
     end-of-requires
     loop-holds
-    shared-slice-read-after
-    after-requires
-    whole-at-requires
-    add-i
+    shared-slice-read-b
+    returns
+    sub-start
+    cast-start
+    mul-start
+    add-start
+    returns-2
+    add-if3
+    past-node-requires
     loop-less
     loop-again
-    start-as-requires
-    returns
-    end-as-requires
-    returns-2
+    whole-at-requires
+    returns-3
+    add-i
     loop-less-2
     loop-again-2
-    returns-3)
+    returns-4)
