@@ -1,18 +1,15 @@
 -- Numbers that fit, and the fractions of the finest resolution. Assumes nothing.
 use mathlib.Core.Path.{_≡_, sym, ap, ap₂, _∙_}
+use mathlib.Core.Bool.{Bool, true, false, cond}
 use Prim.Native.Nat.{ℕ, _+_, _-_, _*_, _/_, _^_, _≤_, _<_}
-use native.Mathlib.Nat.{mul-le-mul, mul-left-comm, mul-lt-mul-of-pos-left, mul-div-mul-left}
+use native.Mathlib.Nat.{mul-le-mul, mul-left-comm, mul-mul-mul-comm, mul-pos, mul-lt-mul-of-pos-left, mul-div-mul-left}
 use native.Mathlib.Omega.{arith}
 use lib.IntN.{subℕ}
 use Rattle.ternary.specs.Powers.{power-add}
-use Rattle.nucleus.specs.Nucleus.{floorZ}
+use Rattle.nucleus.specs.Nucleus.{floorZ, northZ, southZ}
 use Rattle.nucleus.specs.FlooredLaws.{floor-times}
 
--- a square of 24 bits
-pub square-lt : (m : ℕ) → m < 2 ^ 24 → m * m < 2 ^ 48
-square-lt m h = let a : m * m ≤ 16777215 * 16777215 = mul-le-mul {n₂ = 16777215} {m₂ = 16777215} (omega arith) (omega arith) in omega arith
-
--- the height's square is positive, and below the side's
+-- the height's square is at most the side's
 pub height-le : (m h : ℕ) → h < m → h * h ≤ m * m
 height-le m h l = mul-le-mul {n₂ = m} {m₂ = m} (omega arith) (omega arith)
 
@@ -34,3 +31,25 @@ module _ (up m : ℕ) (u0 : 0 < up) (m0 : 0 < m) (e : up * m ≡ 14348907) where
   -- a number of the coarser side, scaled
   pub finer-lt : (a : ℕ) → a < 2 * m → up * a < 28697814
   finer-lt a h = let l : up * a < up * (2 * m) = mul-lt-mul-of-pos-left h u0 in omega (arith, mul-left-comm up 2 m)
+
+  -- the squares grow by up up
+  grown : (x : ℕ) → up * x * (up * x) ≡ up * up * (x * x)
+  grown x = mul-mul-mul-comm up x up x
+
+  tripled : 3 * (14348907 * 14348907) ≡ up * up * (3 * (m * m))
+  tripled = ap (λ (x : ℕ). 3 * (x * x)) (sym e) ∙ ap (λ (x : ℕ). 3 * x) (grown m) ∙ mul-left-comm 3 (up * up) (m * m)
+
+  module _ (h : ℕ) where
+    side : 1000000000000000000 * (3 * (14348907 * 14348907)) ≡ up * up * (1000000000000000000 * (3 * (m * m)))
+    side = ap (λ (x : ℕ). 1000000000000000000 * x) tripled ∙ mul-left-comm 1000000000000000000 (up * up) (3 * (m * m))
+
+    tall : 1000000000000000000 * (up * h * (up * h)) ≡ up * up * (1000000000000000000 * (h * h))
+    tall = ap (λ (x : ℕ). 1000000000000000000 * x) (grown h) ∙ mul-left-comm 1000000000000000000 (up * up) (h * h)
+
+    three-pos : 0 < 3 * (m * m)
+    three-pos = omega (arith, mul-pos m0 m0)
+
+    pub finer-cap : (b : Bool) → cond b (southZ 14348907 (up * h)) (northZ 14348907 (up * h)) ≡ cond b (southZ m h) (northZ m h)
+    unfolding southZ northZ
+    finer-cap true = (λ i. floorZ (subℕ (tall i) (side i)) (tripled i)) ∙ floor-times (up * up) (1000000000000000000 * (h * h)) (1000000000000000000 * (3 * (m * m))) (3 * (m * m)) (mul-pos u0 u0) three-pos
+    finer-cap false = (λ i. floorZ (subℕ (side i) (tall i)) (tripled i)) ∙ floor-times (up * up) (1000000000000000000 * (3 * (m * m))) (1000000000000000000 * (h * h)) (3 * (m * m)) (mul-pos u0 u0) three-pos

@@ -6,7 +6,7 @@ ghost use lib.Dec.{eqb};
 ghost use lib.IntN.{pos, negℤ, subℕ};
 ghost use Rattle.cell.specs.Cell.{IsCell, IsArrangement};
 ghost use Rattle.locate.specs.Fix.{quarter};
-ghost use Rattle.nucleus.specs.Nucleus.{floorZ, centred, northNucleus, southNucleus, groundNucleus};
+ghost use Rattle.nucleus.specs.Nucleus.{floorZ, northZ, southZ, centred, northNucleus, southNucleus, groundNucleus};
 ghost use Rattle.nucleus.specs.TriangleLaws.{middle, OffCentre, Inside, IsStart};
 use cell::Arrangement;
 use cell::Cell;
@@ -27,30 +27,6 @@ struct Start {
     turn: u64,
     height: u64,
     along: u64,
-}
-
-// 10^18 n / d, floored.
-fn z_above(n: u64, d: u64) -> i64
-    requires { ⌜ n < d ⌝ }
-    requires { ⌜ d < 2 ^ 50 ⌝ }
-    ensures { λ r. ⌜ r ≡ floorZ (pos (10 ^ 18 * n)) d ⌝ }
-{
-    let q = division::scaled(1000, 6, n, d);
-    signed::as_signed(q.whole)
-}
-
-// -10^18 n / d, floored towards minus infinity: away from 0 where a rest is left.
-fn z_below(n: u64, d: u64) -> i64
-    requires { ⌜ n < d ⌝ }
-    requires { ⌜ d < 2 ^ 50 ⌝ }
-    ensures { λ r. ⌜ r ≡ floorZ (negℤ (pos (10 ^ 18 * n))) d ⌝ }
-{
-    let q = division::scaled(1000, 6, n, d);
-    let rest = q.rest;
-    if rest == 0 {
-        return signed::difference(0, q.whole);
-    }
-    signed::difference(0, q.whole + 1)
 }
 
 // The longitude in a face of O to R, of which along / (2 height) lies west of it, floored.
@@ -95,6 +71,27 @@ fn belt_z(b: u64) -> i64
 {
     let q = division::scaled(1_000_000_000, 2, 2 * apart(FINEST, b), 3 * FINEST);
     floored(FINEST < b, q)
+}
+
+// z of a start of that height, for m = 3^15.
+fn cap_z(south: bool, h: u64) -> i64
+    requires { ⌜ 0 < h ⌝ }
+    requires { ⌜ h < 3 ^ 15 ⌝ }
+    ensures { λ r. ⌜ r ≡ cond south (southZ (3 ^ 15) h) (northZ (3 ^ 15) h) ⌝ }
+{
+    let d = 3 * (FINEST * FINEST);
+    let q = division::scaled(1000, 6, d - h * h, d);
+    floored(south, q)
+}
+
+// z of a pole.
+fn pole_z(south: bool) -> i64
+    ensures { λ r. ⌜ r ≡ cond south (negℤ (pos (10 ^ 18))) (pos (10 ^ 18)) ⌝ }
+{
+    if south {
+        return signed::difference(0, 1_000_000_000_000_000_000);
+    }
+    signed::as_signed(1_000_000_000_000_000_000)
 }
 
 // Whether the middle of a cap's cell, a / 2m from the left and b / 2m from the top, is the pole.
@@ -145,46 +142,47 @@ fn start_of(m: u64, a: u64, b: u64) -> Start
     }
 }
 
-// A cell of N.
-fn north_nucleus(n: u64, m: u64, a: u64, b: u64) -> Fix
-    requires { ⌜ n ≤ 3 ⌝ }
+// In the south a middle is mirrored from top to bottom.
+fn mirrored(south: bool, m: u64, b: u64) -> u64
+    requires { ⌜ m < 2 ^ 24 ⌝ }
+    requires { ⌜ b < 2 * m ⌝ }
+    ensures { λ r. ⌜ r ≡ cond south (2 * m - b) b ⌝ }
+{
+    if south {
+        return 2 * m - b;
+    }
+    b
+}
+
+// A cell of N or S, where `first` is n or s.
+fn cap_nucleus(south: bool, first: u64, up: u64, m: u64, a: u64, b: u64) -> Fix
+    requires { ⌜ first ≤ 3 ⌝ }
     requires { ⌜ Inside m a b ⌝ }
-    ensures { λ r. ⌜ r ≡ northNucleus n m (middle m a b) ⌝ }
+    requires { ⌜ (0 < up) × (up * m ≡ 3 ^ 15) ⌝ }
+    ensures { λ r. ⌜ r ≡ cond south (southNucleus first m (middle m a b)) (northNucleus first m (middle m a b)) ⌝ }
 {
     if is_centre(m, a, b) {
         return Fix {
-            longitude: signed::difference(0, 1_800_000_000), // at the north pole
-            z: signed::as_signed(1_000_000_000_000_000_000),
+            longitude: signed::difference(0, 1_800_000_000), // at a pole
+            z: pole_z(south),
         };
     }
-    let start = start_of(m, a, b);
+    let start = start_of(m, a, mirrored(south, m, b));
     let h = start.height;
-    let d = 3 * (m * m);
     Fix {
-        longitude: longitude_at((n + start.turn) % 4, start.along, h),
-        z: z_above(d - h * h, d),
+        longitude: longitude_at((first + start.turn) % 4, start.along, h),
+        z: cap_z(south, up * h),
     }
 }
 
-// A cell of S: the start of the mirrored middle.
-fn south_nucleus(s: u64, m: u64, a: u64, b: u64) -> Fix
-    requires { ⌜ s ≤ 3 ⌝ }
-    requires { ⌜ Inside m a b ⌝ }
-    ensures { λ r. ⌜ r ≡ southNucleus s m (middle m a b) ⌝ }
+// n or s.
+fn first_of(arrangement: Arrangement, south: bool) -> u64
+    ensures { λ r. ⌜ r ≡ cond south (arrangement .south) (arrangement .north) ⌝ }
 {
-    if is_centre(m, a, b) {
-        return Fix {
-            longitude: signed::difference(0, 1_800_000_000), // at the south pole
-            z: signed::difference(0, 1_000_000_000_000_000_000),
-        };
+    if south {
+        return arrangement.south;
     }
-    let start = start_of(m, a, 2 * m - b);
-    let h = start.height;
-    let d = 3 * (m * m);
-    Fix {
-        longitude: longitude_at((s + start.turn) % 4, start.along, h),
-        z: z_below(d - h * h, d),
-    }
+    arrangement.north
 }
 
 // The longitude and z that the rules send to the middle of a cell, each floored.
@@ -195,17 +193,17 @@ pub fn ground_nucleus(arrangement: Arrangement, cell: Cell) -> Fix
 {
     let face = cell.face;
     let m = ternary::power(cell.resolution);
+    let up = ternary::power(15 - cell.resolution);
     let a = 2 * cell.column + 1;
     let b = 2 * cell.row + 1;
-    if face < 1 {
-        return north_nucleus(arrangement.north, m, a, b);
+    if face > 0 {
+        if face < 5 {
+            return Fix {
+                longitude: longitude_at(face - 1, up * a, FINEST),
+                z: belt_z(up * b),
+            };
+        }
     }
-    if face < 5 {
-        let up = ternary::power(15 - cell.resolution);
-        return Fix {
-            longitude: longitude_at(face - 1, up * a, FINEST),
-            z: belt_z(up * b),
-        };
-    }
-    south_nucleus(arrangement.south, m, a, b)
+    let south = face > 4;
+    cap_nucleus(south, first_of(arrangement, south), up, m, a, b)
 }
