@@ -78,7 +78,11 @@ fn belt_row(resolution: u64, m: u64, offset: u64) -> u64
     requires { ⌜ offset < 4 * 10 ^ 18 ⌝ }
     ensures { λ r. ⌜ r ≡ 3 ^ resolution * offset / (4 * 10 ^ 18) ⌝ }
 {
-    finest_row(offset) * m / FINEST
+    let row = finest_row(offset);
+    if resolution < 15 {
+        return row * m / FINEST;
+    }
+    row
 }
 
 // "face c of O to R, column floor(a m / 900,000,000), row floor(m (2 x 10^18 - 3z) / (4 x 10^18))"

@@ -204,5 +204,9 @@ pub fn floor(k: u64, m: u64, t: u64, root: u64, p: Axis) -> u64
     requires { ⌜ (k ≤ 15) × (m ≡ 3 ^ k) × (t < 10 ^ 18) × (p .size ≤ 900000000) × (root * root ≤ t) × (t < (root + 1) * (root + 1)) ⌝ }
     ensures { λ r. ⌜ (r ≡ rootFloor (3 ^ k) t (axisOf p)) × (r < 3 ^ k) ⌝ }
 {
-    finest(t, root, p) * m / FINEST
+    let w = finest(t, root, p);
+    if k < 15 {
+        return w * m / FINEST;
+    }
+    w
 }

@@ -1,5 +1,5 @@
 -- `root::floor` meets its contract: the resolutions agree. Assumes nothing.
-use mathlib.Core.Path.{_≡_, sym, ap, ap₂, _∙_}
+use mathlib.Core.Path.{_≡_, sym, ap, ap₂, _∙_, subst}
 use Prim.Native.Nat.{ℕ, _+_, _-_, _*_, _/_, _^_, _≤_, _<_}
 use native.Mathlib.Nat.{le-of-lt, mul-le-mul, mul-div-mul-right}
 use native.Mathlib.Omega.{arith}
@@ -24,18 +24,28 @@ finest-requires c κs = search needs
 
 mul-result : tie.Need-mul-result
 mul-result c =
-    let s = c .before in
+    let f = c .before in
+    let s = f .before in
     let l = power-le {i = s .args .k} {j = 15} (s .pre .0) in
-    omega (arith, mul-le-mul {n₁ = c .finest .result} {m₁ = s .args .m} {n₂ = 14348907} {m₂ = 14348907} (le-of-lt (c .finest .ensures .1)) (omega (arith, s .pre .1)))
+    omega (arith, mul-le-mul {n₁ = f .finest .result} {m₁ = s .args .m} {n₂ = 14348907} {m₂ = 14348907} (le-of-lt (f .finest .ensures .1)) (omega (arith, s .pre .1)))
 
 returns : tie.Need-returns
 returns c =
-    let s = c .before in
+    let f = c .before in
+    let s = f .before in
     let t = s .args .t in
     let p = axisOf (s .args .p) in
     let hp : natAbs p ≤ 900000000 = rw (axis-size (s .args .p)) (s .pre .3) in
-    let e = ap₂ (λ (w m : ℕ). w * m / 14348907) (c .finest .ensures .0) (s .pre .1) ∙ coarser (s .args .k) t p (s .pre .0) hp (s .pre .2) in
+    let e = ap₂ (λ (w m : ℕ). w * m / 14348907) (f .finest .ensures .0) (s .pre .1) ∙ coarser (s .args .k) t p (s .pre .0) hp (s .pre .2) in
     (e, rw e (floor-below (3 ^ s .args .k) t p (power-pos (s .args .k)) hp (s .pre .2)))
 
+returns-2 : tie.Need-returns-2
+returns-2 c =
+    let f = c .before in
+    let s = f .before in
+    let e : 15 ≡ s .args .k = omega (arith, s .pre .0, c .if1 .left) in
+    let w : ℕ = f .finest .result in
+    subst (λ (k : ℕ). (w ≡ rootFloor (3 ^ k) (s .args .t) (axisOf (s .args .p))) × (w < 3 ^ k)) e (f .finest .ensures)
+
 pub floor-spec : {M : Type 1} → statement M
-floor-spec = tie.close (tie.spec finest-requires mul-result returns)
+floor-spec = tie.close (tie.spec finest-requires mul-result returns returns-2)
