@@ -47,20 +47,29 @@ fn apart(x: u64, y: u64) -> u64
     if x < y { y - x } else { x - y }
 }
 
-// A fraction, floored towards minus infinity, by its sign and the quotient of its size.
+// x or y.
+fn chosen(first: bool, x: u64, y: u64) -> u64
+    ensures { λ r. ⌜ r ≡ cond first x y ⌝ }
+{
+    if first { x } else { y }
+}
+
+// What a rest adds to the size of a fraction below 0.
+fn more_of(rest: u64) -> u64
+    ensures { λ r. ⌜ (r ≡ cond (eqb rest 0) 0 1) × (r ≤ 1) ⌝ }
+{
+    if rest == 0 { 0 } else { 1 }
+}
+
+// A fraction, floored towards minus infinity, by its sign and the quotient of its size: below 0 a rest leads away from 0.
 fn floored(minus: bool, q: Quotient) -> i64
     requires { ⌜ q .whole < 10 ^ 18 ⌝ }
     ensures { λ r. ⌜ r ≡ cond minus (subℕ 0 (q .whole + cond (eqb (q .rest) 0) 0 1)) (pos (q .whole)) ⌝ }
 {
     let whole = q.whole;
     let rest = q.rest;
-    if minus {
-        if rest == 0 {
-            return signed::difference(0, whole);
-        }
-        return signed::difference(0, whole + 1);
-    }
-    signed::as_signed(whole)
+    let more = more_of(rest);
+    signed::difference(chosen(minus, 0, whole), chosen(minus, whole + more, 0))
 }
 
 // z of a cell of the belt whose middle lies b / 2m of the side below the top, for m = 3^15.
