@@ -16,6 +16,18 @@ struct Flight {
     stop: u64,
 }
 
+// A flight after one more line.
+fn after_line(count: usize, lines: u64, stop: u64) -> Flight
+    ensures { λ r. ⌜ (r .count ≡ count) × (r .at ≡ 0) ⌝ }
+{
+    Flight {
+        count,
+        lines,
+        at: 0,
+        stop,
+    }
+}
+
 // One line. A fix that is refused, and a line that is no fix, is said and skipped.
 fn fly_line(
     n: u64,
@@ -33,28 +45,13 @@ fn fly_line(
     let stop = flight.stop;
     let lines = console::next(flight.lines);
     match flight::fly(n, s, resolution, line, codes, count) {
-        Added::Count(held) => Flight {
-            count: held,
-            lines,
-            at: 0,
-            stop,
-        },
+        Added::Count(held) => after_line(held, lines, stop),
         Added::Refused(refusal) => {
             if refusal == 8 {
-                return Flight {
-                    count,
-                    lines,
-                    at: 0,
-                    stop: 8,
-                };
+                return after_line(count, lines, 8);
             }
             console::say_line(b"record", lines, refusal);
-            Flight {
-                count,
-                lines,
-                at: 0,
-                stop,
-            }
+            after_line(count, lines, stop)
         }
     }
 }
