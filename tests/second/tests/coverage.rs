@@ -239,6 +239,12 @@ mod all_short_texts {
     }
 
     #[test]
+    fn after_a_heading_up_to_eight_bytes() {
+        let counts = same_after(b"", b"O08()", 8, 0);
+        say(&format!("all bodies of five bytes (all, accepted): {counts:?}"));
+    }
+
+    #[test]
     fn after_eight_whole_nodes_and_near_the_deepest() {
         let mut counts = Vec::new();
         for depth in [0, 1, 13, 14, 15] {
