@@ -4,17 +4,21 @@ use mathlib.Core.Bool.{Bool, false}
 use Prim.Native.Nat.{ℕ, zero, suc}
 use native.Mathlib.Omega.{arith}
 use Rattle.logic.specs.Refusal.{_otherwise_, given}
-use Rattle.logic.specs.RefusalLaws.{stops, passes, given-value, given-none}
+use Rattle.logic.specs.RefusalLaws.{passes, both, given-value, given-none}
 use Rattle.ternary.specs.Digits.{value}
 use Rattle.cell.specs.declared.Cell.{Cell}
 use Rattle.cell.specs.declared.Found.{Found}
 use Rattle.cell.specs.declared.Found.the-variants as found-as
-use Rattle.cell.specs.Cell.{IsCell, arrangementRefusal, found, refusalIn, cellIn}
+use Rattle.cell.specs.declared.Arrangement.{Arrangement}
+use Rattle.cell.specs.Cell.{IsCell, IsArrangement, found, refusalIn, cellIn}
+use Rattle.cell.specs.CellLaws.{is-arrangement}
+use Rattle.cell.specs.FoundLaws.{found-at, found-refused}
 use Rattle.code.specs.declared.Coded.{Coded}
-use Rattle.code.specs.Code.{codeOf, cellOf, codeRefusal, coded}
+use Rattle.code.specs.Code.{codeOf, cellOf, coded}
+use Rattle.code.specs.CodeLaws.{a-code, code-is-cell}
 use Rattle.name.specs.Name.{named}
 use Rattle.jeguarivo.specs.declared.CodeAnswer.{CodeAnswer}
-use Rattle.jeguarivo.specs.Entries.{codeAnswer, codedAnswer, foundAnswer, cellAnswer, namedAnswer, lengthAnswer, placedRefusal}
+use Rattle.jeguarivo.specs.Entries.{codeAnswer, codedAnswer, foundAnswer, cellAnswer, namedAnswer, lengthAnswer, arrangement, placedRefusal, placedAnswer}
 
 -- ---- codes as answers
 
@@ -73,20 +77,26 @@ value-given {y = y} none e h = h ∙ sym (given-value y none e)
 pub zero-given {ℓ} : {A : Type ℓ} {r : ℕ} (y none : A) → r ≡ 4 → none ≡ given r y none
 zero-given {r = r} y none e = sym (given-none r y none (λ z. omega arith))
 
--- ---- answers of the plane: 5, 4, or the value
+-- ---- answers in an arrangement: 5, 4, or the value
 
-pub arrangement-first : {q : ℕ} (n s code : ℕ) → q ≡ arrangementRefusal (record { north = n; south = s }) → (q ≡ 0 → ⊥) → q ≡ placedRefusal n s code
-unfolding placedRefusal
-arrangement-first n s code e h = e ∙ sym (stops _ _ (λ z. h (e ∙ z)))
+-- what a found cell says
+module _ (n s code : ℕ) {f : Found} (e : f ≡ found (placedRefusal (arrangement n s) code) (cellOf code)) where
+  pub placed-stands : {x : Cell} → f ≡ found-as.At x → IsArrangement (arrangement n s) × IsCell x
+  unfolding placedRefusal
+  placed-stands {x} h =
+      let p = found-at (placedRefusal (arrangement n s) code) (cellOf code) x (sym h ∙ e) in
+      let q = both _ _ (p .0) in
+      (is-arrangement (q .0), subst IsCell (sym (p .1)) (code-is-cell code (a-code code (q .1))))
 
-pub four-second : {q : ℕ} (n s code : ℕ) → q ≡ arrangementRefusal (record { north = n; south = s }) → q ≡ 0 → codeRefusal code ≡ 4 → 4 ≡ placedRefusal n s code
-unfolding placedRefusal
-four-second n s code e z f = sym (passes _ (sym e ∙ z) ∙ f)
+  pub placed-value {ℓ} : {A : Type ℓ} (value : Arrangement → Cell → A) (none : ℕ → A) {x : Cell} {y : A} → f ≡ found-as.At x → y ≡ value (arrangement n s) x → y ≡ placedAnswer n s code value none
+  unfolding placedAnswer
+  placed-value of none {x} h v =
+      let p = found-at (placedRefusal (arrangement n s) code) (cellOf code) x (sym h ∙ e) in
+      value-given (none (placedRefusal (arrangement n s) code)) (p .0) (v ∙ ap (of (arrangement n s)) (p .1))
 
-pub placed : {q : ℕ} (n s code : ℕ) → q ≡ arrangementRefusal (record { north = n; south = s }) → q ≡ 0 → codeRefusal code ≡ 0 → placedRefusal n s code ≡ 0
-unfolding placedRefusal
-placed n s code e z f = passes _ (sym e ∙ z) ∙ f
-
--- a refusal, and the answer that stands for it
-pub given-refusal {ℓ} : {A : Type ℓ} {r q : ℕ} (x : A) (none : ℕ → A) → r ≡ q → (r ≡ 0 → ⊥) → none r ≡ given q x (none q)
-given-refusal {r = r} {q = q} x none e h = ap none e ∙ sym (given-none q x (none q) (λ z. h (e ∙ z)))
+  pub placed-none {ℓ} : {A : Type ℓ} (value : Arrangement → Cell → A) (none : ℕ → A) {q : ℕ} → f ≡ found-as.Refused q → none q ≡ placedAnswer n s code value none
+  unfolding placedAnswer
+  placed-none of none {q} h =
+      let r = placedRefusal (arrangement n s) code in
+      let p = found-refused r (cellOf code) q (sym h ∙ e) in
+      ap none (p .0) ∙ sym (given-none r (of (arrangement n s) (cellOf code)) (none r) (p .1))

@@ -123,8 +123,13 @@ cornerCount code = record { refusal = codeRefusal code; count = given (codeRefus
 -- ---- the plane
 
 -- 5 before 4
-unfoldable pub placedRefusal : (n s code : ℕ) → ℕ
-placedRefusal n s code = arrangementRefusal (arrangement n s) otherwise codeRefusal code
+unfoldable pub placedRefusal : Arrangement → (code : ℕ) → ℕ
+placedRefusal a code = arrangementRefusal a otherwise codeRefusal code
+
+-- what an arrangement and a cell give, or the refusal and zeros
+unfoldable pub placedAnswer {ℓ} : {A : Type ℓ} (n s code : ℕ) → (Arrangement → Cell → A) → (ℕ → A) → A
+placedAnswer n s code value none =
+    given (placedRefusal (arrangement n s) code) (value (arrangement n s) (cellOf code)) (none (placedRefusal (arrangement n s) code))
 
 abbrev pub noSquare : ℕ → SquareAnswer
 noSquare refusal = record { refusal = refusal; left = pos 0; top = pos 0; side = pos 0 }
@@ -133,7 +138,7 @@ abbrev pub aSquare : Square → SquareAnswer
 aSquare square = record { refusal = 0; left = square .left; top = square .top; side = square .side }
 
 unfoldable pub cellSquare : (n s code : ℕ) → SquareAnswer
-cellSquare n s code = given (placedRefusal n s code) (aSquare (squareOf (arrangement n s) (cellOf code))) (noSquare (placedRefusal n s code))
+cellSquare n s code = placedAnswer n s code (λ a c. aSquare (squareOf a c)) noSquare
 
 abbrev pub noPoint : ℕ → PointAnswer
 noPoint refusal = record { refusal = refusal; x = pos 0; y = pos 0 }
@@ -142,7 +147,7 @@ abbrev pub aPoint : Point → PointAnswer
 aPoint point = record { refusal = 0; x = point .x; y = point .y }
 
 unfoldable pub cellNucleus : (n s code : ℕ) → PointAnswer
-cellNucleus n s code = given (placedRefusal n s code) (aPoint (nucleusOf (arrangement n s) (cellOf code))) (noPoint (placedRefusal n s code))
+cellNucleus n s code = placedAnswer n s code (λ a c. aPoint (nucleusOf a c)) noPoint
 
 abbrev pub noVertices : ℕ → VerticesAnswer
 noVertices refusal = record { refusal = refusal; x = pos 0 ∷ pos 0 ∷ pos 0 ∷ pos 0 ∷ []; y = pos 0 ∷ pos 0 ∷ pos 0 ∷ pos 0 ∷ [] }
@@ -151,8 +156,7 @@ abbrev pub theVertices : Vertices → VerticesAnswer
 theVertices vertices = record { refusal = 0; x = vertices .x; y = vertices .y }
 
 unfoldable pub cellVertices : (n s code : ℕ) → VerticesAnswer
-cellVertices n s code =
-    given (placedRefusal n s code) (theVertices (verticesOf (arrangement n s) (cellOf code))) (noVertices (placedRefusal n s code))
+cellVertices n s code = placedAnswer n s code (λ a c. theVertices (verticesOf a c)) noVertices
 
 -- ---- the ground
 
@@ -163,4 +167,4 @@ abbrev pub aFix : Fix → FixAnswer
 aFix fix = record { refusal = 0; longitude = fix .longitude; z = fix .z }
 
 unfoldable pub groundFix : (n s code : ℕ) → FixAnswer
-groundFix n s code = given (placedRefusal n s code) (aFix (groundNucleus (arrangement n s) (cellOf code))) (noFix (placedRefusal n s code))
+groundFix n s code = placedAnswer n s code (λ a c. aFix (groundNucleus a c)) noFix

@@ -4,14 +4,14 @@ ghost use mathlib.Core.Path.{_≡_};
 ghost use mathlib.Core.Bool.{cond};
 ghost use lib.ListN.{length};
 ghost use Rattle.logic.specs.Refusal.{given};
-ghost use Rattle.cell.specs.Cell.{IsCell, refusalIn, cellIn};
-ghost use Rattle.code.specs.Code.{codeOf};
+ghost use Rattle.cell.specs.Cell.{IsCell, refusalIn, cellIn, found};
+ghost use Rattle.code.specs.Code.{codeOf, cellOf};
 ghost use Rattle.name.specs.Name.{codeNameRefusal, nameIn};
 ghost use Rattle.listing.specs.List.{listRefusal, codesIn};
 ghost use Rattle.jeguarivo.specs.Texts.{checkedText, listedText, askedText, writtenText};
 ghost use Rattle.jeguarivo.specs.Entries.{arrangement};
 ghost use Rattle.writing.specs.WriteEntry.{writeRefusal, textIn};
-ghost use Rattle.jeguarivo.specs.Entries.{codeAnswer, codedAnswer, cellCode, codeCell, nameAnswer, writtenName, parentCode, childCode, cellSize, cellShape, cornerCount, cellSquare, cellNucleus, cellVertices, pointCode, neighbourCode, fixCode, groundFix, noSquare, noPoint, noFix, noVertices};
+ghost use Rattle.jeguarivo.specs.Entries.{codeAnswer, codedAnswer, cellCode, codeCell, nameAnswer, writtenName, parentCode, childCode, cellSize, cellShape, cornerCount, cellSquare, cellNucleus, cellVertices, pointCode, neighbourCode, fixCode, groundFix, placedRefusal};
 use asking::Asked;
 use cell::Arrangement;
 use cell::Cell;
@@ -327,25 +327,39 @@ pub extern "C" fn jgv_neighbour(n: u64, s: u64, code: u64, direction: u64) -> Co
     found_answer(cell.step(arrangement, direction))
 }
 
+// The cell of a code in an arrangement: 5 where n or s is above 3, 4 where the code is no cell's.
+fn placed(arrangement: Arrangement, code: u64) -> Found
+    ensures { λ r. ⌜ r ≡ found (placedRefusal arrangement code) (cellOf code) ⌝ }
+{
+    let refusal = arrangement.refusal();
+    if refusal != 0 {
+        return Found::Refused(refusal);
+    }
+    code::cell_of(code)
+}
+
 // 5 where n or s is above 3, 4 where the code is no cell's.
 #[no_mangle]
 pub extern "C" fn jgv_square(n: u64, s: u64, code: u64) -> SquareAnswer
     ensures { λ r. ⌜ r ≡ cellSquare n s code ⌝ }
 {
     let arrangement = Arrangement { north: n, south: s };
-    let refusal = arrangement.refusal();
-    if refusal != 0 {
-        return refused_square(refusal);
-    }
-    let Found::At(cell) = code::cell_of(code) else {
-        return refused_square(4);
-    };
-    let square = plane::square_of(arrangement, cell);
-    SquareAnswer {
-        refusal: 0,
-        left: square.left,
-        top: square.top,
-        side: square.side,
+    match placed(arrangement, code) {
+        Found::At(cell) => {
+            let square = plane::square_of(arrangement, cell);
+            SquareAnswer {
+                refusal: 0,
+                left: square.left,
+                top: square.top,
+                side: square.side,
+            }
+        }
+        Found::Refused(refusal) => SquareAnswer {
+            refusal,
+            left: 0,
+            top: 0,
+            side: 0,
+        },
     }
 }
 
@@ -355,18 +369,20 @@ pub extern "C" fn jgv_nucleus(n: u64, s: u64, code: u64) -> PointAnswer
     ensures { λ r. ⌜ r ≡ cellNucleus n s code ⌝ }
 {
     let arrangement = Arrangement { north: n, south: s };
-    let refusal = arrangement.refusal();
-    if refusal != 0 {
-        return refused_point(refusal);
-    }
-    let Found::At(cell) = code::cell_of(code) else {
-        return refused_point(4);
-    };
-    let point = plane::nucleus_of(arrangement, cell);
-    PointAnswer {
-        refusal: 0,
-        x: point.x,
-        y: point.y,
+    match placed(arrangement, code) {
+        Found::At(cell) => {
+            let point = plane::nucleus_of(arrangement, cell);
+            PointAnswer {
+                refusal: 0,
+                x: point.x,
+                y: point.y,
+            }
+        }
+        Found::Refused(refusal) => PointAnswer {
+            refusal,
+            x: 0,
+            y: 0,
+        },
     }
 }
 
@@ -376,17 +392,19 @@ pub extern "C" fn jgv_vertices(n: u64, s: u64, code: u64) -> VerticesAnswer
     ensures { λ r. ⌜ r ≡ cellVertices n s code ⌝ }
 {
     let arrangement = Arrangement { north: n, south: s };
-    let refusal = arrangement.refusal();
-    if refusal != 0 {
-        return refused_vertices(refusal);
+    match placed(arrangement, code) {
+        Found::At(cell) => {
+            let vertices = plane::vertices_of(arrangement, cell);
+            let x = vertices.x;
+            let y = vertices.y;
+            VerticesAnswer { refusal: 0, x, y }
+        }
+        Found::Refused(refusal) => VerticesAnswer {
+            refusal,
+            x: [0; 4],
+            y: [0; 4],
+        },
     }
-    let Found::At(cell) = code::cell_of(code) else {
-        return refused_vertices(4);
-    };
-    let vertices = plane::vertices_of(arrangement, cell);
-    let x = vertices.x;
-    let y = vertices.y;
-    VerticesAnswer { refusal: 0, x, y }
 }
 
 // 5 where n or s is above 3, 4 where the code is no cell's.
@@ -395,59 +413,20 @@ pub extern "C" fn jgv_ground_nucleus(n: u64, s: u64, code: u64) -> FixAnswer
     ensures { λ r. ⌜ r ≡ groundFix n s code ⌝ }
 {
     let arrangement = Arrangement { north: n, south: s };
-    let refusal = arrangement.refusal();
-    if refusal != 0 {
-        return refused_fix(refusal);
-    }
-    let Found::At(cell) = code::cell_of(code) else {
-        return refused_fix(4);
-    };
-    let fix = nucleus::ground_nucleus(arrangement, cell);
-    FixAnswer {
-        refusal: 0,
-        longitude: fix.longitude,
-        z: fix.z,
-    }
-}
-
-fn refused_square(refusal: u64) -> SquareAnswer
-    ensures { λ r. ⌜ r ≡ noSquare refusal ⌝ }
-{
-    SquareAnswer {
-        refusal,
-        left: 0,
-        top: 0,
-        side: 0,
-    }
-}
-
-fn refused_point(refusal: u64) -> PointAnswer
-    ensures { λ r. ⌜ r ≡ noPoint refusal ⌝ }
-{
-    PointAnswer {
-        refusal,
-        x: 0,
-        y: 0,
-    }
-}
-
-fn refused_fix(refusal: u64) -> FixAnswer
-    ensures { λ r. ⌜ r ≡ noFix refusal ⌝ }
-{
-    FixAnswer {
-        refusal,
-        longitude: 0,
-        z: 0,
-    }
-}
-
-fn refused_vertices(refusal: u64) -> VerticesAnswer
-    ensures { λ r. ⌜ r ≡ noVertices refusal ⌝ }
-{
-    VerticesAnswer {
-        refusal,
-        x: [0; 4],
-        y: [0; 4],
+    match placed(arrangement, code) {
+        Found::At(cell) => {
+            let fix = nucleus::ground_nucleus(arrangement, cell);
+            FixAnswer {
+                refusal: 0,
+                longitude: fix.longitude,
+                z: fix.z,
+            }
+        }
+        Found::Refused(refusal) => FixAnswer {
+            refusal,
+            longitude: 0,
+            z: 0,
+        },
     }
 }
 

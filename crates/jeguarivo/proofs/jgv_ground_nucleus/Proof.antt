@@ -1,81 +1,46 @@
 -- `jgv_ground_nucleus` meets its contract. Assumes nothing.
-use mathlib.Core.Path.{_≡_, sym, ap, _∙_}
+use mathlib.Core.Path.{_≡_, ap, _∙_}
 use Rattle.signed.specs.SignLaws.{back-result}
-use Rattle.cell.specs.declared.Cell.{Cell}
-use Rattle.cell.specs.CellLaws.{is-arrangement}
-use Rattle.code.specs.Code.{cellOf}
 use Rattle.nucleus.specs.Nucleus.{groundNucleus}
-use Rattle.jeguarivo.specs.Entries.{groundFix, noFix, aFix}
-use Rattle.code.specs.DecodedLaws.{decoded, undecoded}
-use Rattle.jeguarivo.proofs.Laws.{arrangement-first, four-second, placed, given-refusal, value-given}
-use native.Mathlib.Omega.{arith}
+use Rattle.jeguarivo.specs.Entries.{groundFix, aFix, noFix}
+use Rattle.jeguarivo.proofs.Laws.{placed-stands, placed-value, placed-none}
 use borrow.Author.Needs.{needs}
 use Rattle.jeguarivo.proofs.jgv_ground_nucleus.Statement.{statement}
 use Rattle.jeguarivo.proofs.jgv_ground_nucleus.Tie as tie
 
-refusal-requires : tie.Need-refusal-requires
-refusal-requires c κs = search needs
-
-refused-fix-requires : tie.Need-refused-fix-requires
-refused-fix-requires c κs = search needs
-
-returns : tie.Need-returns
-unfolding groundFix
-returns c =
-    let a = c .before .before .before .args in
-    c .refused-fix .ensures
-    ∙ given-refusal (aFix (groundNucleus (record { north = a .n; south = a .s }) (cellOf (a .code)))) noFix (arrangement-first (a .n) (a .s) (a .code) (c .before .before .refusal .ensures) (c .before .if1 .taken)) (c .before .if1 .taken)
-
-cell-of-requires : tie.Need-cell-of-requires
-cell-of-requires c κs = search needs
+placed-requires : tie.Need-placed-requires
+placed-requires c κs = search needs
 
 enum-known-cell : tie.Need-enum-known-cell
 enum-known-cell c = search needs
 
-enum-told : tie.Need-enum-told
-enum-told c = search needs
+ground-nucleus-requires : tie.Need-ground-nucleus-requires
+ground-nucleus-requires c κs =
+    let p = c .before .before .before in
+    let a = p .before .args in
+    placed-stands (a .n) (a .s) (a .code) (p .placed .ensures) (c .before .cell .given .1)
 
-refused-fix-requires-2 : tie.Need-refused-fix-requires-2
-refused-fix-requires-2 c κs = search needs
+enum-known-refusal : tie.Need-enum-known-refusal
+enum-known-refusal c = search needs
+
+returns : tie.Need-returns
+unfolding groundFix
+returns c =
+    let q = c .before in
+    let x = q .before .before in
+    let p = x .before .before in
+    let a = p .before .args in
+    placed-value (a .n) (a .s) (a .code) (p .placed .ensures) (λ a c. aFix (groundNucleus a c)) noFix (x .cell .given .1)
+    ((λ i. record { refusal = 0; longitude = back-result (q .ground-nucleus .result .longitude) (c .struct-told .given .0 .1) i; z = back-result (q .ground-nucleus .result .z) (c .struct-told .given .1 .0 .1) i })
+    ∙ ap aFix (q .ground-nucleus .ensures))
 
 returns-2 : tie.Need-returns-2
 unfolding groundFix
 returns-2 c =
-    let u = c .before .before .before in
-    let f = u .before in
-    let a = f .before .before .args in
-    c .refused-fix2 .ensures
-    ∙ given-refusal (aFix (groundNucleus (record { north = a .n; south = a .s }) (cellOf (a .code)))) noFix (four-second (a .n) (a .s) (a .code) (f .before .refusal .ensures) (f .if1 .left) (undecoded (a .code) (u .cell-of .ensures) (c .before .enum-told .given .1))) (λ z. omega arith)
-
-ground-nucleus-requires : tie.Need-ground-nucleus-requires
-ground-nucleus-requires c κs =
-    let u = c .before .before .before in
-    let f = u .before in
-    (is-arrangement (sym (f .before .refusal .ensures) ∙ f .if1 .left), decoded _ (u .cell-of .ensures) (c .before .cell .given .1) .cell)
-
-returns-3 : tie.Need-returns-3
-unfolding groundFix
-returns-3 c =
-    let q = c .before in
-    let x = q .before .before in
-    let u = x .before .before in
-    let f = u .before in
-    let a = f .before .before .args in
-    let d = decoded (a .code) (u .cell-of .ensures) (x .cell .given .1) in
-    value-given _ (placed (a .n) (a .s) (a .code) (f .before .refusal .ensures) (f .if1 .left) (d .allowed))
-    ((λ i. record { refusal = 0; longitude = back-result (c .before .ground-nucleus .result .longitude) (c .struct-told .given .0 .1) i; z = back-result (c .before .ground-nucleus .result .z) (c .struct-told .given .1 .0 .1) i }) ∙ ap aFix (q .ground-nucleus .ensures) ∙ ap (λ (y : Cell). aFix (groundNucleus (record { north = a .n; south = a .s }) y)) (d .is))
+    let p = c .before .before .before in
+    let a = p .before .args in
+    placed-none (a .n) (a .s) (a .code) (p .placed .ensures) (λ a c. aFix (groundNucleus a c)) noFix (c .before .refusal .given .1)
 
 pub jgv-ground-nucleus-spec : {M : Type 1} → statement M
 jgv-ground-nucleus-spec =
-    tie.close
-    (tie.spec
-    refusal-requires
-    refused-fix-requires
-    returns
-    cell-of-requires
-    enum-known-cell
-    enum-told
-    refused-fix-requires-2
-    returns-2
-    ground-nucleus-requires
-    returns-3)
+    tie.close (tie.spec placed-requires enum-known-cell ground-nucleus-requires enum-known-refusal returns returns-2)

@@ -1,80 +1,43 @@
 -- `jgv_vertices` meets its contract. Assumes nothing.
-use mathlib.Core.Path.{_≡_, sym, ap, _∙_}
-use Rattle.cell.specs.declared.Cell.{Cell}
-use Rattle.cell.specs.CellLaws.{is-arrangement}
-use Rattle.code.specs.Code.{cellOf}
+use mathlib.Core.Path.{_≡_, ap}
 use Rattle.plane.specs.Plane.{verticesOf}
-use Rattle.jeguarivo.specs.Entries.{cellVertices, noVertices, theVertices}
-use Rattle.code.specs.DecodedLaws.{decoded, undecoded}
-use Rattle.jeguarivo.proofs.Laws.{arrangement-first, four-second, placed, given-refusal, value-given}
-use native.Mathlib.Omega.{arith}
+use Rattle.jeguarivo.specs.Entries.{cellVertices, theVertices, noVertices}
+use Rattle.jeguarivo.proofs.Laws.{placed-stands, placed-value, placed-none}
 use borrow.Author.Needs.{needs}
 use Rattle.jeguarivo.proofs.jgv_vertices.Statement.{statement}
 use Rattle.jeguarivo.proofs.jgv_vertices.Tie as tie
 
-refusal-requires : tie.Need-refusal-requires
-refusal-requires c κs = search needs
-
-refused-vertices-requires : tie.Need-refused-vertices-requires
-refused-vertices-requires c κs = search needs
-
-returns : tie.Need-returns
-unfolding cellVertices
-returns c =
-    let a = c .before .before .before .args in
-    c .refused-vertices .ensures
-    ∙ given-refusal (theVertices (verticesOf (record { north = a .n; south = a .s }) (cellOf (a .code)))) noVertices (arrangement-first (a .n) (a .s) (a .code) (c .before .before .refusal .ensures) (c .before .if1 .taken)) (c .before .if1 .taken)
-
-cell-of-requires : tie.Need-cell-of-requires
-cell-of-requires c κs = search needs
+placed-requires : tie.Need-placed-requires
+placed-requires c κs = search needs
 
 enum-known-cell : tie.Need-enum-known-cell
 enum-known-cell c = search needs
 
-enum-told : tie.Need-enum-told
-enum-told c = search needs
+vertices-of-requires : tie.Need-vertices-of-requires
+vertices-of-requires c κs =
+    let p = c .before .before .before in
+    let a = p .before .args in
+    placed-stands (a .n) (a .s) (a .code) (p .placed .ensures) (c .before .cell .given .1)
 
-refused-vertices-requires-2 : tie.Need-refused-vertices-requires-2
-refused-vertices-requires-2 c κs = search needs
+enum-known-refusal : tie.Need-enum-known-refusal
+enum-known-refusal c = search needs
+
+returns : tie.Need-returns
+unfolding cellVertices
+returns c =
+    let q = c .before .before in
+    let x = q .before .before in
+    let p = x .before .before in
+    let a = p .before .args in
+    placed-value (a .n) (a .s) (a .code) (p .placed .ensures) (λ a c. theVertices (verticesOf a c)) noVertices (x .cell .given .1) (ap theVertices (q .vertices-of .ensures))
 
 returns-2 : tie.Need-returns-2
 unfolding cellVertices
 returns-2 c =
-    let u = c .before .before .before in
-    let f = u .before in
-    let a = f .before .before .args in
-    c .refused-vertices2 .ensures
-    ∙ given-refusal (theVertices (verticesOf (record { north = a .n; south = a .s }) (cellOf (a .code)))) noVertices (four-second (a .n) (a .s) (a .code) (f .before .refusal .ensures) (f .if1 .left) (undecoded (a .code) (u .cell-of .ensures) (c .before .enum-told .given .1))) (λ z. omega arith)
-
-vertices-of-requires : tie.Need-vertices-of-requires
-vertices-of-requires c κs =
-    let u = c .before .before .before in
-    let f = u .before in
-    (is-arrangement (sym (f .before .refusal .ensures) ∙ f .if1 .left), decoded _ (u .cell-of .ensures) (c .before .cell .given .1) .cell)
-
-returns-3 : tie.Need-returns-3
-unfolding cellVertices
-returns-3 c =
-    let q = c .before .before in
-    let x = q .before .before in
-    let u = x .before .before in
-    let f = u .before in
-    let a = f .before .before .args in
-    let d = decoded (a .code) (u .cell-of .ensures) (x .cell .given .1) in
-    value-given _ (placed (a .n) (a .s) (a .code) (f .before .refusal .ensures) (f .if1 .left) (d .allowed))
-    (ap theVertices (q .vertices-of .ensures) ∙ ap (λ (y : Cell). theVertices (verticesOf (record { north = a .n; south = a .s }) y)) (d .is))
+    let p = c .before .before .before in
+    let a = p .before .args in
+    placed-none (a .n) (a .s) (a .code) (p .placed .ensures) (λ a c. theVertices (verticesOf a c)) noVertices (c .before .refusal .given .1)
 
 pub jgv-vertices-spec : {M : Type 1} → statement M
 jgv-vertices-spec =
-    tie.close
-    (tie.spec
-    refusal-requires
-    refused-vertices-requires
-    returns
-    cell-of-requires
-    enum-known-cell
-    enum-told
-    refused-vertices-requires-2
-    returns-2
-    vertices-of-requires
-    returns-3)
+    tie.close (tie.spec placed-requires enum-known-cell vertices-of-requires enum-known-refusal returns returns-2)
