@@ -8,6 +8,8 @@ use Rattle.logic.specs.Refusal.{refuse}
 use Rattle.ternary.specs.Digits.{value}
 use Rattle.ternary.specs.Weave.{rowIn, columnIn}
 use Rattle.cell.specs.declared.Cell.{Cell}
+use Rattle.cell.specs.declared.Found.{Found}
+use Rattle.cell.specs.declared.Found.the-variants as found-as
 use Rattle.code.specs.declared.Coded.{Coded}
 use Rattle.code.specs.declared.Coded.the-variants.{Code, Refused}
 
@@ -63,6 +65,11 @@ codeRefusal code = refuse (not (isCode code)) 4
 unfoldable pub coded : ℕ → ℕ → Coded
 coded zero code = Code code
 coded (suc r) code = Refused (suc r)
+
+-- of a cell that was found
+abbrev pub foundCode : Found → Coded
+foundCode (found-as.At c) = Code (codeOf c)
+foundCode (found-as.Refused r) = Refused r
 
 -- what each case stands for
 abbrev pub refusalIn : Coded → ℕ

@@ -17,8 +17,8 @@ use Rattle.ternary.specs.Powers.{nine-pos, nine-split}
 use Rattle.ternary.specs.Weave.{weave, rowIn, columnIn}
 use Rattle.ternary.specs.WeaveLaws.{weave-small, weave-row, row-weave, column-weave, row-small, column-small}
 use Rattle.cell.specs.declared.Cell.{Cell}
-use Rattle.cell.specs.Cell.{IsCell}
-use Rattle.code.specs.Code.{digitsOf, pathOf, codeAt, codeOf, pathIn, cellOf, isCode, codeRefusal}
+use Rattle.cell.specs.Cell.{IsCell, found}
+use Rattle.code.specs.Code.{digitsOf, pathOf, codeAt, codeOf, pathIn, cellOf, isCode, codeRefusal, coded, foundCode}
 
 -- the digits, read in base nine, are the woven path
 pub value-weave : (k i j : ℕ) → value 9 (digitsOf k i j) ≡ weave k i j
@@ -207,3 +207,9 @@ four code h = go (isCode code) h
     go : (t : Bool) → (refuse (not t) 4 ≡ 0 → ⊥) → refuse (not t) 4 ≡ 4
     go true h = absurd (h refl)
     go false h = refl
+
+-- a cell or its refusal, made by `found`
+pub found-coded : (r : ℕ) (c : Cell) → foundCode (found r c) ≡ coded r (codeOf c)
+unfolding found coded
+found-coded zero c = refl
+found-coded (suc r) c = refl

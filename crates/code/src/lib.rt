@@ -3,8 +3,8 @@ ghost use mathlib.Core.Path.{_≡_};
 ghost use Prim.Native.Nat.{_+_, _-_, _^_, _≤_, _<_};
 ghost use lib.ListN.{length, drop};
 ghost use Rattle.ternary.specs.Digits.{value};
-ghost use Rattle.cell.specs.Cell.{IsCell, cellRefusal, found};
-ghost use Rattle.code.specs.Code.{codeAt, codeOf, isCode, pathIn, cellOf, codeRefusal, sizeOf, coded};
+ghost use Rattle.cell.specs.Cell.{IsCell, cellRefusal, cellIn, found};
+ghost use Rattle.code.specs.Code.{codeAt, codeOf, isCode, pathIn, cellOf, codeRefusal, sizeOf, coded, foundCode};
 ghost use Rattle.code.specs.Inside.{startOf, endOf};
 ghost use Rattle.code.specs.Number.{startAs, endAs, codeAs};
 use cell::Cell;
@@ -43,6 +43,17 @@ pub fn coded_cell(cell: Cell) -> Coded
         return Coded::Refused(refusal);
     }
     Coded::Code(code_of(cell))
+}
+
+// The code of a cell that was found, or the refusal.
+pub fn found_code(found: Found) -> Coded
+    requires { ⌜ IsCell (cellIn found) ⌝ }
+    ensures { λ r. ⌜ r ≡ foundCode found ⌝ }
+{
+    match found {
+        Found::At(cell) => Coded::Code(code_of(cell)),
+        Found::Refused(refusal) => Coded::Refused(refusal), // handed on
+    }
 }
 
 // Whether some cell has this code.

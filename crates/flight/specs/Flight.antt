@@ -1,31 +1,37 @@
 -- A flight: "a line for each fix", and what the recorder's memory holds after it. Assumes nothing.
-use mathlib.Core.Path.{_≡_, refl}
-use mathlib.Core.List.{List, [], _∷_}
-use Prim.Native.Nat.{ℕ, zero, suc}
-use lib.ListN.{length}
-use Rattle.logic.specs.Refusal.{_otherwise_, given}
+use mathlib.Core.List.{List}
+use Prim.Native.Nat.{ℕ}
+use lib.IntN.{ℤ}
+use Rattle.cell.specs.declared.Arrangement.{Arrangement}
+use Rattle.code.specs.declared.Coded.{Coded}
+use Rattle.code.specs.declared.Coded.the-variants.{Code, Refused}
+use Rattle.code.specs.Code.{codeOf, coded}
+use Rattle.locate.specs.Fix.{fixRefusal, fixCell}
 use Rattle.decimal.specs.declared.FixLine.{FixLine}
 use Rattle.decimal.specs.declared.FixLine.the-variants as Lines
 use Rattle.decimal.specs.Decimal.{fixIn}
 use Rattle.track.specs.declared.Added.{Added}
-use Rattle.track.specs.Track.{inserted, addRefusal, counted, memory}
-use Rattle.jeguarivo.specs.declared.CodeAnswer.{CodeAnswer}
-use Rattle.jeguarivo.specs.Entries.{fixCode}
+use Rattle.track.specs.declared.Added.the-variants as Adds
+use Rattle.track.specs.Track.{added, memory}
 
--- the answer for a fix; a line that is no fix is refused as one out of range
-unfoldable pub ofLine : (n s resolution : ℕ) → FixLine → CodeAnswer
-ofLine n s k (Lines.Fix longitude z) = fixCode n s k longitude z
-ofLine n s k Lines.Not = record { refusal = 6; code = 0 }
+-- the code of the cell of a fix, or the refusal
+unfoldable pub fixCoded : Arrangement → (resolution : ℕ) (longitude z : ℤ) → Coded
+fixCoded a k longitude z = coded (fixRefusal a k longitude z) (codeOf (fixCell a k longitude z))
 
-unfoldable pub lineCode : (n s resolution : ℕ) → List ℕ → CodeAnswer
+-- a line that is no fix is refused as one out of range
+unfoldable pub ofLine : (n s resolution : ℕ) → FixLine → Coded
+ofLine n s k (Lines.Fix longitude z) = fixCoded (record { north = n; south = s }) k longitude z
+ofLine n s k Lines.Not = Refused 6
+
+unfoldable pub lineCode : (n s resolution : ℕ) → List ℕ → Coded
 unfolding ofLine fixIn
 lineCode n s k line = ofLine n s k (fixIn line)
 
--- a refused line leaves the memory as it was; any other line's code is taken in
-unfoldable pub flown : CodeAnswer → (room : ℕ) (held : List ℕ) → Added
-unfolding inserted addRefusal counted
-flown a room held = counted (a .refusal otherwise addRefusal room held (a .code)) (length (inserted (a .code) held))
+-- a line's code is taken into the memory; a refused line leaves it as it was
+unfoldable pub flown : Coded → (room : ℕ) (held : List ℕ) → Added
+flown (Code code) room held = added room held code
+flown (Refused r) room held = Adds.Refused r
 
-unfoldable pub flownMemory : CodeAnswer → (codes held : List ℕ) → List ℕ
-unfolding memory
-flownMemory a codes held = given (a .refusal) (memory codes held (a .code)) codes
+unfoldable pub flownMemory : Coded → (codes held : List ℕ) → List ℕ
+flownMemory (Code code) codes held = memory codes held code
+flownMemory (Refused r) codes held = codes

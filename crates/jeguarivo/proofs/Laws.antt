@@ -5,17 +5,16 @@ use Prim.Native.Nat.{ℕ, zero, suc}
 use native.Mathlib.Omega.{arith}
 use Rattle.logic.specs.Refusal.{_otherwise_, given}
 use Rattle.logic.specs.RefusalLaws.{passes, both, given-value, given-none}
-use Rattle.ternary.specs.Digits.{value}
 use Rattle.cell.specs.declared.Cell.{Cell}
 use Rattle.cell.specs.declared.Found.{Found}
 use Rattle.cell.specs.declared.Found.the-variants as found-as
 use Rattle.cell.specs.declared.Arrangement.{Arrangement}
-use Rattle.cell.specs.Cell.{IsCell, IsArrangement, found, refusalIn, cellIn}
+use Rattle.cell.specs.Cell.{IsCell, IsArrangement, found}
 use Rattle.cell.specs.CellLaws.{is-arrangement}
 use Rattle.cell.specs.FoundLaws.{found-at, found-refused}
 use Rattle.code.specs.declared.Coded.{Coded}
-use Rattle.code.specs.Code.{codeOf, cellOf, coded}
-use Rattle.code.specs.CodeLaws.{a-code, code-is-cell}
+use Rattle.code.specs.Code.{codeOf, cellOf, coded, foundCode}
+use Rattle.code.specs.CodeLaws.{a-code, code-is-cell, found-coded}
 use Rattle.name.specs.Name.{named}
 use Rattle.jeguarivo.specs.declared.CodeAnswer.{CodeAnswer}
 use Rattle.jeguarivo.specs.Entries.{codeAnswer, codedAnswer, foundAnswer, cellAnswer, namedAnswer, lengthAnswer, arrangement, placedRefusal, placedAnswer}
@@ -35,10 +34,8 @@ coded-code zero code = refl
 coded-code (suc r) code = refl
 
 -- the code of a found cell
-pub found-code : (r : ℕ) (c : Cell) → codeAnswer (refusalIn (found r c)) (codeOf (cellIn (found r c))) ≡ codeAnswer r (codeOf c)
-unfolding found codeAnswer given
-found-code zero c = refl
-found-code (suc r) c = refl
+pub found-code : (r : ℕ) (c : Cell) → codedAnswer (foundCode (found r c)) ≡ codeAnswer r (codeOf c)
+found-code r c = ap codedAnswer (found-coded r c) ∙ coded-code r (codeOf c)
 
 -- a cell that was found, and the length of a name that was written, as numbers
 pub found-numbers : (r : ℕ) (c : Cell) → foundAnswer (found r c) ≡ cellAnswer r c
@@ -55,16 +52,6 @@ named-numbers (suc r) n = refl
 pub four-first : {r : ℕ} (q : ℕ) → r ≡ 4 → 4 ≡ r otherwise q
 unfolding _otherwise_
 four-first q e = sym (ap (λ (x : ℕ). x otherwise q) e)
-
--- a cell that is refused is handed on with numbers that are 0, as N's are
-zero-code : codeOf (record { face = 0; resolution = 0; row = 0; column = 0 }) ≡ 0
-unfolding codeOf value
-zero-code = refl
-
-pub refusal-code : (r : ℕ) → record { refusal = r; code = 0 } ≡ codeAnswer r (codeOf (cellIn (found-as.Refused r)))
-unfolding codeAnswer given
-refusal-code zero = λ i. record { refusal = 0; code = sym zero-code i }
-refusal-code (suc r) = refl
 
 -- a test that refuses nothing leaves the answer as it is
 pub next-code : {r : ℕ} (q code : ℕ) → r ≡ 0 → codeAnswer q code ≡ codeAnswer (r otherwise q) code

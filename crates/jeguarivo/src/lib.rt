@@ -4,14 +4,14 @@ ghost use mathlib.Core.Path.{_≡_};
 ghost use mathlib.Core.Bool.{cond};
 ghost use lib.ListN.{length};
 ghost use Rattle.logic.specs.Refusal.{given};
-ghost use Rattle.cell.specs.Cell.{IsCell, refusalIn, cellIn, found};
-ghost use Rattle.code.specs.Code.{codeOf, cellOf};
+ghost use Rattle.cell.specs.Cell.{IsCell, cellIn, found};
+ghost use Rattle.code.specs.Code.{cellOf, foundCode};
 ghost use Rattle.name.specs.Name.{codeNameRefusal, nameIn};
 ghost use Rattle.listing.specs.List.{listRefusal, codesIn};
 ghost use Rattle.jeguarivo.specs.Texts.{checkedText, listedText, askedText, writtenText};
 ghost use Rattle.jeguarivo.specs.Entries.{arrangement};
 ghost use Rattle.writing.specs.WriteEntry.{writeRefusal, textIn};
-ghost use Rattle.jeguarivo.specs.Entries.{codeAnswer, codedAnswer, cellCode, codeCell, nameAnswer, writtenName, parentCode, childCode, cellSize, cellShape, cornerCount, cellSquare, cellNucleus, cellVertices, pointCode, neighbourCode, fixCode, groundFix, placedRefusal};
+ghost use Rattle.jeguarivo.specs.Entries.{codedAnswer, cellCode, codeCell, nameAnswer, writtenName, parentCode, childCode, cellSize, cellShape, cornerCount, cellSquare, cellNucleus, cellVertices, pointCode, neighbourCode, fixCode, groundFix, placedRefusal};
 use asking::Asked;
 use cell::Arrangement;
 use cell::Cell;
@@ -122,18 +122,12 @@ fn coded_answer(coded: Coded) -> CodeAnswer
     }
 }
 
-// The code of a cell that was found, or the refusal.
+// The code of a cell that was found, or the refusal, as numbers.
 fn found_answer(found: Found) -> CodeAnswer
     requires { ⌜ IsCell (cellIn found) ⌝ }
-    ensures { λ r. ⌜ r ≡ codeAnswer (refusalIn found) (codeOf (cellIn found)) ⌝ }
+    ensures { λ r. ⌜ r ≡ codedAnswer (foundCode found) ⌝ }
 {
-    match found {
-        Found::At(cell) => CodeAnswer {
-            refusal: 0,
-            code: code::code_of(cell),
-        },
-        Found::Refused(refusal) => CodeAnswer { refusal, code: 0 },
-    }
+    coded_answer(code::found_code(found))
 }
 
 // 2, 1 or 3 where the numbers are no cell.

@@ -2,6 +2,7 @@
 ghost use mathlib.Core.Path.{_≡_};
 ghost use Prim.Native.Nat.{_+_, _≤_};
 ghost use lib.ListN.{length};
+use code::Coded;
 use console::Setting;
 use libc::STDIN_FILENO;
 
@@ -17,13 +18,13 @@ fn put_name(n: u64, s: u64, resolution: u64, line: &[u8], out: &mut [u8], at: us
     requires { ⌜ at + 64 ≤ length (now out) ⌝ }
     ensures { λ r. ⌜ r + 44 ≤ length (now (out .exit)) ⌝ }
 {
-    let answer = flight::line_code(n, s, resolution, line);
-    let refusal = answer.refusal;
-    if refusal != 0 {
-        return decimal::put_whole(refusal, out, at);
+    match flight::line_code(n, s, resolution, line) {
+        Coded::Code(code) => {
+            let named = jeguarivo::jgv_code_name(code, &mut out[at..]);
+            at + console::within(named.length, 16)
+        }
+        Coded::Refused(refusal) => decimal::put_whole(refusal, out, at),
     }
-    let named = jeguarivo::jgv_code_name(answer.code, &mut out[at..]);
-    at + console::within(named.length, 16)
 }
 
 // The same with a line end after it.

@@ -1,8 +1,7 @@
--- `flight::fly` meets its contract: a refused line, or the memory's answer. Assumes nothing.
-use mathlib.Core.Path.{_≡_, sym, ap, _∙_, subst}
-use Prim.Native.Nat.{ℕ}
+-- `flight::fly` meets its contract: the memory's answer, or a refused line. Assumes nothing.
+use mathlib.Core.Path.{_≡_, sym, _∙_, subst}
+use Rattle.code.specs.declared.Coded.{Coded}
 use Rattle.track.specs.declared.Added.the-variants.{Refused}
-use Rattle.jeguarivo.specs.declared.CodeAnswer.{CodeAnswer}
 use Rattle.flight.proofs.Laws.{Flown, refused, taken}
 use borrow.Author.Needs.{needs}
 use Rattle.flight.proofs.fly.Statement.{statement}
@@ -11,27 +10,34 @@ use Rattle.flight.proofs.fly.Tie as tie
 line-code-requires : tie.Need-line-code-requires
 line-code-requires c κs = search needs
 
-returns : tie.Need-returns
-returns c =
-    let s = c .before .before .before .before in
-    let x = c .before .line-code .result in
-    subst (λ (a : CodeAnswer). Flown a (s .args .codes .now) (s .args .count) (Refused (x .refusal)) (s .args .codes .now)) (c .before .line-code .ensures)
-    (refused x (s .args .codes .now) (s .args .count) (c .if1 .taken) (s .pre))
+enum-known-code : tie.Need-enum-known-code
+enum-known-code c = search needs
 
 add-requires : tie.Need-add-requires
 add-requires c κs = search needs
 
+enum-known-refusal : tie.Need-enum-known-refusal
+enum-known-refusal c = search needs
+
 same-length : tie.Need-same-length
 same-length c = search needs
 
+returns : tie.Need-returns
+returns c =
+    let t = c .before .before in
+    let x = t .before .before .before in
+    let l = x .before .before in
+    let s = l .before .before .before in
+    subst (λ (a : Coded). Flown a (s .args .codes .now) (s .args .count) (t .add .result) (t .add .last .0)) (sym (x .code .given .1) ∙ l .line-code .ensures)
+    (taken _ (s .args .codes .now) (s .args .count) (t .add .result) (t .add .last .0) (t .add .ensures))
+
 returns-2 : tie.Need-returns-2
 returns-2 c =
-    let s = c .before .before .before .before .before .before .before .before in
-    let x = c .before .before .before .before .before .line-code .result in
-    let r = c .before .before .add .result in
-    let exit = c .before .before .add .last .0 in
-    subst (λ (a : CodeAnswer). Flown a (s .args .codes .now) (s .args .count) r exit) (c .before .before .before .before .before .line-code .ensures)
-    (taken x (s .args .codes .now) (s .args .count) r exit (c .before .before .before .before .if1 .left) (c .before .before .add .ensures))
+    let x = c .before in
+    let l = x .before .before in
+    let s = l .before .before .before in
+    subst (λ (a : Coded). Flown a (s .args .codes .now) (s .args .count) (Refused (x .refusal .given .0 .0)) (s .args .codes .now)) (sym (x .refusal .given .1) ∙ l .line-code .ensures)
+    (refused _ (s .args .codes .now) (s .args .count) (s .pre))
 
 pub fly-spec : {M : Type 1} → statement M
-fly-spec = tie.close (tie.spec line-code-requires returns add-requires same-length returns-2)
+fly-spec = tie.close (tie.spec line-code-requires enum-known-code add-requires enum-known-refusal same-length returns returns-2)

@@ -1,8 +1,11 @@
 -- `flight::line_code` meets its contract: each way is one case of the line's reading. Assumes nothing.
 use mathlib.Core.Path.{_≡_, sym, ap, ap₂, _∙_}
 use Rattle.signed.specs.SignLaws.{back-result}
-use Rattle.jeguarivo.specs.Entries.{fixCode}
-use Rattle.flight.specs.Flight.{ofLine, lineCode}
+use Rattle.cell.specs.FoundLaws.{found-is-cell}
+use Rattle.code.specs.Code.{foundCode}
+use Rattle.code.specs.CodeLaws.{found-coded}
+use Rattle.locate.specs.FixLaws.{fix-allowed}
+use Rattle.flight.specs.Flight.{fixCoded, ofLine, lineCode}
 use borrow.Author.Needs.{needs}
 use Rattle.flight.proofs.line_code.Statement.{statement}
 use Rattle.flight.proofs.line_code.Tie as tie
@@ -22,25 +25,24 @@ returns c =
     let a = c .before .before .before .before .args in
     ap (ofLine (a .n) (a .s) (a .resolution)) (sym (c .enum-told .given .1) ∙ c .before .before .fix-in .ensures)
 
-jgv-fix-code-requires : tie.Need-jgv-fix-code-requires
-jgv-fix-code-requires c κs = search needs
+locate-requires : tie.Need-locate-requires
+locate-requires c κs = search needs
+
+found-code-requires : tie.Need-found-code-requires
+found-code-requires c κs = rw (c .locate .ensures) (found-is-cell _ _ (fix-allowed _ _ _ _))
 
 returns-2 : tie.Need-returns-2
-unfolding lineCode ofLine
+unfolding lineCode ofLine fixCoded
 returns-2 c =
-    let a = c .before .before .before .before .before .before .args in
-    let g = c .before .before .longitude .given in
-    c .jgv-fix-code .ensures
-    ∙ ap₂ (fixCode (a .n) (a .s) (a .resolution)) (back-result (g .0 .0) (c .before .known-told .given .0 .1)) (back-result (g .0 .1 .0) (c .before .known-told .given .1 .0 .1))
-    ∙ ap (ofLine (a .n) (a .s) (a .resolution)) (sym (g .1) ∙ c .before .before .before .before .fix-in .ensures)
+    let k = c .before .before in
+    let x = k .before in
+    let f = x .before .before in
+    let a = f .before .before .args in
+    let g = x .longitude .given in
+    c .found-code .ensures ∙ ap foundCode (c .before .locate .ensures) ∙ found-coded _ _
+    ∙ ap₂ (fixCoded (record { north = a .n; south = a .s }) (a .resolution)) (back-result (g .0 .0) (k .known-told .given .0 .1)) (back-result (g .0 .1 .0) (k .known-told .given .1 .0 .1))
+    ∙ ap (ofLine (a .n) (a .s) (a .resolution)) (sym (g .1) ∙ f .fix-in .ensures)
 
 pub line-code-spec : {M : Type 1} → statement M
 line-code-spec =
-    tie.close
-    (tie.spec
-    fix-in-requires
-    enum-known-longitude
-    enum-told
-    returns
-    jgv-fix-code-requires
-    returns-2)
+    tie.close (tie.spec fix-in-requires enum-known-longitude enum-told returns locate-requires found-code-requires returns-2)

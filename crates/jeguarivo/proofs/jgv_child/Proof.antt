@@ -4,12 +4,11 @@ use borrow.Author.Tests.{lt-ltb, le-ltb}
 use Rattle.logic.specs.Refusal.{refuse, _otherwise_, given}
 use Rattle.cell.specs.declared.Found.{Found}
 use Rattle.cell.specs.declared.Cell.{Cell}
-use Rattle.cell.specs.Cell.{refusalIn, cellIn}
 use Rattle.cell.specs.FoundLaws.{found-is-cell}
 use Rattle.cell.specs.Hierarchy.{childOf, childRefusal}
 use Rattle.cell.specs.HierarchyLaws.{child-allowed}
-use Rattle.code.specs.Code.{codeOf}
-use Rattle.jeguarivo.specs.Entries.{codeAnswer, childCode}
+use Rattle.code.specs.Code.{codeOf, foundCode}
+use Rattle.jeguarivo.specs.Entries.{codeAnswer, codedAnswer, childCode}
 use Rattle.code.specs.DecodedLaws.{decoded, undecoded}
 use Rattle.jeguarivo.proofs.Laws.{four-first, code-refused, found-code, next-code}
 use native.Mathlib.Omega.{arith}
@@ -50,7 +49,7 @@ returns-3 c =
     let u = x .before .before in
     let digit = u .before .before .args .digit in
     let d = decoded _ (u .cell-of .ensures) (x .cell .given .1) in
-    c .found-answer .ensures ∙ ap (λ (f : Found). codeAnswer (refusalIn f) (codeOf (cellIn f))) (c .before .child .ensures) ∙ found-code _ _
+    c .found-answer .ensures ∙ ap (λ (f : Found). codedAnswer (foundCode f)) (c .before .child .ensures) ∙ found-code _ _
     ∙ ap (λ (y : Cell). codeAnswer (childRefusal y digit) (codeOf (childOf y digit))) (d .is)
     ∙ next-code _ _ (d .allowed) ∙ next-code _ _ (ap (λ b. refuse b 3) (le-ltb _ _ (u .before .if1 .left)))
 

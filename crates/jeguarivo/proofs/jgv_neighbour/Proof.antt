@@ -6,13 +6,12 @@ use Rattle.logic.specs.Refusal.{refuse, _otherwise_}
 use Rattle.logic.specs.RefusalLaws.{stops, passes}
 use Rattle.cell.specs.declared.Found.{Found}
 use Rattle.cell.specs.declared.Cell.{Cell}
-use Rattle.cell.specs.Cell.{refusalIn, cellIn}
 use Rattle.cell.specs.CellLaws.{cell-is}
 use Rattle.cell.specs.FoundLaws.{found-is-cell}
 use Rattle.cell.specs.Neighbour.{neighbourOf, neighbourRefusal}
 use Rattle.cell.specs.NeighbourLaws.{neighbour-allowed}
-use Rattle.code.specs.Code.{codeOf, codeRefusal}
-use Rattle.jeguarivo.specs.Entries.{codeAnswer, neighbourCode}
+use Rattle.code.specs.Code.{codeOf, foundCode, codeRefusal}
+use Rattle.jeguarivo.specs.Entries.{codeAnswer, codedAnswer, neighbourCode}
 use Rattle.code.specs.DecodedLaws.{decoded, undecoded}
 use Rattle.jeguarivo.proofs.Laws.{code-refused, found-code}
 use native.Mathlib.Omega.{arith}
@@ -67,7 +66,7 @@ returns-4 c =
     let d = decoded _ (u .cell-of .ensures) (x .cell .given .1) in
     let arranged = sym (f .before .refusal .ensures) ∙ f .if1 .left in
     let directed = ap (λ (b : Bool). refuse b 3) (le-ltb _ _ (u .before .if2 .left)) in
-    c .found-answer .ensures ∙ ap (λ (f : Found). codeAnswer (refusalIn f) (codeOf (cellIn f))) (c .before .step .ensures) ∙ found-code _ _
+    c .found-answer .ensures ∙ ap (λ (f : Found). codedAnswer (foundCode f)) (c .before .step .ensures) ∙ found-code _ _
     ∙ ap₂ codeAnswer (passes _ arranged ∙ passes _ (cell-is (d .cell)) ∙ directed ∙ sym (passes _ arranged ∙ passes _ directed ∙ d .allowed))
     (ap (λ (y : Cell). codeOf (neighbourOf (record { north = a .n; south = a .s }) y (a .direction))) (d .is))
 

@@ -2,12 +2,11 @@
 use mathlib.Core.Path.{_≡_, sym, ap, ap₂, _∙_}
 use Rattle.cell.specs.declared.Found.{Found}
 use Rattle.cell.specs.declared.Cell.{Cell}
-use Rattle.cell.specs.Cell.{refusalIn, cellIn}
 use Rattle.cell.specs.FoundLaws.{found-is-cell}
 use Rattle.cell.specs.Hierarchy.{parentOf, parentRefusal}
 use Rattle.cell.specs.HierarchyLaws.{parent-allowed}
-use Rattle.code.specs.Code.{codeOf}
-use Rattle.jeguarivo.specs.Entries.{codeAnswer, parentCode}
+use Rattle.code.specs.Code.{codeOf, foundCode}
+use Rattle.jeguarivo.specs.Entries.{codeAnswer, codedAnswer, parentCode}
 use Rattle.code.specs.DecodedLaws.{decoded, undecoded}
 use Rattle.jeguarivo.proofs.Laws.{four-first, code-refused, found-code, next-code}
 use native.Mathlib.Omega.{arith}
@@ -39,7 +38,7 @@ unfolding parentCode
 returns-2 c =
     let x = c .before .before .before in
     let d = decoded _ (x .before .before .cell-of .ensures) (x .cell .given .1) in
-    c .found-answer .ensures ∙ ap (λ (f : Found). codeAnswer (refusalIn f) (codeOf (cellIn f))) (c .before .parent .ensures) ∙ found-code _ _
+    c .found-answer .ensures ∙ ap (λ (f : Found). codedAnswer (foundCode f)) (c .before .parent .ensures) ∙ found-code _ _
     ∙ ap (λ (y : Cell). codeAnswer (parentRefusal y) (codeOf (parentOf y))) (d .is)
     ∙ next-code _ _ (d .allowed)
 

@@ -2,11 +2,10 @@
 use mathlib.Core.Path.{_≡_, sym, ap, ap₂, _∙_}
 use Rattle.signed.specs.SignLaws.{back}
 use Rattle.cell.specs.declared.Found.{Found}
-use Rattle.cell.specs.Cell.{refusalIn, cellIn}
 use Rattle.cell.specs.FoundLaws.{found-is-cell}
-use Rattle.code.specs.Code.{codeOf}
+use Rattle.code.specs.Code.{codeOf, foundCode}
 use Rattle.plane.specs.PlaneLaws.{point-allowed}
-use Rattle.jeguarivo.specs.Entries.{codeAnswer, pointCode}
+use Rattle.jeguarivo.specs.Entries.{codeAnswer, codedAnswer, pointCode}
 use Rattle.jeguarivo.proofs.Laws.{found-code}
 use borrow.Author.Needs.{needs}
 use Rattle.jeguarivo.proofs.jgv_point_code.Statement.{statement}
@@ -22,7 +21,7 @@ returns : tie.Need-returns
 unfolding pointCode
 returns c =
     let s = c .before .before in
-    c .found-answer .ensures ∙ ap (λ (f : Found). codeAnswer (refusalIn f) (codeOf (cellIn f))) (c .before .point-cell .ensures) ∙ found-code _ _
+    c .found-answer .ensures ∙ ap (λ (f : Found). codedAnswer (foundCode f)) (c .before .point-cell .ensures) ∙ found-code _ _
     ∙ ap₂ (pointCode (s .args .n) (s .args .s) (s .args .resolution)) (back (s .fits .x)) (back (s .fits .y))
 
 pub jgv-point-code-spec : {M : Type 1} → statement M
