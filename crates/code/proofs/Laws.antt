@@ -1,19 +1,16 @@
 -- What the functions answer where something is refused, and where nothing is. Assumes nothing.
 use mathlib.Core.Path.{_≡_, refl, sym, ap, ap₂, _∙_}
-use mathlib.Core.Bool.{Bool, true, false, _&&_, not}
+use mathlib.Core.Bool.{Bool, true, false, _&&_}
 use Prim.Native.Nat.{ℕ, zero, suc, _+_, _-_, _*_, _/_, _%_, _^_, _≤_, _<_}
 use native.Mathlib.Nat.{div-add-mod'}
 use native.Mathlib.Omega.{arith}
 use lib.Dec.{eqb, ltb}
 use borrow.Author.Tests.{lt-ltb, le-ltb, eq-eqb, ne-eqb}
-use Rattle.logic.specs.Refusal.{refuse}
-use Rattle.cell.specs.declared.Cell.{Cell}
-use Rattle.cell.specs.declared.Found.{Found}
-use Rattle.cell.specs.declared.Found.the-variants as found-as
-use Rattle.cell.specs.Cell.{found}
 use Rattle.code.specs.declared.Coded.{Coded}
 use Rattle.code.specs.declared.Coded.the-variants.{Code, Refused}
-use Rattle.code.specs.Code.{coded, isCode, codeRefusal, cellOf}
+use Rattle.code.specs.declared.Split.the-variants as split-as
+use Rattle.code.specs.Code.{coded, split, isCode, codeRefusal, pathIn}
+use Rattle.code.specs.CodeLaws.{code-passes, code-stops}
 
 refusal : (r code : ℕ) → (r ≡ 0 → ⊥) → Refused r ≡ coded r code
 unfolding coded
@@ -30,13 +27,14 @@ unfolding coded
 answered {code = code} e z h = ap Code h ∙ ap (λ (x : ℕ). coded x code) (sym z ∙ e)
 
 -- 4 where a number is no code
-pub no-code : (code : ℕ) (c : Cell) → isCode code ≡ false → found-as.Refused 4 ≡ found (codeRefusal code) c
-unfolding found codeRefusal
-no-code code c e = sym (ap (λ (b : Bool). found (refuse (not b) 4) c) e)
+pub no-code : (code : ℕ) → isCode code ≡ false → split-as.Refused 4 ≡ split (codeRefusal code) code
+unfolding split
+no-code code e = sym (ap (λ (r : ℕ). split r code) (code-stops code e))
 
-pub a-code : (code : ℕ) {x c : Cell} → isCode code ≡ true → x ≡ c → found-as.At x ≡ found (codeRefusal code) c
-unfolding found codeRefusal
-a-code code {c = c} e h = ap found-as.At h ∙ sym (ap (λ (b : Bool). found (refuse (not b) 4) c) e)
+-- and else its parts
+pub a-code : (code : ℕ) {p : ℕ} → isCode code ≡ true → p ≡ pathIn code → split-as.Parts (code / 16 / 205891132094649) (code % 16) p ≡ split (codeRefusal code) code
+unfolding split
+a-code code e h = ap (split-as.Parts (code / 16 / 205891132094649) (code % 16)) h ∙ sym (ap (λ (r : ℕ). split r code) (code-passes code e))
 
 -- a number is no code where its face is none of the six
 pub no-face : (code : ℕ) → 6 ≤ code / 16 / 205891132094649 → isCode code ≡ false

@@ -12,6 +12,8 @@ use Rattle.cell.specs.declared.Found.{Found}
 use Rattle.cell.specs.declared.Found.the-variants as found-as
 use Rattle.code.specs.declared.Coded.{Coded}
 use Rattle.code.specs.declared.Coded.the-variants.{Code, Refused}
+use Rattle.code.specs.declared.Split.{Split}
+use Rattle.code.specs.declared.Split.the-variants as split-as
 
 -- "k digits, coarsest first; each digit is 3 times the ternary digit of i plus that of j"
 unfoldable pub digitsOf : (k i j : ℕ) → List ℕ
@@ -71,7 +73,12 @@ abbrev pub foundCode : Found → Coded
 foundCode (found-as.At c) = Code (codeOf c)
 foundCode (found-as.Refused r) = Refused r
 
--- what each case stands for
+-- a code taken apart, or the number of the refusal
+unfoldable pub split : (refusal code : ℕ) → Split
+split zero code = split-as.Parts (code / 16 / 9 ^ 15) (code % 16) (pathIn code)
+split (suc r) code = split-as.Refused (suc r)
+
+-- what each case of `Coded` stands for
 abbrev pub refusalIn : Coded → ℕ
 refusalIn (Code code) = 0
 refusalIn (Refused r) = r

@@ -200,6 +200,14 @@ pub a-code : (code : ℕ) → codeRefusal code ≡ 0 → isCode code ≡ true
 unfolding codeRefusal
 a-code code e = not-false (isCode code) (allowed 3 _ e)
 
+pub code-passes : (code : ℕ) → isCode code ≡ true → codeRefusal code ≡ 0
+unfolding codeRefusal
+code-passes code e = ap (λ (t : Bool). refuse (not t) 4) e
+
+pub code-stops : (code : ℕ) → isCode code ≡ false → codeRefusal code ≡ 4
+unfolding codeRefusal
+code-stops code e = ap (λ (t : Bool). refuse (not t) 4) e
+
 pub four : (code : ℕ) → (codeRefusal code ≡ 0 → ⊥) → codeRefusal code ≡ 4
 unfolding codeRefusal
 four code h = go (isCode code) h

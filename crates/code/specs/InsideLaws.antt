@@ -1,6 +1,7 @@
 -- Lying inside is an order of ranges: a cell lies inside another exactly when its finest cells are among the other's. Assumes nothing.
 use mathlib.Core.Path.{_≡_, refl, sym, ap, ap₂, _∙_}
 use Prim.Native.Nat.{ℕ, zero, suc, _+_, _-_, _*_, _/_, _%_, _^_, _≤_, _<_}
+use mathlib.Core.Bool.{true}
 use native.Mathlib.Nat.{add-mul, suc-mul, mul-assoc, mul-le-mul-right, div-eq-of-lt-le, div-mul-le-self, lt-div-mul-add, le-of-mul-le-mul-right, one-mul, div-lt-iff-lt-mul, le-trans}
 use native.Mathlib.Omega.{arith}
 use mathlib.Core.Logic.{_⊎_, inl, inr, ⊎-elim}
@@ -10,14 +11,17 @@ use Rattle.ternary.specs.Weave.{weave}
 use Rattle.ternary.specs.WeaveLaws.{weave-prefix, weave-one}
 use Rattle.cell.specs.declared.Cell.{Cell}
 use Rattle.cell.specs.Cell.{IsCell}
-use Rattle.code.specs.Code.{pathOf, codeAt, codeOf, sizeOf}
-use Rattle.code.specs.CodeLaws.{path-weave, path-small, finest-small}
+use Rattle.code.specs.Code.{pathOf, codeAt, codeOf, cellOf, isCode, sizeOf}
+use Rattle.code.specs.CodeLaws.{path-weave, path-small, finest-small, code-is-cell, code-cell}
 use Rattle.code.specs.Inside.{Inside, startOf, endOf, Within}
 
 -- a code without its resolution is the number of the first finest cell
 pub start-code : (c : Cell) → IsCell c → codeOf c ≡ startOf c * 16 + c .resolution
 unfolding codeOf codeAt startOf
 start-code c v = refl
+
+pub start-at : (code : ℕ) → isCode code ≡ true → code / 16 ≡ startOf (cellOf code)
+start-at code t = let v = code-is-cell code t in omega (arith, v .fine, code-cell code t, start-code (cellOf code) v)
 
 -- a cell's finest cells are among its face's
 pub end-small : (c : Cell) → IsCell c → endOf c ≤ c .face * 205891132094649 + 205891132094649

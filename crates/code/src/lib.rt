@@ -1,10 +1,11 @@
 // Codes and names of cells. How a code is made is known here only.
 ghost use mathlib.Core.Path.{_≡_};
+ghost use mathlib.Core.Bool.{true};
 ghost use Prim.Native.Nat.{_+_, _-_, _^_, _≤_, _<_};
 ghost use lib.ListN.{length, drop};
 ghost use Rattle.ternary.specs.Digits.{value};
 ghost use Rattle.cell.specs.Cell.{IsCell, cellRefusal, cellIn, found};
-ghost use Rattle.code.specs.Code.{codeAt, codeOf, isCode, pathIn, cellOf, codeRefusal, sizeOf, coded, foundCode};
+ghost use Rattle.code.specs.Code.{codeAt, codeOf, isCode, pathIn, cellOf, codeRefusal, sizeOf, coded, foundCode, split};
 ghost use Rattle.code.specs.Inside.{startOf, endOf};
 ghost use Rattle.code.specs.Number.{startAs, endAs, codeAs};
 use cell::Cell;
@@ -13,6 +14,16 @@ use cell::Found;
 // A code, or the number of the refusal.
 pub enum Coded {
     Code(u64),
+    Refused(u64),
+}
+
+// A code taken apart, or the number of the refusal.
+pub enum Split {
+    Parts {
+        face: u64,
+        resolution: u64,
+        path: u64,
+    },
     Refused(u64),
 }
 
@@ -68,6 +79,66 @@ pub fn is_code(code: u64) -> bool
     false
 }
 
+// The face, the resolution and the path of a code: 4 where it is no cell's. One quotient tells both the path and whether a digit stands
+// below the resolution.
+pub fn parts_of(code: u64) -> Split
+    ensures { λ r. ⌜ r ≡ split (codeRefusal code) code ⌝ }
+{
+    let number = code / 16;
+    let face = number / 205_891_132_094_649;
+    if face >= 6 {
+        return Split::Refused(4); // no face
+    }
+    let resolution = code % 16;
+    let step = ternary::nine_power(15 - resolution);
+    let rest = number % 205_891_132_094_649;
+    let path = rest / step;
+    if path * step != rest {
+        return Split::Refused(4); // a digit below the resolution
+    }
+    Split::Parts {
+        face,
+        resolution,
+        path,
+    }
+}
+
+// The cell of a code: 4 where it is no cell's.
+pub fn cell_of(code: u64) -> Found
+    ensures { λ r. ⌜ r ≡ found (codeRefusal code) (cellOf code) ⌝ }
+{
+    let Split::Parts {
+        face,
+        resolution,
+        path,
+    } = parts_of(code)
+    else {
+        return Found::Refused(4);
+    };
+    let place = ternary::unwoven(resolution, path);
+    Found::At(Cell {
+        face,
+        resolution,
+        row: place.row,
+        column: place.column,
+    })
+}
+
+// The number of the first finest cell of a code's cell.
+pub fn start_in(code: u64) -> u64
+    requires { ⌜ isCode code ≡ true ⌝ }
+    ensures { λ r. ⌜ r ≡ startOf (cellOf code) ⌝ }
+{
+    code / 16
+}
+
+// The number of finest cells of a code's cell.
+pub fn size_in(code: u64) -> u64
+    ensures { λ r. ⌜ r ≡ sizeOf (cellOf code) ⌝ }
+{
+    ternary::nine_power(15 - code % 16)
+}
+
 // The resolution of a code.
 pub fn resolution_in(code: u64) -> u64
     ensures { λ r. ⌜ r ≡ cellOf code .resolution ⌝ }
@@ -88,31 +159,6 @@ pub fn path_in(code: u64) -> u64
     ensures { λ r. ⌜ r ≡ pathIn code ⌝ }
 {
     code / 16 % 205_891_132_094_649 / ternary::nine_power(15 - code % 16)
-}
-
-// The cell of a code: 4 where it is no cell's. One quotient tells both the path and whether a digit stands below the resolution.
-pub fn cell_of(code: u64) -> Found
-    ensures { λ r. ⌜ r ≡ found (codeRefusal code) (cellOf code) ⌝ }
-{
-    let number = code / 16;
-    let face = number / 205_891_132_094_649;
-    if face >= 6 {
-        return Found::Refused(4); // no face
-    }
-    let resolution = code % 16;
-    let step = ternary::nine_power(15 - resolution);
-    let rest = number % 205_891_132_094_649;
-    let path = rest / step;
-    if path * step != rest {
-        return Found::Refused(4); // a digit below the resolution
-    }
-    let place = ternary::unwoven(resolution, path);
-    Found::At(Cell {
-        face,
-        resolution,
-        row: place.row,
-        column: place.column,
-    })
 }
 
 // The number of finest cells of a cell.
@@ -155,7 +201,7 @@ pub fn end_as(resolution: u64, number: u64) -> u64
     number * size + size
 }
 
-// And its code.
+// The code of a cell that is given by its resolution and its number.
 pub fn code_as(resolution: u64, number: u64) -> u64
     requires { ⌜ (resolution ≤ 15) × (number < 9 ^ (resolution + 1)) ⌝ }
     ensures { λ r. ⌜ r ≡ codeAs resolution number ⌝ }

@@ -1,57 +1,55 @@
 -- `code::cell_of` meets its contract. Assumes nothing.
-use mathlib.Core.Path.{_≡_, ap, _∙_}
-use Prim.Native.Nat.{ℕ, _-_, _*_, _/_, _%_, _^_, _≤_}
-use native.Mathlib.Nat.{div-add-mod'}
+use mathlib.Core.Path.{_≡_, sym, ap, ap₂, _∙_}
+use Prim.Native.Nat.{ℕ, _≤_}
 use native.Mathlib.Omega.{arith}
 use borrow.Author.Needs.{needs}
-use Rattle.ternary.specs.Powers.{nine-pos}
 use Rattle.ternary.specs.Weave.{rowIn, columnIn}
-use Rattle.code.specs.Code.{pathIn, cellOf}
-use Rattle.code.proofs.Laws.{no-code, a-code, no-face, a-rest, no-rest}
+use Rattle.cell.specs.declared.Found.the-variants.{At}
+use Rattle.cell.specs.Cell.{found}
+use Rattle.code.specs.Code.{cellOf}
+use Rattle.code.specs.DecodedLaws.{parted, unparted}
 use Rattle.code.proofs.cell_of.Statement.{statement}
 use Rattle.code.proofs.cell_of.Tie as tie
 
+parts-of-requires : tie.Need-parts-of-requires
+parts-of-requires c κs = search needs
+
+enum-known-face : tie.Need-enum-known-face
+enum-known-face c = search needs
+
+enum-told : tie.Need-enum-told
+enum-told c = search needs
+
 returns : tie.Need-returns
-returns c = let a = c .before .args .code in no-code a (cellOf a) (no-face a (c .if1 .taken))
-
-sub-nine-power : tie.Need-sub-nine-power
-sub-nine-power c = search needs
-
-nine-power-requires : tie.Need-nine-power-requires
-nine-power-requires c κs = search needs
-
-div-path : tie.Need-div-path
-div-path c = let e = c .nine-power .ensures in let p = nine-pos (15 - c .before .before .args .code % 16) in omega arith
-
-mul-if2 : tie.Need-mul-if2
-mul-if2 c =
-    let a = c .before .before .args .code in
-    let d = div-add-mod' (a / 16 % 205891132094649) (c .nine-power .result) in
-    let h : a / 16 % 205891132094649 / c .nine-power .result * c .nine-power .result ≤ 205891132094649 = omega arith in
-    omega arith
-
-returns-2 : tie.Need-returns-2
-returns-2 c = let a = c .before .before .before .args .code in no-code a (cellOf a) (a-rest a (c .before .nine-power .ensures) (c .if2 .taken))
+unfolding found
+returns c =
+    let a = c .before .before .before .args .code in
+    let r = unparted a (c .before .before .parts-of .ensures) (c .enum-told .given .1) in
+    sym (ap (λ (x : ℕ). found x (cellOf a)) r)
 
 unwoven-requires : tie.Need-unwoven-requires
-unwoven-requires c κs = search needs
+unfolding cellOf
+unwoven-requires c κs =
+    let n = c .before .before .before in
+    let p = parted (n .before .args .code) (n .parts-of .ensures) (c .before .face .given .1) in
+    omega (arith, p .resolution)
 
-returns-3 : tie.Need-returns-3
-unfolding cellOf pathIn
-returns-3 c =
-    let n = c .before .before in
-    let a = n .before .before .args .code in
-    let p : a / 16 % 205891132094649 / n .nine-power .result ≡ pathIn a = ap (λ (x : ℕ). a / 16 % 205891132094649 / x) (n .nine-power .ensures) in
-    let f = n .before .if1 .left in
-    a-code a (no-rest a (n .nine-power .ensures) (omega arith) (c .before .if2 .left))
+returns-2 : tie.Need-returns-2
+unfolding cellOf found
+returns-2 c =
+    let n = c .before .before .before .before in
+    let a = n .before .args .code in
+    let p = parted a (n .parts-of .ensures) (c .before .before .face .given .1) in
+    ap At
     (λ i. record {
-      face = a / 16 / 205891132094649;
-      resolution = a % 16;
-      row = (c .unwoven .ensures .0 ∙ ap (rowIn (a % 16)) p) i;
-      column = (c .unwoven .ensures .1 ∙ ap (columnIn (a % 16)) p) i;
+      face = p .face i;
+      resolution = p .resolution i;
+      row = (c .unwoven .ensures .0 ∙ ap₂ rowIn (p .resolution) (p .path)) i;
+      column = (c .unwoven .ensures .1 ∙ ap₂ columnIn (p .resolution) (p .path)) i;
     })
+    ∙ sym (ap (λ (x : ℕ). found x (cellOf a)) (p .allowed))
 
 pub cell-of-spec : {M : Type 1} → statement M
 cell-of-spec =
     tie.close
-    (tie.spec returns sub-nine-power nine-power-requires div-path mul-if2 returns-2 unwoven-requires returns-3)
+    (tie.spec parts-of-requires enum-known-face enum-told returns unwoven-requires returns-2)
