@@ -30,13 +30,14 @@ pub record Parted (code f k p : ℕ) : Type 0 where
   pub face : f ≡ cellOf code .face
   pub resolution : k ≡ cellOf code .resolution
   pub path : p ≡ pathIn code
+  pub cell : IsCell (cellOf code)
 
 pub parted : (code : ℕ) {s : Split} {f k p : ℕ} → s ≡ split (codeRefusal code) code → s ≡ split-as.Parts f k p → Parted code f k p
 unfolding split cellOf
 parted code {f = f} {k = k} {p = p} e h = go (codeRefusal code) refl (sym h ∙ e)
   where
     go : (r : ℕ) → codeRefusal code ≡ r → split-as.Parts f k p ≡ split r code → Parted code f k p
-    go zero z g = record { allowed = z; face = cc; resolution = cc; path = cc }
+    go zero z g = record { allowed = z; face = cc; resolution = cc; path = cc; cell = code-is-cell code (a-code code z) }
     go (suc r) z g = let n : _≡_ {A = ℕ} 0 1 = cc in absurd (omega arith)
 
 pub unparted : (code : ℕ) {s : Split} {q : ℕ} → s ≡ split (codeRefusal code) code → s ≡ split-as.Refused q → codeRefusal code ≡ 4

@@ -11,10 +11,11 @@ use lib.ListN.{length, take, drop, getD, set, length-map, take-append-drop}
 use lib.Seq.{drop-cons, take-take, take-set-le, set-split, drop-at, length-take-le}
 use borrow.Author.Tests.{lt-leb, le-leb, lt-ltb, le-ltb}
 use Rattle.logic.specs.Refusal.{refuse, _otherwise_, given}
+use Rattle.logic.specs.RefusalLaws.{stops, passes}
 use Rattle.ternary.specs.Digits.{value, digits}
 use Rattle.code.specs.declared.Coded.{Coded}
 use Rattle.code.specs.declared.Coded.the-variants.{Code, Refused}
-use Rattle.code.specs.Code.{coded, isCode, codeRefusal, cellOf}
+use Rattle.code.specs.Code.{coded, codeRefusal, cellOf}
 use Rattle.name.specs.Name.{isDigit, allDigits, digitBytes, firstLetter, nameOf, named, codeNameRefusal}
 use Rattle.name.specs.NameLaws.{length-name}
 use Rattle.name.specs.declared.Named.the-variants as Named-as
@@ -120,21 +121,21 @@ front (b ∷ s) t x h = refl
 -- ---- the answers of `code_name`
 
 module _ (code : ℕ) (room : ℕ) where
-  pub refused-4 : isCode code ≡ false → codeNameRefusal code room ≡ 4
-  unfolding codeNameRefusal codeRefusal _otherwise_
-  refused-4 e = ap (λ (t : Bool). refuse (not t) 4 otherwise refuse (ltb room (length (nameOf (cellOf code)))) 8) e
+  pub refused-4 : codeRefusal code ≡ 4 → codeNameRefusal code room ≡ 4
+  unfolding codeNameRefusal
+  refused-4 e = stops _ _ (λ z. let k : 4 ≡ 0 = sym e ∙ z in omega arith) ∙ e
 
-  pub refused-8 : isCode code ≡ true → room ≤ cellOf code .resolution → codeNameRefusal code room ≡ 8
-  unfolding codeNameRefusal codeRefusal _otherwise_
+  pub refused-8 : codeRefusal code ≡ 0 → room ≤ cellOf code .resolution → codeNameRefusal code room ≡ 8
+  unfolding codeNameRefusal
   refused-8 e h =
       let n = length-name (cellOf code) in
-      ap₂ (λ (t u : Bool). refuse (not t) 4 otherwise refuse u 8) e (lt-ltb room (length (nameOf (cellOf code))) (omega arith))
+      passes _ e ∙ ap (λ (t : Bool). refuse t 8) (lt-ltb room (length (nameOf (cellOf code))) (omega arith))
 
-  pub not-refused : isCode code ≡ true → cellOf code .resolution < room → codeNameRefusal code room ≡ 0
-  unfolding codeNameRefusal codeRefusal _otherwise_
+  pub not-refused : codeRefusal code ≡ 0 → cellOf code .resolution < room → codeNameRefusal code room ≡ 0
+  unfolding codeNameRefusal
   not-refused e h =
       let n = length-name (cellOf code) in
-      ap₂ (λ (t u : Bool). refuse (not t) 4 otherwise refuse u 8) e (le-ltb room (length (nameOf (cellOf code))) (omega arith))
+      passes _ e ∙ ap (λ (t : Bool). refuse t 8) (le-ltb room (length (nameOf (cellOf code))) (omega arith))
 
 -- a refusal leaves the lent bytes as they were
 pub nothing-written : {q : ℕ} (r n : ℕ) (x s : List ℕ) → q ≡ suc r → (Named-as.Refused (suc r) ≡ named q n) × (s ≡ given q x s)

@@ -9,6 +9,7 @@ ghost use Rattle.ternary.specs.Digits.{value, digits};
 ghost use Rattle.code.specs.Code.{coded, cellOf};
 ghost use Rattle.name.specs.Name.{allDigits, firstLetter, digitsIn, digitBytes, nameRefusal, nameCode, nameOf, codeNameRefusal, named, nameIn};
 use code::Coded;
+use code::Split;
 
 // The length of a name that was written, or the number of the refusal.
 pub enum Named {
@@ -102,14 +103,18 @@ pub fn code_name(code: u64, name: &mut [u8]) -> Named
     ensures { λ r. ⌜ r ≡ named (codeNameRefusal code (length (now (name .entry)))) (length (nameOf (cellOf code))) ⌝ }
     ensures { λ r. ⌜ now (name .exit) ≡ given (codeNameRefusal code (length (now (name .entry)))) (nameIn code (now (name .entry))) (now (name .entry)) ⌝ }
 {
-    if !code::is_code(code) {
+    let Split::Parts {
+        face,
+        resolution,
+        path,
+    } = code::parts_of(code)
+    else {
         return Named::Refused(4);
-    }
-    let digits = code::resolution_in(code);
-    let count = digits as usize;
+    };
+    let count = resolution as usize;
     if name.len() <= count {
         return Named::Refused(8);
     }
-    put_name(name, code::face_in(code), count, code::path_in(code));
-    Named::Length(digits + 1)
+    put_name(name, face, count, path);
+    Named::Length(resolution + 1)
 }

@@ -28,11 +28,10 @@ returns c =
     sym (ap (λ (x : ℕ). found x (cellOf a)) r)
 
 unwoven-requires : tie.Need-unwoven-requires
-unfolding cellOf
 unwoven-requires c κs =
     let n = c .before .before .before in
     let p = parted (n .before .args .code) (n .parts-of .ensures) (c .before .face .given .1) in
-    omega (arith, p .resolution)
+    omega (arith, p .resolution, p .cell .fine)
 
 returns-2 : tie.Need-returns-2
 unfolding cellOf found
