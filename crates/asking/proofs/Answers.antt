@@ -7,7 +7,6 @@ use native.Mathlib.Omega.{arith}
 use lib.Dec.{eqb, ltb}
 use Rattle.logic.specs.Refusal.{refuse, _otherwise_}
 use Rattle.logic.specs.RefusalLaws.{stops, passes}
-use Rattle.cell.specs.declared.Cell.{Cell}
 use Rattle.cell.specs.declared.Arrangement.{Arrangement}
 use Rattle.cell.specs.Cell.{arrangementRefusal}
 use Rattle.cell.specs.CellLaws.{five}
@@ -47,12 +46,10 @@ module _ (a : Arrangement) (t : List ℕ) (code : ℕ) where
           refusal t code (passes _ (sym e ∙ z) ∙ passes _ f ∙ stops _ _ (λ y. u .some (sym (u .refusal) ∙ y)) ∙ u .refusal) (u .some) (u .place)
 
       -- 14, or the answer
-      pub read-to : {n s c y : ℕ} {x : Cell} → Read t n s c y → x ≡ cellOf code → askedAs a n s (anyWithin (wholeCells (nodesOf t)) x) ≡ asked (askRefusal a t code) t code
+      pub read-to : {n s c y : ℕ} → Read t n s c y → askedAs a n s (anyWithin (wholeCells (nodesOf t)) (cellOf code)) ≡ asked (askRefusal a t code) t code
       unfolding askRefusal askedAs asked
-      read-to {n} {s} r i =
-          ap₂ (λ (b d : Bool). cond b (Covered d) (Refused 14 0))
-          (ap₂ (λ (x y : ℕ). eqb (a .north) x && eqb (a .south) y) (r .north) (r .south))
-          (ap (anyWithin (wholeCells (nodesOf t))) i)
+      read-to r =
+          ap₂ (λ (x y : ℕ). cond (eqb (a .north) x && eqb (a .south) y) (Covered (anyWithin (wholeCells (nodesOf t)) (cellOf code))) (Refused 14 0)) (r .north) (r .south)
           ∙ go (eqb (a .north) (northOf t) && eqb (a .south) (southOf t))
           ∙ sym (ap (λ (x : ℕ). asked x t code) (passes _ (sym e ∙ z) ∙ passes _ f ∙ passes _ (r .allowed)))
         where

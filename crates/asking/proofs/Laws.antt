@@ -12,9 +12,6 @@ use lib.Dec.{leb, eqb}
 use borrow.Author.Tests.{le-leb, lt-leb, eq-eqb, ne-eqb}
 use Rattle.logic.specs.Bools.{clash}
 use Rattle.logic.specs.Order.{lt-or}
-use Rattle.cell.specs.declared.Cell.{Cell}
-use Rattle.code.specs.Inside.{startOf, endOf}
-use Rattle.code.specs.InsideLaws.{size-pos}
 use Rattle.reading.specs.declared.Level.{Level}
 use Rattle.reading.specs.declared.Level.the-variants.{Faces, Digits}
 use Rattle.reading.specs.Reading.{Nodes, end, whole, listed, first, many, room, render, Good}
@@ -318,8 +315,3 @@ module _ (t : List ℕ) (i : ℕ) where
       let e : nodeIn (drop i t) ≡ 2 + shutIn 1 (drop (i + 2) t) =
       ap (λ (b : Bool). cond b 1 (2 + shutIn 1 (drop 2 (drop i t)))) w ∙ ap (λ (x : List ℕ). 2 + shutIn 1 x) (drop-drop 2 i t) in
       omega arith
-
--- a cell has a finest cell
-pub some-finest : (x : Cell) → startOf x < endOf x
-unfolding endOf
-some-finest x = omega (arith, size-pos x)

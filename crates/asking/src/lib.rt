@@ -3,14 +3,12 @@ ghost use mathlib.Core.Path.{_≡_};
 ghost use mathlib.Core.Bool.{true};
 ghost use Prim.Native.Nat.{_+_, _^_, _≤_, _<_};
 ghost use lib.ListN.{length, drop};
-ghost use Rattle.cell.specs.Cell.{IsCell};
+ghost use Rattle.code.specs.Code.{isCode, cellOf};
 ghost use Rattle.reading.specs.Ground.{wholeCells};
 ghost use Rattle.reading.specs.TextReading.{isText, nodesOf};
 ghost use Rattle.asking.specs.Ask.{anyWithin, askRefusal, asked, askedAs};
 ghost use Rattle.asking.specs.AskNodes.{openPast, shutIn, nodeIn};
 use cell::Arrangement;
-use cell::Cell;
-use cell::Found;
 use reader::Checked;
 
 // Whether all of the asked cell's finest cells are covered; or the refusal, with the place for 9.
@@ -62,12 +60,12 @@ fn past_node(text: &[u8], i: usize) -> usize
 
 // "whether all of one cell's finest cells are covered": one whole cell of the text has the cell inside. Nodes that end before the cell does are passed
 // over, and behind one that starts behind the cell's start none holds it. The cells side by side have this size, and the first one starts at `before`.
-pub fn is_covered(text: &[u8], cell: Cell) -> bool
-    requires { ⌜ (isText (now text) ≡ true) × IsCell cell ⌝ }
-    ensures { λ r. ⌜ r ≡ anyWithin (wholeCells (nodesOf (now (text .entry)))) cell ⌝ }
+fn is_covered(text: &[u8], code: u64) -> bool
+    requires { ⌜ (isText (now text) ≡ true) × (isCode code ≡ true) ⌝ }
+    ensures { λ r. ⌜ r ≡ anyWithin (wholeCells (nodesOf (now (text .entry)))) (cellOf code) ⌝ }
 {
-    let from = code::start_of(cell);
-    let to = code::end_of(cell);
+    let from = code::start_in(code);
+    let to = from + code::size_in(code);
     let mut base: u8 = 78;
     let mut before: u64 = 0;
     let mut size: u64 = 205_891_132_094_649;
@@ -97,9 +95,9 @@ pub fn is_covered(text: &[u8], cell: Cell) -> bool
 }
 
 // The answer of a text that was read, for the asked arrangement: 14 where its heading has another.
-fn answered(arrangement: Arrangement, north: u64, south: u64, text: &[u8], cell: Cell) -> Asked
-    requires { ⌜ (isText (now text) ≡ true) × IsCell cell ⌝ }
-    ensures { λ r. ⌜ r ≡ askedAs arrangement north south (anyWithin (wholeCells (nodesOf (now (text .entry)))) cell) ⌝ }
+fn answered(arrangement: Arrangement, north: u64, south: u64, text: &[u8], code: u64) -> Asked
+    requires { ⌜ (isText (now text) ≡ true) × (isCode code ≡ true) ⌝ }
+    ensures { λ r. ⌜ r ≡ askedAs arrangement north south (anyWithin (wholeCells (nodesOf (now (text .entry)))) (cellOf code)) ⌝ }
 {
     if arrangement.north != north {
         return Asked::Refused {
@@ -113,7 +111,7 @@ fn answered(arrangement: Arrangement, north: u64, south: u64, text: &[u8], cell:
             place: 0,
         };
     }
-    Asked::Covered(is_covered(text, cell))
+    Asked::Covered(is_covered(text, code))
 }
 
 // Asking any bytes of any code: 5, 4, 13, 10, 9 and 14, in that order.
@@ -124,12 +122,12 @@ pub fn ask(arrangement: Arrangement, text: &[u8], code: u64) -> Asked
     if refusal != 0 {
         return Asked::Refused { refusal, place: 0 };
     }
-    let Found::At(cell) = code::cell_of(code) else {
+    if !code::is_code(code) {
         return Asked::Refused {
             refusal: 4,
             place: 0,
         };
-    };
+    }
     match reader::check(text) {
         Checked::Refused { refusal, place } => Asked::Refused { refusal, place },
         Checked::Text {
@@ -137,6 +135,6 @@ pub fn ask(arrangement: Arrangement, text: &[u8], code: u64) -> Asked
             south,
             cells: _,
             size: _,
-        } => answered(arrangement, north, south, text, cell),
+        } => answered(arrangement, north, south, text, code),
     }
 }

@@ -2,6 +2,7 @@
 use mathlib.Core.Path.{_≡_, sym, ap, ap₂, _∙_}
 use mathlib.Core.Bool.{Bool, _&&_, cond}
 use borrow.Author.Tests.{eq-eqb, ne-eqb}
+use Rattle.code.specs.Code.{cellOf}
 use Rattle.reading.specs.Ground.{wholeCells}
 use Rattle.reading.specs.TextReading.{nodesOf}
 use Rattle.asking.specs.declared.Asked.the-variants.{Covered, Refused}
@@ -27,7 +28,7 @@ unfolding askedAs
 returns-3 c =
     let a = c .before .before .before .before .before .before .args in
     ap Covered (c .is-covered .ensures)
-    ∙ sym (ap₂ (λ (x y : Bool). cond (x && y) (Covered (anyWithin (wholeCells (nodesOf (a .text .now))) (a .cell))) (Refused 14 0)) (eq-eqb _ _ (c .before .before .before .if1 .left)) (eq-eqb _ _ (c .before .if2 .left)))
+    ∙ sym (ap₂ (λ (x y : Bool). cond (x && y) (Covered (anyWithin (wholeCells (nodesOf (a .text .now))) (cellOf (a .code)))) (Refused 14 0)) (eq-eqb _ _ (c .before .before .before .if1 .left)) (eq-eqb _ _ (c .before .if2 .left)))
 
 pub answered-spec : {M : Type 1} → statement M
 answered-spec = tie.close (tie.spec returns returns-2 is-covered-requires returns-3)

@@ -1,12 +1,18 @@
 -- `asking::ask` meets its contract. Assumes nothing.
 use mathlib.Core.Path.{_≡_, sym, _∙_}
-use Rattle.reader.specs.AnswerLaws.{answered, refused}
-use Rattle.code.specs.DecodedLaws.{decoded, undecoded}
-use Rattle.asking.proofs.Answers.{not-arranged, no-code, not-read, read-to}
-use native.Mathlib.Omega.{arith}
+use mathlib.Core.Bool.{true}
 use borrow.Author.Needs.{needs}
+use borrow.Author.Tests.{not-true, not-false}
+use Rattle.code.specs.Code.{isCode}
+use Rattle.code.specs.CodeLaws.{code-passes, code-stops}
+use Rattle.reader.specs.AnswerLaws.{answered, refused}
+use Rattle.asking.proofs.Answers.{not-arranged, no-code, not-read, read-to}
 use Rattle.asking.proofs.ask.Statement.{statement}
 use Rattle.asking.proofs.ask.Tie as tie
+
+-- the code is a cell's where the second test let it pass
+a-code : (c : tie.Else2) → isCode (c .before .before .before .before .before .args .code) ≡ true
+a-code c = sym (c .before .is-code .ensures) ∙ not-false _ (c .if2 .left)
 
 refusal-requires : tie.Need-refusal-requires
 refusal-requires c κs = search needs
@@ -16,21 +22,14 @@ returns c =
     let a = c .before .before .before .args in
     not-arranged (a .arrangement) (a .text .now) (a .code) (c .before .refusal .ensures) (c .if1 .taken)
 
-cell-of-requires : tie.Need-cell-of-requires
-cell-of-requires c κs = search needs
-
-enum-known-cell : tie.Need-enum-known-cell
-enum-known-cell c = search needs
-
-enum-told : tie.Need-enum-told
-enum-told c = search needs
+is-code-requires : tie.Need-is-code-requires
+is-code-requires c κs = search needs
 
 returns-2 : tie.Need-returns-2
 returns-2 c =
-    let u = c .before .before in
-    let f = u .before in
+    let f = c .before .before in
     let a = f .before .before .before .args in
-    no-code (a .arrangement) (a .text .now) (a .code) (f .before .refusal .ensures) (f .if1 .left) (undecoded (a .code) (u .cell-of .ensures) (c .enum-told .given .1))
+    no-code (a .arrangement) (a .text .now) (a .code) (f .before .refusal .ensures) (f .if1 .left) (code-stops (a .code) (sym (c .before .is-code .ensures) ∙ not-true _ (c .if2 .taken)))
 
 check-requires : tie.Need-check-requires
 check-requires c κs = search needs
@@ -44,31 +43,23 @@ enum-known-north c = search needs
 answered-requires : tie.Need-answered-requires
 answered-requires c κs =
     let k = c .before .before .before in
-    let x = k .before .before in
-    let d = decoded _ (x .before .before .cell-of .ensures) (x .cell .given .1) in
-    (answered _ (sym (c .before .north .given .1) ∙ k .check .ensures) .text, d .cell)
+    (answered _ (sym (c .before .north .given .1) ∙ k .check .ensures) .text, a-code (k .before))
 
 returns-3 : tie.Need-returns-3
 returns-3 c =
     let k = c .before .before .before in
-    let x = k .before .before in
-    let u = x .before .before in
-    let f = u .before in
+    let f = k .before .before .before in
     let a = f .before .before .before .args in
-    let d = decoded (a .code) (u .cell-of .ensures) (x .cell .given .1) in
-    not-read (a .arrangement) (a .text .now) (a .code) (f .before .refusal .ensures) (f .if1 .left) (d .allowed) (refused (a .text .now) (sym (c .before .refusal2 .given .1) ∙ k .check .ensures))
+    not-read (a .arrangement) (a .text .now) (a .code) (f .before .refusal .ensures) (f .if1 .left) (code-passes (a .code) (a-code (k .before))) (refused (a .text .now) (sym (c .before .refusal2 .given .1) ∙ k .check .ensures))
 
 returns-4 : tie.Need-returns-4
 returns-4 c =
     let w = c .before .before in
     let k = w .before .before in
-    let x = k .before .before in
-    let u = x .before .before in
-    let f = u .before in
+    let f = k .before .before .before in
     let a = f .before .before .before .args in
-    let d = decoded (a .code) (u .cell-of .ensures) (x .cell .given .1) in
     c .answered .ensures
-    ∙ read-to (a .arrangement) (a .text .now) (a .code) (f .before .refusal .ensures) (f .if1 .left) (d .allowed) (answered (a .text .now) (sym (w .north .given .1) ∙ k .check .ensures)) (d .is)
+    ∙ read-to (a .arrangement) (a .text .now) (a .code) (f .before .refusal .ensures) (f .if1 .left) (code-passes (a .code) (a-code (k .before))) (answered (a .text .now) (sym (w .north .given .1) ∙ k .check .ensures))
 
 pub ask-spec : {M : Type 1} → statement M
 ask-spec =
@@ -76,9 +67,7 @@ ask-spec =
     (tie.spec
     refusal-requires
     returns
-    cell-of-requires
-    enum-known-cell
-    enum-told
+    is-code-requires
     returns-2
     check-requires
     enum-known-refusal

@@ -1,40 +1,52 @@
 -- `asking::is_covered` meets its contract: the nodes from here on decide. Assumes nothing.
 use mathlib.Core.Path.{_≡_, sym, ap₂, _∙_}
-use Prim.Native.Nat.{ℕ, _-_, _^_, _<_}
+use Prim.Native.Nat.{ℕ, _+_, _-_, _^_, _<_}
 use native.Mathlib.Omega.{arith}
 use lib.ListN.{length, drop}
 use borrow.Author.Needs.{needs}
+use Rattle.code.specs.Code.{cellOf}
+use Rattle.code.specs.CodeLaws.{code-is-cell}
+use Rattle.code.specs.Inside.{endOf}
+use Rattle.code.specs.InsideLaws.{end-small, size-pos}
 use Rattle.reading.specs.Ground.{wholeCells}
 use Rattle.reading.specs.ReadingLaws.{many-most}
 use Rattle.reading.specs.TextReading.{nodesOf}
 use Rattle.asking.specs.Ask.{anyWithin}
 use Rattle.asking.specs.AskNodes.{anyIn, nodes-asked}
-use Rattle.asking.proofs.Laws.{Asks, asks-start, asks-end, asks-shut, asks-named, asks-fits, asks-behind, asks-past, asks-yes, asks-into, node-some, some-finest}
+use Rattle.asking.proofs.Laws.{Asks, asks-start, asks-end, asks-shut, asks-named, asks-fits, asks-behind, asks-past, asks-yes, asks-into, node-some}
 use Rattle.asking.proofs.is_covered.Statement.{statement}
 use Rattle.asking.proofs.is_covered.Tie as tie
 
 abbrev Inv-loop : tie.InvT-loop
-Inv-loop text from to base₀ before₀ size₀ i₀ base before size i = Asks text from to (anyIn from to 0 (9 ^ 15) (nodesOf text)) base before size i
+Inv-loop text code from to base₀ before₀ size₀ i₀ base before size i = Asks text from to (anyIn from to 0 (9 ^ 15) (nodesOf text)) base before size i
 
 abbrev μ-loop : tie.MeasureT-loop
-μ-loop text from to base₀ before₀ size₀ i₀ base before size i = length text - i
+μ-loop text code from to base₀ before₀ size₀ i₀ base before size i = length text - i
 
 -- the loop's first state gives the answer
-answer : (c : tie.After-end-of Inv-loop μ-loop) → let a = c .before .before .before .args in
-    anyIn (c .before .start-of .result) (c .end-of .result) 0 (9 ^ 15) (nodesOf (a .text .now)) ≡ anyWithin (wholeCells (nodesOf (a .text .now))) (a .cell)
+answer : (c : tie.After-size-in Inv-loop μ-loop) → let a = c .before .before .before .args in
+    anyIn (c .before .start-in .result) (c .before .start-in .result + c .size-in .result) 0 (9 ^ 15) (nodesOf (a .text .now)) ≡ anyWithin (wholeCells (nodesOf (a .text .now))) (cellOf (a .code))
+unfolding endOf
 answer c =
     let a = c .before .before .before .args in
-    ap₂ (λ (x y : ℕ). anyIn x y 0 (9 ^ 15) (nodesOf (a .text .now))) (c .before .start-of .ensures) (c .end-of .ensures)
-    ∙ nodes-asked (a .text .now) (c .before .before .before .pre .0) (a .cell)
+    ap₂ (λ (x y : ℕ). anyIn x (x + y) 0 (9 ^ 15) (nodesOf (a .text .now))) (c .before .start-in .ensures) (c .size-in .ensures)
+    ∙ nodes-asked (a .text .now) (c .before .before .before .pre .0) (cellOf (a .code))
 
-some : (c : tie.After-end-of Inv-loop μ-loop) → c .before .start-of .result < c .end-of .result
-some c = omega (arith, some-finest (c .before .before .before .args .cell), c .before .start-of .ensures, c .end-of .ensures)
+some : (c : tie.After-size-in Inv-loop μ-loop) → c .before .start-in .result < c .before .start-in .result + c .size-in .result
+some c = omega (arith, size-pos (cellOf (c .before .before .before .args .code)), c .size-in .ensures)
 
-start-of-requires : tie.Need-start-of-requires Inv-loop μ-loop
-start-of-requires c κs = c .before .pre .1
+start-in-requires : tie.Need-start-in-requires Inv-loop μ-loop
+start-in-requires c κs = c .before .pre .1
 
-end-of-requires : tie.Need-end-of-requires Inv-loop μ-loop
-end-of-requires c κs = c .before .before .pre .1
+size-in-requires : tie.Need-size-in-requires Inv-loop μ-loop
+size-in-requires c κs = search needs
+
+add-to : tie.Need-add-to Inv-loop μ-loop
+unfolding endOf
+add-to c =
+    let n = c .before .before .before in
+    let v = code-is-cell (n .args .code) (n .pre .1) in
+    omega (arith, c .before .start-in .ensures, c .size-in .ensures, end-small (cellOf (n .args .code)) v, v .faced)
 
 loop-holds : tie.Need-loop-holds Inv-loop μ-loop
 loop-holds c = asks-start _ _ _ (c .before .before .before .pre .0)
@@ -98,8 +110,9 @@ is-covered-spec =
     (tie.spec
     Inv-loop
     μ-loop
-    start-of-requires
-    end-of-requires
+    start-in-requires
+    size-in-requires
+    add-to
     loop-holds
     shared-slice-read-b
     returns
