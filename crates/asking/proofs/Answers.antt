@@ -4,7 +4,7 @@ use mathlib.Core.Bool.{Bool, true, false, _&&_, not, cond}
 use mathlib.Core.List.{List}
 use Prim.Native.Nat.{ℕ, zero, suc}
 use native.Mathlib.Omega.{arith}
-use lib.Dec.{eqb, ltb}
+use lib.Dec.{eqb}
 use Rattle.logic.specs.Refusal.{refuse, _otherwise_}
 use Rattle.logic.specs.RefusalLaws.{stops, passes}
 use Rattle.cell.specs.declared.Arrangement.{Arrangement}
@@ -13,7 +13,7 @@ use Rattle.cell.specs.CellLaws.{five}
 use Rattle.code.specs.Code.{cellOf, codeRefusal}
 use Rattle.reading.specs.Ground.{wholeCells}
 use Rattle.reading.specs.TextReading.{nodesOf, northOf, southOf}
-use Rattle.reader.specs.Check.{textRefusal, placeWith}
+use Rattle.reader.specs.Check.{placeWith}
 use Rattle.reader.specs.AnswerLaws.{Read, Unread}
 use Rattle.asking.specs.declared.Asked.{Asked}
 use Rattle.asking.specs.declared.Asked.the-variants.{Covered, Refused}

@@ -1,18 +1,18 @@
 -- Lying inside is an order of ranges: a cell lies inside another exactly when its finest cells are among the other's. Assumes nothing.
 use mathlib.Core.Path.{_≡_, refl, sym, ap, ap₂, _∙_}
-use Prim.Native.Nat.{ℕ, zero, suc, _+_, _-_, _*_, _/_, _%_, _^_, _≤_, _<_}
+use Prim.Native.Nat.{ℕ, suc, _+_, _-_, _*_, _/_, _^_, _≤_, _<_}
 use mathlib.Core.Bool.{true}
 use native.Mathlib.Nat.{add-mul, suc-mul, mul-assoc, mul-le-mul-right, div-eq-of-lt-le, div-mul-le-self, lt-div-mul-add, le-of-mul-le-mul-right, one-mul, div-lt-iff-lt-mul, le-trans}
 use native.Mathlib.Omega.{arith}
 use mathlib.Core.Logic.{_⊎_, inl, inr, ⊎-elim}
 use Rattle.logic.specs.Order.{lt-or, three-ways}
-use Rattle.ternary.specs.Powers.{nine-pos, nine-lt, nine-split, nine-add, power-add, power-pos}
+use Rattle.ternary.specs.Powers.{nine-pos, nine-le, nine-lt, nine-split, nine-add, power-add, power-pos}
 use Rattle.ternary.specs.Weave.{weave}
 use Rattle.ternary.specs.WeaveLaws.{weave-prefix, weave-one}
 use Rattle.cell.specs.declared.Cell.{Cell}
 use Rattle.cell.specs.Cell.{IsCell}
 use Rattle.code.specs.Code.{pathOf, codeAt, codeOf, cellOf, isCode, sizeOf}
-use Rattle.code.specs.CodeLaws.{path-weave, path-small, finest-small, code-is-cell, code-cell}
+use Rattle.code.specs.CodeLaws.{path-weave, path-small, code-is-cell, code-cell}
 use Rattle.code.specs.Inside.{Inside, startOf, endOf, Within}
 
 -- a code without its resolution is the number of the first finest cell
@@ -36,6 +36,10 @@ end-small c v =
 pub size-pos : (c : Cell) → 0 < sizeOf c
 unfolding sizeOf
 size-pos c = nine-pos (15 - c .resolution)
+
+pub size-small : (c : Cell) → sizeOf c ≤ 205891132094649
+unfolding sizeOf
+size-small c = nine-le {i = 15 - c .resolution} {j = 15} (omega arith)
 
 -- ---- p is q without its last digits, s to a digit of p, exactly when the ranges lie in one another
 

@@ -2,8 +2,6 @@
 ghost use mathlib.Core.Path.{_≡_};
 ghost use mathlib.Core.Bool.{true};
 ghost use Prim.Native.Nat.{_+_, _-_, _^_, _≤_, _<_};
-ghost use lib.ListN.{length, drop};
-ghost use Rattle.ternary.specs.Digits.{value};
 ghost use Rattle.cell.specs.Cell.{IsCell, cellRefusal, cellIn, found};
 ghost use Rattle.code.specs.Code.{codeAt, codeOf, isCode, pathIn, cellOf, codeRefusal, sizeOf, coded, foundCode, split};
 ghost use Rattle.code.specs.Inside.{startOf, endOf};

@@ -4,16 +4,15 @@ use mathlib.Core.Bool.{Bool, true, false, _&&_, not}
 use Prim.Native.Nat.{ℕ, zero, suc, _+_, _-_, _*_, _/_, _%_, _^_, _≤_, _<_}
 use mathlib.Core.List.{List, [], _∷_, _++_, map, map-append, append-assoc}
 use native.Mathlib.Numerals.{add-one}
-use native.Mathlib.Nat.{pow-suc, mul-assoc, mul-comm, add-mul, one-mul, zero-mul, add-assoc, mul-one}
+use native.Mathlib.Nat.{pow-suc, mul-assoc, mul-comm, add-mul, zero-mul, mul-one}
 use native.Mathlib.Omega.{arith}
-use lib.Dec.{leb, ltb}
-use lib.ListN.{length, take, drop, getD, set, length-map, take-append-drop}
+use lib.Dec.{leb}
+use lib.ListN.{length, take, drop, getD, set, length-map}
 use lib.Seq.{drop-cons, take-take, take-set-le, set-split, drop-at, length-take-le}
 use borrow.Author.Tests.{lt-leb, le-leb, lt-ltb, le-ltb}
-use Rattle.logic.specs.Refusal.{refuse, _otherwise_, given}
+use Rattle.logic.specs.Refusal.{refuse, given}
 use Rattle.logic.specs.RefusalLaws.{stops, passes}
 use Rattle.ternary.specs.Digits.{value, digits}
-use Rattle.code.specs.declared.Coded.{Coded}
 use Rattle.code.specs.declared.Coded.the-variants.{Code, Refused}
 use Rattle.code.specs.Code.{coded, codeRefusal, cellOf}
 use Rattle.name.specs.Name.{isDigit, allDigits, digitBytes, firstLetter, nameOf, named, codeNameRefusal}

@@ -3,7 +3,7 @@ use mathlib.Core.Path.{_≡_, refl, sym, ap, ap₂, _∙_}
 use mathlib.Core.Bool.{Bool, true, false, _&&_, not}
 use mathlib.Core.Logic.{_⊎_, inl, inr, ⊎-elim}
 use mathlib.Core.List.{List, [], _∷_, _++_}
-use Prim.Native.Nat.{ℕ, zero, suc, _+_, _-_, _*_, _/_, _%_, _^_, _≤_, _<_}
+use Prim.Native.Nat.{ℕ, zero, suc, _+_, _-_, _*_, _/_, _≤_, _<_}
 use native.Mathlib.Numerals.{add-one}
 use native.Mathlib.Omega.{arith}
 use lib.Dec.{leb, ltb}
@@ -17,12 +17,12 @@ use Rattle.cell.specs.Cell.{arrangementRefusal}
 use Rattle.code.specs.Code.{cellOf, isCode, sizeOf}
 use Rattle.code.specs.CodeLaws.{code-is-cell, code-cell}
 use Rattle.code.specs.Inside.{startOf, endOf}
+use Rattle.code.specs.InsideLaws.{start-at}
 use Rattle.reading.specs.Text.{heading}
 use Rattle.writing.specs.declared.Written.{Written}
 use Rattle.writing.specs.declared.Written.the-variants.{Length, Refused}
 use Rattle.writing.specs.WriteEntry.{allCodes, lies, ordered, listRefusal, textOf, writeRefusal, textIn, written}
 use Rattle.writing.specs.ListLaws.{not-lies}
-use Rattle.writing.specs.MeasureLaws.{start-at}
 use Rattle.writing.specs.Put.{laid}
 
 -- ---- the tests of the list
@@ -68,11 +68,11 @@ order-end codes i h = short-order (drop i codes) (rw (length-drop i codes) (omeg
 pub not-after : (c x : ℕ) → x ≤ c → false ≡ (ltb c x && not (lies (cellOf c) (cellOf x)))
 not-after c x h = rw (le-ltb c x h) refl
 
-pub after : (c x p : ℕ) → isCode c ≡ true → isCode x ≡ true → c < x → p ≡ 9 ^ (15 - c % 16) → leb (c / 16 + p) (x / 16) ≡ (ltb c x && not (lies (cellOf c) (cellOf x)))
-unfolding endOf sizeOf cellOf
+pub after : (c x p : ℕ) → isCode c ≡ true → isCode x ≡ true → c < x → p ≡ sizeOf (cellOf c) → leb (c / 16 + p) (x / 16) ≡ (ltb c x && not (lies (cellOf c) (cellOf x)))
+unfolding endOf
 after c x p i j h e =
     let k = not-lies (cellOf c) (cellOf x) (code-is-cell c i) (code-is-cell x j) (omega (arith, code-cell c i, code-cell x j)) in
-    let f : c / 16 + p ≡ startOf (cellOf c) + 9 ^ (15 - c % 16) = omega (arith, start-at c i) in
+    let f : c / 16 + p ≡ startOf (cellOf c) + sizeOf (cellOf c) = omega (arith, start-at c i) in
     ap₂ leb f (start-at x j) ∙ sym (rw (lt-ltb c x h) k)
 
 -- ---- the refusals of the list

@@ -22,7 +22,7 @@ use Rattle.cell.specs.HierarchyLaws.{child-is-cell}
 use Rattle.code.specs.Code.{digitsOf, codeAt, pathOf, codeOf, cellOf, isCode, sizeOf}
 use Rattle.code.specs.CodeLaws.{code-is-cell, code-cell, cell-code, length-digits-of, digits-of-below}
 use Rattle.code.specs.Inside.{Inside, Within, startOf, endOf}
-use Rattle.code.specs.InsideLaws.{start-code, size-pos, inside-within}
+use Rattle.code.specs.InsideLaws.{start-code, start-at, size-pos, inside-within}
 use Rattle.code.specs.SizeLaws.{child-size, child-start}
 use Rattle.reading.specs.declared.Level.{Level}
 use Rattle.reading.specs.declared.Level.the-variants.{Digits}
@@ -59,9 +59,6 @@ area-at codes at h =
 
 names-end : (codes : List ℕ) (at : ℕ) → length codes ≤ at → namesFrom codes at ≡ []
 names-end codes at h = ap (λ (cs : List ℕ). map nameOf (map cellOf cs)) (drop-of-length-le codes h)
-
-pub start-at : (x : ℕ) → isCode x ≡ true → x / 16 ≡ startOf (cellOf x)
-start-at x t = let v = code-is-cell x t in omega (arith, v .fine, code-cell x t, start-code (cellOf x) v)
 
 pub start-named : (w : Name) → IsName 6 15 w → codeOf (cellNamed w) / 16 ≡ startOf (cellNamed w)
 start-named w n = let v = named-cell w n in omega (arith, v .fine, start-code (cellNamed w) v)

@@ -11,7 +11,7 @@ use Rattle.ternary.specs.Powers.{nine-pos}
 use Rattle.code.specs.Code.{cellOf, isCode, sizeOf}
 use Rattle.code.specs.CodeLaws.{code-is-cell}
 use Rattle.code.specs.Inside.{Inside, startOf, endOf}
-use Rattle.code.specs.InsideLaws.{inside-within}
+use Rattle.code.specs.InsideLaws.{start-at, inside-within}
 use Rattle.reading.specs.ReadingLaws.{eq-or}
 use Rattle.reading.specs.Ground.{cellNamed}
 use Rattle.reading.specs.Prefix.{Name, nameOf, Prefix, Ahead, Rise}
@@ -20,7 +20,7 @@ use Rattle.reading.specs.NamedLaws.{named-cell, name-named, prefix-inside}
 use Rattle.writing.specs.WriteEntry.{allCodes}
 use Rattle.writing.specs.Take.{Each, Took}
 use Rattle.writing.specs.Measure.{namesFrom, area, areaFrom, NodeAt, ListAt, NodeTakes, ListTakes}
-use Rattle.writing.specs.MeasureLaws.{code-at, names-at, area-at, start-at, start-named, end-named, node-finest, node-exact, node-list, node-nine, node-held, list-none, list-node, list-rest, list-in, all-later, list-skip, list-out}
+use Rattle.writing.specs.MeasureLaws.{code-at, names-at, area-at, start-named, end-named, node-finest, node-exact, node-list, node-nine, node-held, list-none, list-node, list-rest, list-in, all-later, list-skip, list-out}
 use Rattle.writing.specs.Whole.{Tiled}
 
 -- ---- some node is made of the codes

@@ -1,7 +1,7 @@
 // The accepted text of a list of cells.
 ghost use mathlib.Core.Path.{_≡_};
 ghost use mathlib.Core.Bool.{true, _&&_, not};
-ghost use Prim.Native.Nat.{_+_, _-_, _*_, _%_, _^_, _≤_, _<_};
+ghost use Prim.Native.Nat.{_+_, _-_, _*_, _^_, _≤_, _<_};
 ghost use lib.ListN.{length, set};
 ghost use Rattle.writing.specs.Measure.{AtHand, NodeMeasured, ListMeasured};
 ghost use Rattle.writing.specs.Whole.{WholeTold};
@@ -100,30 +100,6 @@ fn measure_list(codes: &[u64], at: usize, left: u64, cell: u64, size: u64) -> Ta
     }
 }
 
-// The number of finest cells of a code's cell.
-fn size_in(code: u64) -> u64
-    ensures { λ r. ⌜ r ≡ 9 ^ (15 - code % 16) ⌝ }
-{
-    match code % 16 {
-        0 => 205_891_132_094_649,
-        1 => 22_876_792_454_961,
-        2 => 2_541_865_828_329,
-        3 => 282_429_536_481,
-        4 => 31_381_059_609,
-        5 => 3_486_784_401,
-        6 => 387_420_489,
-        7 => 43_046_721,
-        8 => 4_782_969,
-        9 => 531_441,
-        10 => 59_049,
-        11 => 6_561,
-        12 => 729,
-        13 => 81,
-        14 => 9,
-        _ => 1,
-    }
-}
-
 // The place of the next code after a whole node, or the same place where the node is not whole. It is whole where the codes from here on
 // cover its finest cells with no gap.
 fn whole_until(codes: &[u64], at: usize, cell: u64, size: u64) -> usize
@@ -143,7 +119,7 @@ fn whole_until(codes: &[u64], at: usize, cell: u64, size: u64) -> usize
         if position < code / 16 {
             return at;
         }
-        position = position + size_in(code);
+        position = position + code::size_in(code);
         i = i + 1;
         if cell / 16 + size <= position {
             return i;
@@ -231,17 +207,6 @@ fn put_list(
     Placed { next, place: ends }
 }
 
-// Whether some cell has this code: `code::is_code` with the size looked up.
-fn is_cell(code: u64) -> bool
-    ensures { λ r. ⌜ r ≡ isCode code ⌝ }
-{
-    let finest = code / 16;
-    if finest / 205_891_132_094_649 < 6 {
-        return finest % 205_891_132_094_649 % size_in(code) == 0;
-    }
-    false
-}
-
 // Whether the cell of the second code comes after that of the first and not inside.
 fn follows(code: u64, next: u64) -> bool
     requires { ⌜ (isCode code ≡ true) × (isCode next ≡ true) ⌝ }
@@ -250,7 +215,7 @@ fn follows(code: u64, next: u64) -> bool
     if next <= code {
         return false;
     }
-    code / 16 + size_in(code) <= next / 16
+    code / 16 + code::size_in(code) <= next / 16
 }
 
 // 4 or 11, or 0 where the codes make a good list: a code that is no cell's comes before all else.
@@ -261,7 +226,7 @@ fn list_refusal(codes: &[u64]) -> u64
     let mut i: usize = 0;
     while i < codes.len() {
         let code = codes[i];
-        if !is_cell(code) {
+        if !code::is_code(code) {
             return 4;
         }
         if i > 0 {

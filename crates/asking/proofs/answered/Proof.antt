@@ -1,5 +1,5 @@
 -- `asking::answered` meets its contract. Assumes nothing.
-use mathlib.Core.Path.{_≡_, sym, ap, ap₂, _∙_}
+use mathlib.Core.Path.{sym, ap, ap₂, _∙_}
 use mathlib.Core.Bool.{Bool, _&&_, cond}
 use borrow.Author.Tests.{eq-eqb, ne-eqb}
 use Rattle.code.specs.Code.{cellOf}
@@ -7,7 +7,6 @@ use Rattle.reading.specs.Ground.{wholeCells}
 use Rattle.reading.specs.TextReading.{nodesOf}
 use Rattle.asking.specs.declared.Asked.the-variants.{Covered, Refused}
 use Rattle.asking.specs.Ask.{anyWithin, askedAs}
-use native.Mathlib.Omega.{arith}
 use borrow.Author.Needs.{needs}
 use Rattle.asking.proofs.answered.Statement.{statement}
 use Rattle.asking.proofs.answered.Tie as tie

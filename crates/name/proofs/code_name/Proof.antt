@@ -1,14 +1,14 @@
 -- `name::code_name` meets its contract: a name is written only after all tests. Assumes nothing.
-use mathlib.Core.Path.{_≡_, sym, ap, ap₂, _∙_}
+use mathlib.Core.Path.{sym, ap, ap₂, _∙_}
 use mathlib.Core.List.{List, _∷_, _++_}
-use Prim.Native.Nat.{ℕ, _+_, _≤_}
+use Prim.Native.Nat.{ℕ, _+_}
 use native.Mathlib.Omega.{arith}
 use lib.ListN.{length, drop}
 use borrow.Author.Needs.{needs}
 use Rattle.ternary.specs.Digits.{digits}
 use Rattle.code.specs.Code.{cellOf, pathIn}
 use Rattle.code.specs.DecodedLaws.{parted, unparted}
-use Rattle.name.specs.Name.{digitBytes, nameIn, nameOf}
+use Rattle.name.specs.Name.{digitBytes, nameIn}
 use Rattle.name.specs.NameLaws.{length-name, code-name-is}
 use Rattle.name.proofs.Laws.{refused-4, refused-8, not-refused, nothing-written, name-written}
 use Rattle.name.proofs.code_name.Statement.{statement}

@@ -1,8 +1,7 @@
 -- `writing::follows` meets its contract. Assumes nothing.
 use native.Mathlib.Omega.{arith}
-use mathlib.Core.Path.{_≡_, refl, sym, ap, _∙_}
-use Prim.Native.Nat.{ℕ, _-_, _%_, _^_, _≤_}
-use Rattle.ternary.specs.Powers.{nine-le}
+use Rattle.code.specs.Code.{cellOf}
+use Rattle.code.specs.InsideLaws.{size-small}
 use Rattle.writing.proofs.EntrySteps as es
 use borrow.Author.Needs.{needs}
 use Rattle.writing.proofs.follows.Statement.{statement}
@@ -15,10 +14,7 @@ size-in-requires : tie.Need-size-in-requires
 size-in-requires c κs = search needs
 
 add-result : tie.Need-add-result
-add-result c =
-    let e = c .size-in .ensures in
-    let g : 9 ^ (15 - c .before .before .args .code % 16) ≤ 9 ^ 15 = nine-le {i = 15 - c .before .before .args .code % 16} {j = 15} (omega arith) in
-    omega arith
+add-result c = omega (arith, c .size-in .ensures, size-small (cellOf (c .before .before .args .code)))
 
 returns-2 : tie.Need-returns-2
 returns-2 c =

@@ -25,11 +25,11 @@ mul-code c = search needs
 shared-slice-read-code : tie.Need-shared-slice-read-code Inv-loop μ-loop
 shared-slice-read-code c = search needs
 
-is-cell-requires : tie.Need-is-cell-requires Inv-loop μ-loop
-is-cell-requires c κs = search needs
+is-code-requires : tie.Need-is-code-requires Inv-loop μ-loop
+is-code-requires c κs = search needs
 
 returns : tie.Need-returns Inv-loop μ-loop
-returns c = es.judge-four (c .before .before .before .before .loop .inv) (omega arith) (sym (c .before .is-cell .ensures) ∙ not-true _ (c .if1 .taken))
+returns c = es.judge-four (c .before .before .before .before .loop .inv) (omega arith) (sym (c .before .is-code .ensures) ∙ not-true _ (c .if1 .taken))
 
 sub-follows : tie.Need-sub-follows Inv-loop μ-loop
 sub-follows c = search needs
@@ -41,7 +41,7 @@ shared-slice-read-follows : tie.Need-shared-slice-read-follows Inv-loop μ-loop
 shared-slice-read-follows c = search needs
 
 follows-requires : tie.Need-follows-requires Inv-loop μ-loop
-follows-requires c κs = (c .before .before .before .before .before .before .loop .inv .last (omega arith), sym (c .before .before .before .is-cell .ensures) ∙ not-false _ (c .before .before .if1 .left))
+follows-requires c κs = (c .before .before .before .before .before .before .loop .inv .last (omega arith), sym (c .before .before .before .is-code .ensures) ∙ not-false _ (c .before .before .if1 .left))
 
 add-i : tie.Need-add-i Inv-loop μ-loop
 add-i c = search needs
@@ -52,7 +52,7 @@ loop-less c = omega arith
 loop-again : tie.Need-loop-again Inv-loop μ-loop
 loop-again c =
     let v = c .before .before .before .before .before .loop .inv in
-    let e = sym (c .before .before .is-cell .ensures) ∙ not-false _ (c .before .if1 .left) in
+    let e = sym (c .before .before .is-code .ensures) ∙ not-false _ (c .before .if1 .left) in
     ⊎-elim (λ x. es.judge-bad v (omega arith) e (omega arith) (x .2 .result) (x .2 .ensures) (not-true _ (x .3 .taken)) (x .4))
     (⊎-elim (λ x. es.judge-good v (omega arith) e (omega arith) (x .2 .result) (x .2 .ensures) (not-false _ (x .3 .left)) (x .4))
     (λ x. es.judge-first v (omega arith) e (omega (arith, x .0 .left)) (x .1)))
@@ -70,7 +70,7 @@ list-refusal-spec =
     loop-holds
     mul-code
     shared-slice-read-code
-    is-cell-requires
+    is-code-requires
     returns
     sub-follows
     mul-follows

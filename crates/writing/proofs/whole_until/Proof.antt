@@ -1,9 +1,10 @@
 -- `writing::whole_until` meets its contract: the codes up to the place i cover the cell up to the position. Assumes nothing.
 use native.Mathlib.Omega.{arith}
 use borrow.Author.Needs.{needs}
-use Prim.Native.Nat.{_-_, _%_}
+use Prim.Native.Nat.{_-_}
 use lib.ListN.{length, getD}
-use Rattle.ternary.specs.Powers.{nine-le}
+use Rattle.code.specs.Code.{cellOf, sizeOf}
+use Rattle.code.specs.InsideLaws.{size-small}
 use Rattle.writing.specs.Whole.{Tiled}
 use Rattle.writing.proofs.WholeSteps as ws
 use Rattle.writing.proofs.whole_until.Statement.{statement}
@@ -49,7 +50,7 @@ size-in-requires : tie.Need-size-in-requires Inv-loop μ-loop
 size-in-requires c κs = search needs
 
 add-position : tie.Need-add-position Inv-loop μ-loop
-add-position c = omega (arith, c .before .before .before .before .loop .inv .left, c .size-in .ensures, nine-le {i = 15 - getD (c .before .before .before .before .before .before .before .before .before .args .codes .now) (c .before .before .before .before .loop .i) 0 % 16} {j = 15} (omega arith))
+add-position c = omega (arith, c .before .before .before .before .loop .inv .left, c .size-in .ensures, size-small (cellOf (getD (c .before .before .before .before .before .before .before .before .before .args .codes .now) (c .before .before .before .before .loop .i) 0)))
 
 add-i : tie.Need-add-i Inv-loop μ-loop
 add-i c = search needs
@@ -58,12 +59,14 @@ add-if4 : tie.Need-add-if4 Inv-loop μ-loop
 add-if4 c = search needs
 
 returns-4 : tie.Need-returns-4 Inv-loop μ-loop
+unfolding sizeOf cellOf
 returns-4 c = ws.reached (omega arith) (c .before .before .before .before .before .before .before .before .if1 .left) (c .before .before .before .before .before .loop .inv) (omega arith) (c .before .before .if3 .left) (c .before .size-in .ensures) (c .if4 .taken)
 
 loop-less : tie.Need-loop-less Inv-loop μ-loop
 loop-less c = search needs
 
 loop-again : tie.Need-loop-again Inv-loop μ-loop
+unfolding sizeOf cellOf
 loop-again c = ws.goes-on (omega arith) (c .before .before .before .before .before .before .before .before .if1 .left) (c .before .before .before .before .before .loop .inv) (omega arith) (c .before .size-in .ensures) (c .if4 .left)
 
 returns-5 : tie.Need-returns-5 Inv-loop μ-loop
