@@ -226,15 +226,15 @@ pub extern "C" fn jgv_child(code: u64, digit: u64) -> CodeAnswer
 pub extern "C" fn jgv_size(code: u64) -> SizeAnswer
     ensures { λ r. ⌜ r ≡ cellSize code ⌝ }
 {
-    let Found::At(cell) = code::cell_of(code) else {
+    if !code::is_code(code) {
         return SizeAnswer {
             refusal: 4, // every cell has a size
             size: 0, // of no cell
         };
-    };
+    }
     SizeAnswer {
         refusal: 0,
-        size: code::size_of(cell),
+        size: code::size_in(code),
     }
 }
 
