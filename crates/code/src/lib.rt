@@ -3,9 +3,9 @@ ghost use mathlib.Core.Path.{_≡_};
 ghost use mathlib.Core.Bool.{true};
 ghost use Prim.Native.Nat.{_+_, _-_, _^_, _≤_, _<_};
 ghost use Rattle.cell.specs.Cell.{IsCell, cellRefusal, cellIn, found};
-ghost use Rattle.code.specs.Code.{codeAt, codeOf, isCode, pathIn, cellOf, codeRefusal, sizeOf, coded, foundCode, split};
-ghost use Rattle.code.specs.Inside.{startOf, endOf};
-ghost use Rattle.code.specs.Number.{startAs, endAs, codeAs};
+ghost use Rattle.code.specs.Code.{codeAt, codeOf, isCode, cellOf, codeRefusal, sizeOf, coded, foundCode, split};
+ghost use Rattle.code.specs.Inside.{startOf};
+ghost use Rattle.code.specs.Number.{codeAs};
 use cell::Cell;
 use cell::Found;
 
@@ -135,68 +135,6 @@ pub fn size_in(code: u64) -> u64
     ensures { λ r. ⌜ r ≡ sizeOf (cellOf code) ⌝ }
 {
     ternary::nine_power(15 - code % 16)
-}
-
-// The resolution of a code.
-pub fn resolution_in(code: u64) -> u64
-    ensures { λ r. ⌜ r ≡ cellOf code .resolution ⌝ }
-    ensures { λ r. ⌜ r ≤ 15 ⌝ }
-{
-    code % 16
-}
-
-// The face of a code.
-pub fn face_in(code: u64) -> u64
-    ensures { λ r. ⌜ r ≡ cellOf code .face ⌝ }
-{
-    code / 16 / 205_891_132_094_649
-}
-
-// The path of a code.
-pub fn path_in(code: u64) -> u64
-    ensures { λ r. ⌜ r ≡ pathIn code ⌝ }
-{
-    code / 16 % 205_891_132_094_649 / ternary::nine_power(15 - code % 16)
-}
-
-// The number of finest cells of a cell.
-pub fn size_of(cell: Cell) -> u64
-    requires { ⌜ IsCell cell ⌝ }
-    ensures { λ r. ⌜ r ≡ sizeOf cell ⌝ }
-{
-    ternary::nine_power(15 - cell.resolution)
-}
-
-// The number of the first finest cell of a cell.
-pub fn start_of(cell: Cell) -> u64
-    requires { ⌜ IsCell cell ⌝ }
-    ensures { λ r. ⌜ r ≡ startOf cell ⌝ }
-{
-    code_of(cell) / 16
-}
-
-// The number after the last finest cell of a cell.
-pub fn end_of(cell: Cell) -> u64
-    requires { ⌜ IsCell cell ⌝ }
-    ensures { λ r. ⌜ r ≡ endOf cell ⌝ }
-{
-    start_of(cell) + size_of(cell)
-}
-
-// The same of a cell that is given by its resolution and its number.
-pub fn start_as(resolution: u64, number: u64) -> u64
-    requires { ⌜ (resolution ≤ 15) × (number < 9 ^ (resolution + 1)) ⌝ }
-    ensures { λ r. ⌜ r ≡ startAs resolution number ⌝ }
-{
-    number * ternary::nine_power(15 - resolution)
-}
-
-pub fn end_as(resolution: u64, number: u64) -> u64
-    requires { ⌜ (resolution ≤ 15) × (number < 9 ^ (resolution + 1)) ⌝ }
-    ensures { λ r. ⌜ r ≡ endAs resolution number ⌝ }
-{
-    let size = ternary::nine_power(15 - resolution);
-    number * size + size
 }
 
 // The code of a cell that is given by its resolution and its number.

@@ -44,7 +44,7 @@ pub fn print_first(buf: &[u8], count: usize) -> bool
 }
 
 // A number in decimal.
-pub fn say_whole(x: u64) {
+fn say_whole(x: u64) {
     let mut digits = [0u8; 20];
     let n = decimal::put_whole(x, &mut digits, 0);
     say(&digits[..n]);

@@ -17,7 +17,7 @@ pub enum Listed {
 }
 
 // "the codes of the whole cells in rising order", to the front of `codes`.
-pub fn put_codes(text: &[u8], codes: &mut [u64])
+fn put_codes(text: &[u8], codes: &mut [u64])
     requires { ⌜ (isText (now text) ≡ true) × (length (codesOf (now text)) ≤ length (now codes)) ⌝ }
     ensures { λ r. ⌜ now (codes .exit) ≡ codesOf (now (text .entry)) ++ drop (length (codesOf (now (text .entry)))) (now (codes .entry)) ⌝ }
 {
