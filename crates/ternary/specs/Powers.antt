@@ -1,6 +1,6 @@
 -- Laws of powers of three and of nine. Assumes nothing.
-use mathlib.Core.Path.{_≡_, refl, sym, ap, _∙_}
-use Prim.Native.Nat.{ℕ, zero, suc, _+_, _-_, _*_, _^_, _≤_, _<_}
+use mathlib.Core.Path.{_≡_, sym, ap, _∙_}
+use Prim.Native.Nat.{ℕ, suc, _+_, _-_, _*_, _^_, _≤_, _<_}
 use native.Mathlib.Numerals.{add-one}
 use native.Mathlib.Nat.{pow-suc, one-le-pow, zero-lt-suc, pow-le-pow-right}
 use native.Mathlib.Omega.{arith}
@@ -20,16 +20,6 @@ nine-le h = pow-le-pow-right (zero-lt-suc 8) h
 
 pub nine-pos : (i : ℕ) → 0 < 9 ^ i
 nine-pos i = one-le-pow i 9 (zero-lt-suc 8)
-
--- a power of nine is one of three
-pub nine-power : (i : ℕ) → 9 ^ i ≡ 3 ^ (2 * i)
-nine-power zero = refl
-nine-power (suc i) =
-    let e : 2 * suc i ≡ suc (suc (2 * i)) = omega arith in
-    let p : 3 ^ (2 * suc i) ≡ 3 ^ (2 * i) * 3 * 3 = ap (λ (x : ℕ). 3 ^ x) e ∙ pow-suc 3 (suc (2 * i)) ∙ ap (λ (x : ℕ). x * 3) (pow-suc 3 (2 * i)) in
-    let q : 9 ^ suc i ≡ 9 ^ i * 9 = pow-suc 9 i in
-    let r = nine-power i in
-    omega arith
 
 -- 9^15 is 9^k times 9^(15-k)
 pub nine-split : (k : ℕ) → k ≤ 15 → 9 ^ k * 9 ^ (15 - k) ≡ 9 ^ 15

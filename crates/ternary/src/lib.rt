@@ -5,9 +5,9 @@ ghost use Prim.Native.Nat.{_*_, _/_, _%_, _^_, _≤_, _<_};
 ghost use Rattle.ternary.specs.Parts.{parts, quarters, bits, inNine};
 ghost use Rattle.ternary.specs.Weave.{weave, rowIn, columnIn};
 
-// 3^e, for e below 8.
-fn small_power(e: u64) -> u64
-    requires { ⌜ e < 8 ⌝ }
+// 3^e.
+pub fn power(e: u64) -> u64
+    requires { ⌜ e ≤ 15 ⌝ }
     ensures { λ r. ⌜ r ≡ 3 ^ e ⌝ }
 {
     match e {
@@ -19,40 +19,40 @@ fn small_power(e: u64) -> u64
         5 => 243,
         6 => 729,
         7 => 2_187,
-        _ => 1,
+        8 => 6_561,
+        9 => 19_683,
+        10 => 59_049,
+        11 => 177_147,
+        12 => 531_441,
+        13 => 1_594_323,
+        14 => 4_782_969,
+        _ => 14_348_907,
     }
-}
-
-// 3^(8 e).
-fn eighth_power(e: u64) -> u64
-    requires { ⌜ e ≤ 5 ⌝ }
-    ensures { λ r. ⌜ r ≡ 3 ^ (8 * e) ⌝ }
-{
-    match e {
-        0 => 1,
-        1 => 6_561,
-        2 => 43_046_721,
-        3 => 282_429_536_481,
-        4 => 1_853_020_188_851_841,
-        5 => 12_157_665_459_056_928_801,
-        _ => 1,
-    }
-}
-
-// 3^e.
-pub fn power(e: u64) -> u64
-    requires { ⌜ e ≤ 40 ⌝ }
-    ensures { λ r. ⌜ r ≡ 3 ^ e ⌝ }
-{
-    eighth_power(e / 8) * small_power(e % 8)
 }
 
 // 9^e.
 pub fn nine_power(e: u64) -> u64
-    requires { ⌜ e ≤ 20 ⌝ }
+    requires { ⌜ e ≤ 15 ⌝ }
     ensures { λ r. ⌜ r ≡ 9 ^ e ⌝ }
 {
-    power(2 * e)
+    match e {
+        0 => 1,
+        1 => 9,
+        2 => 81,
+        3 => 729,
+        4 => 6_561,
+        5 => 59_049,
+        6 => 531_441,
+        7 => 4_782_969,
+        8 => 43_046_721,
+        9 => 387_420_489,
+        10 => 3_486_784_401,
+        11 => 31_381_059_609,
+        12 => 282_429_536_481,
+        13 => 2_541_865_828_329,
+        14 => 22_876_792_454_961,
+        _ => 205_891_132_094_649,
+    }
 }
 
 // A number of sixteen ternary digits, four digits to a part.

@@ -1,19 +1,30 @@
--- `ternary::nine_power` meets its contract. Assumes nothing.
-use mathlib.Core.Path.{sym, _∙_}
-use Rattle.ternary.specs.Powers.{nine-power}
-use native.Mathlib.Omega.{arith}
-use borrow.Author.Needs.{needs}
+-- `ternary::nine_power` meets its contract: each arm is the power of its key. Assumes nothing.
+use mathlib.Core.Path.{_≡_, sym, ap}
+use Prim.Native.Nat.{ℕ, _^_}
+use Rattle.ternary.proofs.Keys.{last-key}
 use Rattle.ternary.proofs.nine_power.Statement.{statement}
 use Rattle.ternary.proofs.nine_power.Tie as tie
 
-mul-power : tie.Need-mul-power
-mul-power c = search needs
-
-power-requires : tie.Need-power-requires
-power-requires c κs = search needs
-
-returns : tie.Need-returns
-returns c = c .power .ensures ∙ sym (nine-power (c .before .args .e))
+arm : {e k : ℕ} → e ≡ k → 9 ^ k ≡ 9 ^ e
+arm h = sym (ap (λ (x : ℕ). 9 ^ x) h)
 
 pub nine-power-spec : {M : Type 1} → statement M
-nine-power-spec = tie.close (tie.spec mul-power power-requires returns)
+nine-power-spec =
+    tie.close
+    (tie.spec
+    (λ c. arm (c .match .keys1))
+    (λ c. arm (c .match .keys2))
+    (λ c. arm (c .match .keys3))
+    (λ c. arm (c .match .keys4))
+    (λ c. arm (c .match .keys5))
+    (λ c. arm (c .match .keys6))
+    (λ c. arm (c .match .keys7))
+    (λ c. arm (c .match .keys8))
+    (λ c. arm (c .match .keys9))
+    (λ c. arm (c .match .keys10))
+    (λ c. arm (c .match .keys11))
+    (λ c. arm (c .match .keys12))
+    (λ c. arm (c .match .keys13))
+    (λ c. arm (c .match .keys14))
+    (λ c. arm (c .match .keys15))
+    (λ c. arm (last-key 15 (c .before .pre) (c .match .rest))))
