@@ -1,10 +1,10 @@
 -- Four numbers in the four parts of one, divided, spread and put together. Assumes nothing.
 use mathlib.Core.Path.{_≡_, sym, ap, ap₂, _∙_}
-use Prim.Native.Nat.{ℕ, _+_, _-_, _*_, _/_, _%_, _≤_, _<_}
+use Prim.Native.Nat.{ℕ, _+_, _*_, _/_, _%_, _<_}
 use native.Mathlib.Omega.{arith}
-use Rattle.ternary.specs.Parts.{parts, quarters, bits, inNine}
-use Rattle.ternary.specs.Weave.{weave, rowIn, columnIn}
-use Rattle.ternary.specs.WeaveLaws.{weave-step, weave-apart, weave-split, weave-last, weave-small, row-split, column-split, row-last, column-last, row-small, column-small}
+use Rattle.ternary.specs.Parts.{parts, quarters, bits}
+use Rattle.ternary.specs.Weave.{weave}
+use Rattle.ternary.specs.WeaveLaws.{weave-step, weave-apart, weave-split, weave-last, weave-small}
 
 -- a number of sixteen digits in parts of four
 pub in-parts : (x : ℕ) → (x / 6561 + x / 6561 / 81 * 65455) * 4294967296 + (x % 6561 + x % 6561 / 81 * 65455) ≡ quarters x
@@ -147,9 +147,6 @@ module _ (n a b c d : ℕ) (e : n ≡ parts a b c d) (hb : b < 65536) (hc : c < 
   fourth : n % 65536 ≡ d
   fourth = omega arith
 
-  joined : inNine n ≡ (a * 9 + b) * 81 + (c * 9 + d)
-  joined = λ t. (first t * 9 + second t) * 81 + (third t * 9 + fourth t)
-
   taken : (n / 281474976710656 * 6561 + n / 4294967296 % 65536) * 43046721 + (n / 65536 % 65536 * 6561 + n % 65536) ≡ (a * 6561 + b) * 43046721 + (c * 6561 + d)
   taken = λ t. (first t * 6561 + second t) * 43046721 + (third t * 6561 + fourth t)
 
@@ -169,89 +166,6 @@ spread-small a b c d e =
     let k : weave 4 0 c < 6561 = weave-small 4 0 c in
     let l : weave 4 0 d < 6561 = weave-small 4 0 d in
     omega arith
-
--- ---- three times some parts, added to others or taken from them
-
-add-parts : (a b c d e f g h : ℕ) → parts a b c d + 3 * parts e f g h ≡ parts (a + 3 * e) (b + 3 * f) (c + 3 * g) (d + 3 * h)
-add-parts a b c d e f g h = omega arith
-
-sub-parts : (a b c d e f g h i j k l : ℕ) → a ≡ 3 * e + i → b ≡ 3 * f + j → c ≡ 3 * g + k → d ≡ 3 * h + l → parts a b c d - 3 * parts e f g h ≡ parts i j k l
-sub-parts a b c d e f g h i j k l p q r s = omega arith
-
-thrice : (n : ℕ) → n ≡ 3 * (n / 3) + n % 3
-thrice n = omega arith
-
-thrice-nine : (n : ℕ) → n / 3 ≡ 3 * (n / 9) + n / 3 % 3
-thrice-nine n = omega arith
-
-thrice-cube : (n : ℕ) → n / 9 ≡ 3 * (n / 27) + n / 9 % 3
-thrice-cube n = omega arith
-
-whole-less : (a b c d : ℕ) → parts a b c d - 3 * parts (a / 3) (b / 3) (c / 3) (d / 3) ≡ parts (a % 3) (b % 3) (c % 3) (d % 3)
-whole-less a b c d = sub-parts a b c d (a / 3) (b / 3) (c / 3) (d / 3) (a % 3) (b % 3) (c % 3) (d % 3) (thrice a) (thrice b) (thrice c) (thrice d)
-
-thirds-less : (a b c d : ℕ) → parts (a / 3) (b / 3) (c / 3) (d / 3) - 3 * parts (a / 9) (b / 9) (c / 9) (d / 9) ≡ parts (a / 3 % 3) (b / 3 % 3) (c / 3 % 3) (d / 3 % 3)
-thirds-less a b c d =
-    sub-parts (a / 3) (b / 3) (c / 3) (d / 3) (a / 9) (b / 9) (c / 9) (d / 9) (a / 3 % 3) (b / 3 % 3) (c / 3 % 3) (d / 3 % 3) (thrice-nine a) (thrice-nine b) (thrice-nine c) (thrice-nine d)
-
-ninths-less : (a b c d : ℕ) → parts (a / 9) (b / 9) (c / 9) (d / 9) - 3 * parts (a / 27) (b / 27) (c / 27) (d / 27) ≡ parts (a / 9 % 3) (b / 9 % 3) (c / 9 % 3) (d / 9 % 3)
-ninths-less a b c d =
-    sub-parts (a / 9) (b / 9) (c / 9) (d / 9) (a / 27) (b / 27) (c / 27) (d / 27) (a / 9 % 3) (b / 9 % 3) (c / 9 % 3) (d / 9 % 3) (thrice-cube a) (thrice-cube b) (thrice-cube c) (thrice-cube d)
-
--- none of these differences is below 0
-three-at-most : (a b c d e f g h : ℕ) → 3 * e ≤ a → 3 * f ≤ b → 3 * g ≤ c → 3 * h ≤ d → 3 * parts e f g h ≤ parts a b c d
-three-at-most a b c d e f g h p q r s = omega arith
-
-at-most-whole : (n : ℕ) → 3 * (n / 3) ≤ n
-at-most-whole n = omega arith
-
-at-most-third : (n : ℕ) → 3 * (n / 9) ≤ n / 3
-at-most-third n = omega arith
-
-at-most-ninth : (n : ℕ) → 3 * (n / 27) ≤ n / 9
-at-most-ninth n = omega arith
-
--- the row and the column of two digits
-row-two : (n : ℕ) → n < 81 → n / 3 % 3 + 3 * (n / 27) ≡ rowIn 2 n
-unfolding rowIn
-row-two n h = omega arith
-
-column-two : (n : ℕ) → n < 81 → n % 3 + 3 * (n / 9 % 3) ≡ columnIn 2 n
-unfolding columnIn
-column-two n h = omega arith
-
-row-four : (p : ℕ) → rowIn 4 p ≡ rowIn 2 (p / 81) * 9 + rowIn 2 p
-row-four p = row-split 2 2 p
-
-column-four : (p : ℕ) → columnIn 4 p ≡ columnIn 2 (p / 81) * 9 + columnIn 2 p
-column-four p = column-split 2 2 p
-
-row-eight : (p : ℕ) → rowIn 8 p ≡ (rowIn 2 (p / 531441) * 9 + rowIn 2 (p / 6561 % 81)) * 81 + (rowIn 2 (p / 81 % 81) * 9 + rowIn 2 (p % 81))
-row-eight p =
-    let e : p / 6561 / 81 ≡ p / 531441 = omega arith in
-    row-split 4 4 p
-    ∙ ap₂ (λ (x y : ℕ). x * 81 + y) (row-four (p / 6561)) (row-four p)
-    ∙ (λ t. (rowIn 2 (e t) * 9 + sym (row-last 2 (p / 6561)) t) * 81 + (sym (row-last 2 (p / 81)) t * 9 + sym (row-last 2 p) t))
-
-column-eight : (p : ℕ) → columnIn 8 p ≡ (columnIn 2 (p / 531441) * 9 + columnIn 2 (p / 6561 % 81)) * 81 + (columnIn 2 (p / 81 % 81) * 9 + columnIn 2 (p % 81))
-column-eight p =
-    let e : p / 6561 / 81 ≡ p / 531441 = omega arith in
-    column-split 4 4 p
-    ∙ ap₂ (λ (x y : ℕ). x * 81 + y) (column-four (p / 6561)) (column-four p)
-    ∙ (λ t. (columnIn 2 (e t) * 9 + sym (column-last 2 (p / 6561)) t) * 81 + (sym (column-last 2 (p / 81)) t * 9 + sym (column-last 2 p) t))
-
-nine-below : {x : ℕ} → x < 9 → x < 65536
-nine-below h = omega arith
-
-pub row-joined : (n p : ℕ) → n ≡ parts (rowIn 2 (p / 531441)) (rowIn 2 (p / 6561 % 81)) (rowIn 2 (p / 81 % 81)) (rowIn 2 (p % 81)) → inNine n ≡ rowIn 8 p
-row-joined n p e =
-    joined n (rowIn 2 (p / 531441)) (rowIn 2 (p / 6561 % 81)) (rowIn 2 (p / 81 % 81)) (rowIn 2 (p % 81)) e (nine-below (row-small 2 (p / 6561 % 81))) (nine-below (row-small 2 (p / 81 % 81))) (nine-below (row-small 2 (p % 81)))
-    ∙ sym (row-eight p)
-
-pub column-joined : (n p : ℕ) → n ≡ parts (columnIn 2 (p / 531441)) (columnIn 2 (p / 6561 % 81)) (columnIn 2 (p / 81 % 81)) (columnIn 2 (p % 81)) → inNine n ≡ columnIn 8 p
-column-joined n p e =
-    joined n (columnIn 2 (p / 531441)) (columnIn 2 (p / 6561 % 81)) (columnIn 2 (p / 81 % 81)) (columnIn 2 (p % 81)) e (nine-below (column-small 2 (p / 6561 % 81))) (nine-below (column-small 2 (p / 81 % 81))) (nine-below (column-small 2 (p % 81)))
-    ∙ sym (column-eight p)
 
 -- ---- the parts of a number of sixteen digits, divided
 
@@ -285,29 +199,3 @@ module _ (x : ℕ) (h : x < 43046721) where
 
   pub spread-quarters : quarters x + 6 * divided 3 x + 54 * divided 9 x + 486 * divided 27 x ≡ parts (weave 4 0 (x / 531441)) (weave 4 0 (x / 6561 % 81)) (weave 4 0 (x / 81 % 81)) (weave 4 0 (x % 81))
   spread-quarters = spread-parts (x / 531441) (x / 6561 % 81) (x / 81 % 81) (x % 81) a-small b-small c-small d-small
-
-  -- ---- a path of eight digits, two to a part
-
-  pub rows-are : divided 3 x - 3 * divided 9 x + 3 * divided 27 x ≡ parts (rowIn 2 (x / 531441)) (rowIn 2 (x / 6561 % 81)) (rowIn 2 (x / 81 % 81)) (rowIn 2 (x % 81))
-  rows-are =
-      ap (λ (y : ℕ). y + 3 * divided 27 x) (thirds-less (x / 531441) (x / 6561 % 81) (x / 81 % 81) (x % 81))
-      ∙ add-parts (x / 531441 / 3 % 3) (x / 6561 % 81 / 3 % 3) (x / 81 % 81 / 3 % 3) (x % 81 / 3 % 3) (x / 531441 / 27) (x / 6561 % 81 / 27) (x / 81 % 81 / 27) (x % 81 / 27)
-      ∙ (λ t. parts (row-two (x / 531441) a-small t) (row-two (x / 6561 % 81) b-small t) (row-two (x / 81 % 81) c-small t) (row-two (x % 81) d-small t))
-
-  pub columns-are : quarters x - 3 * divided 3 x + 3 * (divided 9 x - 3 * divided 27 x) ≡ parts (columnIn 2 (x / 531441)) (columnIn 2 (x / 6561 % 81)) (columnIn 2 (x / 81 % 81)) (columnIn 2 (x % 81))
-  columns-are =
-      ap₂ (λ (y z : ℕ). y + 3 * z) (whole-less (x / 531441) (x / 6561 % 81) (x / 81 % 81) (x % 81)) (ninths-less (x / 531441) (x / 6561 % 81) (x / 81 % 81) (x % 81))
-      ∙ add-parts (x / 531441 % 3) (x / 6561 % 81 % 3) (x / 81 % 81 % 3) (x % 81 % 3) (x / 531441 / 9 % 3) (x / 6561 % 81 / 9 % 3) (x / 81 % 81 / 9 % 3) (x % 81 / 9 % 3)
-      ∙ (λ t. parts (column-two (x / 531441) a-small t) (column-two (x / 6561 % 81) b-small t) (column-two (x / 81 % 81) c-small t) (column-two (x % 81) d-small t))
-
-  pub three-thirds : 3 * divided 3 x ≤ quarters x
-  three-thirds =
-      three-at-most (x / 531441) (x / 6561 % 81) (x / 81 % 81) (x % 81) (x / 531441 / 3) (x / 6561 % 81 / 3) (x / 81 % 81 / 3) (x % 81 / 3) (at-most-whole (x / 531441)) (at-most-whole (x / 6561 % 81)) (at-most-whole (x / 81 % 81)) (at-most-whole (x % 81))
-
-  pub three-ninths : 3 * divided 9 x ≤ divided 3 x
-  three-ninths =
-      three-at-most (x / 531441 / 3) (x / 6561 % 81 / 3) (x / 81 % 81 / 3) (x % 81 / 3) (x / 531441 / 9) (x / 6561 % 81 / 9) (x / 81 % 81 / 9) (x % 81 / 9) (at-most-third (x / 531441)) (at-most-third (x / 6561 % 81)) (at-most-third (x / 81 % 81)) (at-most-third (x % 81))
-
-  pub three-cubes : 3 * divided 27 x ≤ divided 9 x
-  three-cubes =
-      three-at-most (x / 531441 / 9) (x / 6561 % 81 / 9) (x / 81 % 81 / 9) (x % 81 / 9) (x / 531441 / 27) (x / 6561 % 81 / 27) (x / 81 % 81 / 27) (x % 81 / 27) (at-most-ninth (x / 531441)) (at-most-ninth (x / 6561 % 81)) (at-most-ninth (x / 81 % 81)) (at-most-ninth (x % 81))

@@ -11,7 +11,3 @@ quarters x = parts (x / 531441) (x / 6561 % 81) (x / 81 % 81) (x % 81)
 -- the last five bits of each part
 abbrev pub bits : ℕ → ℕ
 bits x = parts (x / 281474976710656 % 32) (x / 4294967296 % 32) (x / 65536 % 32) (x % 32)
-
--- the four parts put together in base nine
-abbrev pub inNine : ℕ → ℕ
-inNine n = (n / 281474976710656 * 9 + n / 4294967296 % 65536) * 81 + (n / 65536 % 65536 * 9 + n % 65536)

@@ -1,9 +1,12 @@
-// Powers of three, and the digits of a row and a column woven to digits of base nine. Four digits, or two of base nine, stand in each of the
-// four parts of a number, sixteen bits to a part, and one product or sum serves all four.
+// Powers of three and of nine, and a row and a column woven to digits of base nine and taken from them again. To weave, four digits stand in
+// each of the four parts of a number, sixteen bits to a part, and one product or sum serves all four. To take apart, two digits at a time are
+// looked up, and the row and the column stand in one number.
 ghost use mathlib.Core.Path.{_≡_};
 ghost use Prim.Native.Nat.{_*_, _/_, _%_, _^_, _≤_, _<_};
-ghost use Rattle.ternary.specs.Parts.{parts, quarters, bits, inNine};
-ghost use Rattle.ternary.specs.Weave.{weave, rowIn, columnIn};
+ghost use Rattle.ternary.specs.Parts.{parts, quarters, bits};
+ghost use Rattle.ternary.specs.Weave.{weave, rowIn, columnIn, bothIn};
+
+mod digits;
 
 // 3^e.
 pub fn power(e: u64) -> u64
@@ -122,38 +125,38 @@ pub struct Pair {
     pub column: u64,
 }
 
-// Four numbers in parts, put together in base nine.
-fn joined(n: u64) -> u64
-    ensures { λ r. ⌜ r ≡ inNine n ⌝ }
+// The row and the column of four digits of a path, in one number, from those of two and two: 3^16 is below 2^32, so one product serves both.
+fn four_digits(x: u64) -> u64
+    requires { ⌜ x < 6561 ⌝ }
+    ensures { λ r. ⌜ r ≡ bothIn 4 x ⌝ }
 {
-    let high = n / 281_474_976_710_656 * 9 + n / 4_294_967_296 % 65_536;
-    high * 81 + (n / 65_536 % 65_536 * 9 + n % 65_536)
+    digits::two_digits(x / 81) * 9 + digits::two_digits(x % 81)
 }
 
-// The row and the column of eight digits of a path: those of each part n are n / 3 - 3 (n / 9) + 3 (n / 27) and
-// n - 3 (n / 3) + 3 (n / 9 - 3 (n / 27)).
-fn short_unwoven(path: u64) -> Pair
-    requires { ⌜ path < 43046721 ⌝ }
-    ensures { λ r. ⌜ (r .row ≡ rowIn 8 path) × (r .column ≡ columnIn 8 path) ⌝ }
+// The row and the column of eight digits of a path.
+fn eight_digits(x: u64) -> u64
+    requires { ⌜ x < 43046721 ⌝ }
+    ensures { λ r. ⌜ r ≡ bothIn 8 x ⌝ }
 {
-    let n = in_parts(path);
-    let thirds = last_bits(n * 171 / 512);
-    let ninths = last_bits(n * 114 / 1_024);
-    let cubes = last_bits(n * 76 / 2_048);
-    let row = joined(thirds - 3 * ninths + 3 * cubes);
-    let column = joined(n - 3 * thirds + 3 * (ninths - 3 * cubes));
-    Pair { row, column }
+    four_digits(x / 6_561) * 81 + four_digits(x % 6_561)
 }
 
-// The row and the column of the last k digits of a path.
+// The row and the column of sixteen digits of a path.
+fn sixteen_digits(x: u64) -> u64
+    requires { ⌜ x < 1853020188851841 ⌝ }
+    ensures { λ r. ⌜ r ≡ bothIn 16 x ⌝ }
+{
+    eight_digits(x / 43_046_721) * 6_561 + eight_digits(x % 43_046_721)
+}
+
+// The row and the column of the last k digits of a path: zeros before them change nothing.
 pub fn unwoven(k: u64, path: u64) -> Pair
     requires { ⌜ k ≤ 15 ⌝ }
     ensures { λ r. ⌜ (r .row ≡ rowIn k path) × (r .column ≡ columnIn k path) ⌝ }
 {
-    let last = remainder(path, nine_power(k));
-    let high = short_unwoven(last / 43_046_721);
-    let low = short_unwoven(last % 43_046_721);
-    let row = high.row * 6_561 + low.row;
-    let column = high.column * 6_561 + low.column;
-    Pair { row, column }
+    let both = sixteen_digits(remainder(path, nine_power(k)));
+    Pair {
+        row: both % 4_294_967_296,
+        column: both / 4_294_967_296,
+    }
 }
