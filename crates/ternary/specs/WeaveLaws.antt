@@ -193,35 +193,3 @@ row-last r p = sym (row-before r (p / 9 ^ r) (p % 9 ^ r)) ∙ ap (rowIn r) (div-
 
 pub column-last : (r p : ℕ) → columnIn r (p % 9 ^ r) ≡ columnIn r p
 column-last r p = sym (column-before r (p / 9 ^ r) (p % 9 ^ r)) ∙ ap (columnIn r) (div-add-mod' p (9 ^ r))
-
-row-zeros : (r : ℕ) → rowIn r 0 ≡ 0
-unfolding rowIn
-row-zeros zero = refl
-row-zeros (suc r) = let h = row-zeros r in omega arith
-
-pub row-more : (k r p : ℕ) → p < 9 ^ k → rowIn (k + r) p ≡ rowIn k p
-unfolding rowIn
-row-more zero r p h =
-    let e : 0 + r ≡ r = omega arith in
-    let z : p ≡ 0 = omega arith in
-    ap (λ (n : ℕ). rowIn n p) e ∙ ap (rowIn r) z ∙ row-zeros r
-row-more (suc k) r p h =
-    let e : suc k + r ≡ suc (k + r) = omega arith in
-    let i : rowIn (k + r) (p / 9) ≡ rowIn k (p / 9) = row-more k r (p / 9) (omega (arith, pow-suc 9 k)) in
-    ap (λ (n : ℕ). rowIn n p) e ∙ omega arith
-
-column-zeros : (r : ℕ) → columnIn r 0 ≡ 0
-unfolding columnIn
-column-zeros zero = refl
-column-zeros (suc r) = let h = column-zeros r in omega arith
-
-pub column-more : (k r p : ℕ) → p < 9 ^ k → columnIn (k + r) p ≡ columnIn k p
-unfolding columnIn
-column-more zero r p h =
-    let e : 0 + r ≡ r = omega arith in
-    let z : p ≡ 0 = omega arith in
-    ap (λ (n : ℕ). columnIn n p) e ∙ ap (columnIn r) z ∙ column-zeros r
-column-more (suc k) r p h =
-    let e : suc k + r ≡ suc (k + r) = omega arith in
-    let i : columnIn (k + r) (p / 9) ≡ columnIn k (p / 9) = column-more k r (p / 9) (omega (arith, pow-suc 9 k)) in
-    ap (λ (n : ℕ). columnIn n p) e ∙ omega arith

@@ -149,14 +149,14 @@ fn sixteen_digits(x: u64) -> u64
     eight_digits(x / 43_046_721) * 6_561 + eight_digits(x % 43_046_721)
 }
 
-// The row and the column of the last k digits of a path: zeros before them change nothing.
+// The row and the column of the last k digits of a path: the last k digits of those of sixteen.
 pub fn unwoven(k: u64, path: u64) -> Pair
     requires { ⌜ k ≤ 15 ⌝ }
     ensures { λ r. ⌜ (r .row ≡ rowIn k path) × (r .column ≡ columnIn k path) ⌝ }
 {
-    let both = sixteen_digits(remainder(path, nine_power(k)));
-    Pair {
-        row: both % 4_294_967_296,
-        column: both / 4_294_967_296,
-    }
+    let both = sixteen_digits(path % 1_853_020_188_851_841);
+    let m = power(k);
+    let row = remainder(both % 4_294_967_296, m);
+    let column = remainder(both / 4_294_967_296, m);
+    Pair { row, column }
 }

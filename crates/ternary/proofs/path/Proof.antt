@@ -1,15 +1,21 @@
 -- `ternary::path` meets its contract: the last k digits, with zeros before them. Assumes nothing.
 use mathlib.Core.Path.{_≡_, ap, ap₂, _∙_}
-use Prim.Native.Nat.{ℕ, _+_, _-_, _%_, _^_}
+use Prim.Native.Nat.{ℕ, _+_, _-_, _%_, _^_, _≤_, _<_}
 use native.Mathlib.Nat.{mod-lt}
 use native.Mathlib.Omega.{arith}
 use borrow.Author.Needs.{needs}
-use Rattle.ternary.specs.Powers.{power-pos}
+use Rattle.ternary.specs.Powers.{power-pos, power-le}
 use Rattle.ternary.specs.Weave.{weave}
 use Rattle.ternary.specs.WeaveLaws.{weave-more, weave-both-last}
-use Rattle.ternary.proofs.Kept.{kept, kept-small}
+use Rattle.ternary.proofs.Kept.{kept}
 use Rattle.ternary.proofs.path.Statement.{statement}
 use Rattle.ternary.proofs.path.Tie as tie
+
+kept-small : (k x : ℕ) {r : ℕ} → k ≤ 15 → r ≡ x % 3 ^ k → r < 43046721
+kept-small k x h e =
+    let p : x % 3 ^ k < 3 ^ k = mod-lt x (power-pos k) in
+    let q : 3 ^ k ≤ 3 ^ 15 = power-le {i = k} {j = 15} h in
+    omega arith
 
 power-requires : tie.Need-power-requires
 power-requires c κs = search needs
@@ -25,9 +31,7 @@ long-path-requires c κs =
     let u = c .before .before in
     let a = u .before .args in
     let e = u .power .ensures in
-    let i = kept-small 2 (a .k) (a .row) (u .before .pre) (kept 3 (a .k) (a .row) e (c .before .remainder .ensures)) in
-    let j = kept-small 2 (a .k) (a .column) (u .before .pre) (kept 3 (a .k) (a .column) e (c .remainder2 .ensures)) in
-    omega arith
+    (kept-small (a .k) (a .row) (u .before .pre) (kept (a .k) (a .row) e (c .before .remainder .ensures)), kept-small (a .k) (a .column) (u .before .pre) (kept (a .k) (a .column) e (c .remainder2 .ensures)))
 
 returns : tie.Need-returns
 returns c =
@@ -37,7 +41,7 @@ returns c =
     let e = u .power .ensures in
     let n : 16 ≡ k + (16 - k) = omega arith in
     c .long-path .ensures
-    ∙ ap₂ (weave 16) (kept 3 k (a .row) e (c .before .before .remainder .ensures)) (kept 3 k (a .column) e (c .before .remainder2 .ensures))
+    ∙ ap₂ (weave 16) (kept k (a .row) e (c .before .before .remainder .ensures)) (kept k (a .column) e (c .before .remainder2 .ensures))
     ∙ ap (λ (x : ℕ). weave x (a .row % 3 ^ k) (a .column % 3 ^ k)) n
     ∙ weave-more k (16 - k) (a .row % 3 ^ k) (a .column % 3 ^ k) (mod-lt (a .row) (power-pos k)) (mod-lt (a .column) (power-pos k))
     ∙ weave-both-last k (a .row) (a .column)
