@@ -41,10 +41,14 @@ cell face resolution row column = record { face = face; resolution = resolution;
 abbrev pub arrangement : ℕ → ℕ → Arrangement
 arrangement n s = record { north = n; south = s }
 
+-- "Other answers are 0.": a number, or 0 beside a refusal
+abbrev pub orZero : (refusal number : ℕ) → ℕ
+orZero refusal number = given refusal number 0
+
 -- ---- codes
 
 unfoldable pub codeAnswer : (refusal code : ℕ) → CodeAnswer
-codeAnswer refusal code = record { refusal = refusal; code = given refusal code 0 }
+codeAnswer refusal code = record { refusal = refusal; code = orZero refusal code }
 
 -- a code, or its refusal, as numbers
 abbrev pub codedAnswer : Coded → CodeAnswer
@@ -91,10 +95,10 @@ unfoldable pub cellAnswer : ℕ → Cell → CellAnswer
 cellAnswer refusal c =
     record {
       refusal = refusal;
-      face = given refusal (c .face) 0;
-      resolution = given refusal (c .resolution) 0;
-      row = given refusal (c .row) 0;
-      column = given refusal (c .column) 0;
+      face = orZero refusal (c .face);
+      resolution = orZero refusal (c .resolution);
+      row = orZero refusal (c .row);
+      column = orZero refusal (c .column);
     }
 
 unfoldable pub codeCell : ℕ → CellAnswer
@@ -105,20 +109,20 @@ abbrev pub namedAnswer : Named → LengthAnswer
 namedAnswer named = record { refusal = nameRefusalIn named; length = lengthIn named }
 
 unfoldable pub lengthAnswer : (refusal length : ℕ) → LengthAnswer
-lengthAnswer refusal length = record { refusal = refusal; length = given refusal length 0 }
+lengthAnswer refusal length = record { refusal = refusal; length = orZero refusal length }
 
 unfoldable pub writtenName : (code room : ℕ) → LengthAnswer
 writtenName code room = lengthAnswer (codeNameRefusal code room) (length (nameOf (cellOf code)))
 
 unfoldable pub cellSize : ℕ → SizeAnswer
-cellSize code = record { refusal = codeRefusal code; size = given (codeRefusal code) (sizeOf (cellOf code)) 0 }
+cellSize code = record { refusal = codeRefusal code; size = orZero (codeRefusal code) (sizeOf (cellOf code)) }
 
 -- quad 0, cap 1, dart 2, skew quad 3
 unfoldable pub cellShape : ℕ → ShapeAnswer
-cellShape code = record { refusal = codeRefusal code; shape = given (codeRefusal code) (numberOf (shapeOf (cellOf code))) 0 }
+cellShape code = record { refusal = codeRefusal code; shape = orZero (codeRefusal code) (numberOf (shapeOf (cellOf code))) }
 
 unfoldable pub cornerCount : ℕ → CountAnswer
-cornerCount code = record { refusal = codeRefusal code; count = given (codeRefusal code) (cornersOf (shapeOf (cellOf code))) 0 }
+cornerCount code = record { refusal = codeRefusal code; count = orZero (codeRefusal code) (cornersOf (shapeOf (cellOf code))) }
 
 -- ---- the plane
 

@@ -3,7 +3,6 @@ use mathlib.Core.Bool.{cond}
 use mathlib.Core.List.{List}
 use Prim.Native.Nat.{ℕ, zero, suc}
 use lib.ListN.{length}
-use Rattle.logic.specs.Refusal.{given}
 use Rattle.cell.specs.declared.Arrangement.{Arrangement}
 use Rattle.code.specs.Code.{cellOf}
 use Rattle.reading.specs.Ground.{wholeCells, sizeSum}
@@ -17,7 +16,7 @@ use Rattle.asking.specs.declared.Asked.{Asked}
 use Rattle.asking.specs.Ask.{anyWithin, askRefusal, coveredIn, refusalIn as askRefusalIn, placeIn as askPlaceIn}
 use Rattle.writing.specs.declared.Written.{Written}
 use Rattle.writing.specs.WriteEntry.{writeRefusal, textOf, refusalIn as writeRefusalIn, lengthIn as writeLengthIn}
-use Rattle.jeguarivo.specs.Entries.{lengthAnswer}
+use Rattle.jeguarivo.specs.Entries.{orZero, lengthAnswer}
 use Rattle.jeguarivo.specs.declared.LengthAnswer.{LengthAnswer}
 use Rattle.jeguarivo.specs.declared.CheckAnswer.{CheckAnswer}
 use Rattle.jeguarivo.specs.declared.ListAnswer.{ListAnswer}
@@ -29,8 +28,8 @@ checkedText t =
     record {
       refusal = textRefusal t;
       place = placeWith (textRefusal t) t;
-      cells = given (textRefusal t) (length (wholeCells (nodesOf t))) 0;
-      size = given (textRefusal t) (sizeSum (wholeCells (nodesOf t))) 0;
+      cells = orZero (textRefusal t) (length (wholeCells (nodesOf t)));
+      size = orZero (textRefusal t) (sizeSum (wholeCells (nodesOf t)));
     }
 
 -- an answer of checking as numbers
@@ -41,7 +40,7 @@ checkNumbers (checked.Refused refusal place) = record { refusal = refusal; place
 -- the number of codes
 unfoldable pub listedText : (t : List ℕ) (room : ℕ) → ListAnswer
 listedText t room =
-    record { refusal = listRefusal t room; place = placeWith (listRefusal t room) t; count = given (listRefusal t room) (length (codesOf t)) 0 }
+    record { refusal = listRefusal t room; place = placeWith (listRefusal t room) t; count = orZero (listRefusal t room) (length (codesOf t)) }
 
 abbrev pub listNumbers : Listed → ListAnswer
 listNumbers listed = record { refusal = listRefusalIn listed; place = listPlaceIn listed; count = countIn listed }
@@ -50,7 +49,7 @@ listNumbers listed = record { refusal = listRefusalIn listed; place = listPlaceI
 unfoldable pub askedText : (n s : ℕ) (t : List ℕ) (code : ℕ) → AskAnswer
 askedText n s t code =
     let r : ℕ = askRefusal (record { north = n; south = s }) t code in
-    record { refusal = r; place = placeWith r t; covered = given r (cond (anyWithin (wholeCells (nodesOf t)) (cellOf code)) 1 0) 0 }
+    record { refusal = r; place = placeWith r t; covered = orZero r (cond (anyWithin (wholeCells (nodesOf t)) (cellOf code)) 1 0) }
 
 abbrev pub askNumbers : Asked → AskAnswer
 askNumbers asked = record { refusal = askRefusalIn asked; place = askPlaceIn asked; covered = coveredIn asked }
