@@ -3,8 +3,10 @@ ghost use mathlib.Core.Path.{_≡_};
 ghost use mathlib.Core.Bool.{cond};
 ghost use Prim.Native.Nat.{_+_, _≤_};
 ghost use lib.Dec.{ltb};
-ghost use lib.ListN.{length};
+ghost use lib.ListN.{length, set};
+ghost use lib.Seq.{sets};
 ghost use Rattle.io.specs.Counts.{Counts};
+ghost use Rattle.console.specs.Line.{atMost};
 use cell::Arrangement;
 use decimal::Whole;
 use libc::STDERR_FILENO;
@@ -185,8 +187,9 @@ pub fn read_all(fd: i32, buf: &mut [u8]) -> Got
 // One more byte of a line. What has no room is left out: no line that long says anything.
 pub fn put_byte(line: &mut [u8], at: usize, byte: u8) -> usize
     requires { ⌜ at ≤ length (now line) ⌝ }
-    ensures { λ r. ⌜ r ≤ length (now (line .exit)) ⌝ }
-    ensures { λ r. ⌜ length (now (line .exit)) ≡ length (now (line .entry)) ⌝ }
+    ensures { λ r. ⌜ r ≡ atMost (length (now (line .entry))) (at + 1) ⌝ }
+    ensures { λ r. ⌜ now (line .exit) ≡ set (now (line .entry)) at byte ⌝ }
+    ensures { λ r. ⌜ (r ≤ length (now (line .exit))) × (length (now (line .exit)) ≡ length (now (line .entry))) ⌝ }
 {
     if at < line.len() {
         line[at] = byte;
@@ -198,8 +201,9 @@ pub fn put_byte(line: &mut [u8], at: usize, byte: u8) -> usize
 // The same for more bytes.
 pub fn put_bytes(line: &mut [u8], at: usize, bytes: &[u8]) -> usize
     requires { ⌜ at ≤ length (now line) ⌝ }
-    ensures { λ r. ⌜ r ≤ length (now (line .exit)) ⌝ }
-    ensures { λ r. ⌜ length (now (line .exit)) ≡ length (now (line .entry)) ⌝ }
+    ensures { λ r. ⌜ r ≡ atMost (length (now (line .entry))) (at + length (now (bytes .entry))) ⌝ }
+    ensures { λ r. ⌜ now (line .exit) ≡ sets (now (line .entry)) at (now (bytes .entry)) ⌝ }
+    ensures { λ r. ⌜ (r ≤ length (now (line .exit))) × (length (now (line .exit)) ≡ length (now (line .entry))) ⌝ }
 {
     let mut end = at;
     let mut i: usize = 0;
@@ -212,7 +216,7 @@ pub fn put_bytes(line: &mut [u8], at: usize, bytes: &[u8]) -> usize
 
 // A length that an entry answered. It is within the room; where it were not, all of the room.
 pub fn within(n: u64, room: usize) -> usize
-    ensures { λ r. ⌜ r ≤ room ⌝ }
+    ensures { λ r. ⌜ (r ≡ atMost room n) × (r ≤ room) ⌝ }
 {
     let length = n as usize;
     if length < room { length } else { room }

@@ -8,7 +8,7 @@ use native.Mathlib.Numerals.{add-one}
 use native.Mathlib.Omega.{arith}
 use lib.Dec.{leb, ltb}
 use lib.ListN.{length, drop, getD, set, length-drop, drop-of-length-le}
-use lib.Seq.{drop-cons}
+use lib.Seq.{sets, drop-cons}
 use borrow.Author.Tests.{lt-ltb, le-ltb}
 use Rattle.logic.specs.Refusal.{refuse, _otherwise_, given}
 use Rattle.logic.specs.RefusalLaws.{stops, passes}
@@ -23,7 +23,6 @@ use Rattle.writing.specs.declared.Written.{Written}
 use Rattle.writing.specs.declared.Written.the-variants.{Length, Refused}
 use Rattle.writing.specs.WriteEntry.{allCodes, lies, ordered, listRefusal, textOf, writeRefusal, textIn, written}
 use Rattle.writing.specs.ListLaws.{not-lies}
-use Rattle.writing.specs.Put.{laid}
 
 -- ---- the tests of the list
 
@@ -152,8 +151,7 @@ module _ {codes : List ℕ} {i refusal : ℕ} (v : Judged codes i refusal) where
 
 pub heading-put :
     (n s : ℕ) (a : List ℕ) {b c d e f g h : List ℕ} → b ≡ set a 0 67 → c ≡ set b 1 86 → d ≡ set c 2 82 → e ≡ set d 3 0 → f ≡ set e 4 1 → g ≡ set f 5 (48 + n) →
-    h ≡ set g 6 (48 + s) → h ≡ laid 0 (heading n s) a
-unfolding laid
+    h ≡ set g 6 (48 + s) → h ≡ sets a 0 (heading n s)
 heading-put n s a i j k l m o p =
     p ∙ ap (λ t. set t 6 (48 + s))
     (o ∙ ap (λ t. set t 5 (48 + n)) (m ∙ ap (λ t. set t 4 1) (l ∙ ap (λ t. set t 3 0) (k ∙ ap (λ t. set t 2 82) (j ∙ ap (λ t. set t 1 86) i)))))

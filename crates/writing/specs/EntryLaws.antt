@@ -6,6 +6,7 @@ use mathlib.Core.List.{List, [], _∷_, _++_, map}
 use Prim.Native.Nat.{ℕ, suc, _+_, _-_, _*_, _^_, _≤_, _<_}
 use native.Mathlib.Omega.{arith}
 use lib.ListN.{length, drop, length-append}
+use lib.Seq.{sets, sets-eq}
 use Rattle.logic.specs.Order.{lt-or, three-ways}
 use Rattle.ternary.specs.Digits.{value}
 use Rattle.cell.specs.declared.Cell.{Cell}
@@ -28,8 +29,8 @@ use Rattle.writing.specs.BuiltLaws.{under, built-side}
 use Rattle.writing.specs.ListLaws.{GoodList, InTurn, good-list, in-turn, codes-cells}
 use Rattle.writing.specs.Take.{restsOf, Since, Each, Standing}
 use Rattle.writing.specs.Measure.{namesFrom, ListAt, ListTakes}
-use Rattle.writing.specs.Put.{laid, Wrote, ListWrote}
-use Rattle.writing.specs.PutLaws.{laid-append, laid-over}
+use Rattle.writing.specs.Put.{Wrote, ListWrote}
+use Rattle.writing.specs.PutLaws.{sets-append}
 
 -- ---- cells in turn have names in turn
 
@@ -111,14 +112,14 @@ top-length codes next bytes count t a =
 -- ---- the text
 
 pub top-text :
-    (a : Arrangement) (codes text mid later : List ℕ) (r : Placed) → length (textOf a codes) ≤ length text → mid ≡ laid 0 (heading (a .north) (a .south)) text →
+    (a : Arrangement) (codes text mid later : List ℕ) (r : Placed) → length (textOf a codes) ≤ length text → mid ≡ sets text 0 (heading (a .north) (a .south)) →
     ListWrote codes 0 [] 15 7 Faces 0 6 mid later r → later ≡ textIn a codes text
 unfolding textOf writtenText textIn
 top-text a codes text mid later r h e u =
     let n : ℕ = length (textOf a codes) in
     let z : 0 + n ≡ n = omega arith in
     u .wrote .holds
-    ∙ ap₂ (λ (ns : Nodes) (x : List ℕ). laid 7 (render Faces ns) x) (faces-nodes codes) e
-    ∙ sym (laid-append 0 (heading (a .north) (a .south)) (render Faces (built 15 6 (map nameOf (map cellOf codes)))) text)
-    ∙ laid-over 0 (textOf a codes) text (omega arith)
+    ∙ ap₂ (λ (ns : Nodes) (x : List ℕ). sets x 7 (render Faces ns)) (faces-nodes codes) e
+    ∙ sym (sets-append text 0 (heading (a .north) (a .south)) (render Faces (built 15 6 (map nameOf (map cellOf codes)))))
+    ∙ sets-eq (textOf a codes) text 0 (omega arith)
     ∙ ap (λ (m : ℕ). textOf a codes ++ drop m text) z

@@ -1,8 +1,9 @@
 -- What the writing pass leaves in the text. Assumes nothing.
 use mathlib.Core.Path.{_≡_}
 use mathlib.Core.List.{List, [], _∷_, _++_}
-use Prim.Native.Nat.{ℕ, suc, _+_, _-_, _*_, _≤_}
-use lib.ListN.{length, set}
+use Prim.Native.Nat.{ℕ, _+_, _-_, _*_, _≤_}
+use lib.ListN.{length}
+use lib.Seq.{sets}
 use Rattle.reading.specs.declared.Level.{Level}
 use Rattle.reading.specs.Reading.{Nodes, end, first, render}
 use Rattle.reading.specs.Prefix.{Name, Ahead}
@@ -12,14 +13,9 @@ use Rattle.writing.specs.BuiltLaws.{under}
 use Rattle.writing.specs.Take.{restsOf, Each, Standing, Took}
 use Rattle.writing.specs.Measure.{namesFrom, NodeAt, ListAt}
 
--- bytes laid over a text, from a place on
-unfoldable pub laid : ℕ → List ℕ → List ℕ → List ℕ
-laid place [] text = text
-laid place (b ∷ bs) text = laid (suc place) bs (set text place b)
-
 -- these bytes were written from the place on
 pub record Wrote (place : ℕ) (bytes text later : List ℕ) (ends : ℕ) : Type 0 where
-  pub holds : later ≡ laid place bytes text
+  pub holds : later ≡ sets text place bytes
   pub ended : ends ≡ place + length bytes
 
 pub record NodeWrote (codes : List ℕ) (at : ℕ) (w : Name) (k place : ℕ) (l : Level) (c : ℕ) (text later : List ℕ) (r : Placed) : Type 0 where

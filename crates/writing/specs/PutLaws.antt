@@ -6,8 +6,8 @@ use Prim.Native.Nat.{ℕ, zero, suc, _+_, _-_, _*_, _/_, _≤_, _<_}
 use native.Mathlib.Numerals.{add-one}
 use native.Mathlib.Omega.{arith}
 use lib.Dec.{eqb}
-use lib.ListN.{length, set, take, drop, take-append-drop, getD, length-append, length-set}
-use lib.Seq.{take-suc-set, drop-set-lt, drop-cons}
+use lib.ListN.{length, set, drop, getD, length-append}
+use lib.Seq.{sets, drop-cons}
 use Rattle.logic.specs.Bools.{by-cond}
 use Rattle.reading.specs.declared.Level.{Level}
 use Rattle.reading.specs.declared.Level.the-variants.{Digits}
@@ -21,40 +21,28 @@ use Rattle.writing.specs.Take.{restsOf, Each, Standing, Took}
 use Rattle.writing.specs.TakeLaws.{rests-first, side-in, side-out, took-none, took-join, nine-past}
 use Rattle.writing.specs.Measure.{namesFrom, NodeAt, ListAt, NodeTakes}
 use Rattle.writing.specs.MeasureLaws.{names-at, node-exact, node-list}
-use Rattle.writing.specs.Put.{laid, Wrote, NodeWrote, ListWrote}
+use Rattle.writing.specs.Put.{Wrote, NodeWrote, ListWrote}
 
--- ---- bytes laid over a text
+-- ---- bytes stored from a place on
 
-pub laid-append : (place : ℕ) (a b text : List ℕ) → laid place (a ++ b) text ≡ laid (place + length a) b (laid place a text)
-unfolding laid
-laid-append place [] b text = let e : place + 0 ≡ place = omega arith in rw e refl
-laid-append place (x ∷ a) b text =
+pub sets-append : (text : List ℕ) (place : ℕ) (a b : List ℕ) → sets text place (a ++ b) ≡ sets (sets text place a) (place + length a) b
+sets-append text place [] b = let e : place + 0 ≡ place = omega arith in rw e refl
+sets-append text place (x ∷ a) b =
     let e : suc place + length a ≡ place + suc (length a) = omega arith in
-    laid-append (suc place) a b (set text place x) ∙ rw e refl
-
--- where they fit, they replace as many
-pub laid-over : (place : ℕ) (bs text : List ℕ) → place + length bs ≤ length text → laid place bs text ≡ take place text ++ (bs ++ drop (place + length bs) text)
-unfolding laid
-laid-over place [] text h = let e : place + 0 ≡ place = omega arith in rw e (sym (take-append-drop place text))
-laid-over place (b ∷ bs) text h =
-    let e : suc place + length bs ≡ place + suc (length bs) = omega arith in
-    laid-over (suc place) bs (set text place b) (rw (length-set text place b) (omega arith))
-    ∙ rw (take-suc-set text place b (omega arith), drop-set-lt (suc place + length bs) text place b (omega arith), e) (append-assoc (take place text) (b ∷ []) _)
+    sets-append (set text place x) (suc place) a b ∙ rw e refl
 
 pub wrote-join :
     {place : ℕ} {a b text mid later : List ℕ} {between ends : ℕ} → Wrote place a text mid between → Wrote between b mid later ends → Wrote place (a ++ b) text later ends
 wrote-join {place} {a} {b} {text} {mid} {later} {between} {ends} t u =
     record {
-      holds = u .holds ∙ ap₂ (λ (p : ℕ) (x : List ℕ). laid p b x) (t .ended) (t .holds) ∙ sym (laid-append place a b text);
+      holds = u .holds ∙ ap₂ (λ (p : ℕ) (x : List ℕ). sets x p b) (t .ended) (t .holds) ∙ sym (sets-append text place a b);
       ended = omega (arith, t .ended, u .ended, length-append a b);
     }
 
 pub wrote-none : {place : ℕ} {text : List ℕ} → Wrote place [] text text place
-unfolding laid
 wrote-none = record { holds = refl; ended = omega arith }
 
 pub wrote-one : {place b : ℕ} {text later : List ℕ} → later ≡ set text place b → Wrote place (b ∷ []) text later (place + 1)
-unfolding laid
 wrote-one e = record { holds = e; ended = refl }
 
 -- ---- a node's bytes, and those of what follows

@@ -3,9 +3,10 @@ ghost use mathlib.Core.Path.{_≡_};
 ghost use mathlib.Core.Bool.{true, _&&_, not};
 ghost use Prim.Native.Nat.{_+_, _-_, _*_, _^_, _≤_, _<_};
 ghost use lib.ListN.{length, set};
+ghost use lib.Seq.{sets};
 ghost use Rattle.writing.specs.Measure.{AtHand, NodeMeasured, ListMeasured};
 ghost use Rattle.writing.specs.Whole.{WholeTold};
-ghost use Rattle.writing.specs.Put.{laid, NodePut, ListPut};
+ghost use Rattle.writing.specs.Put.{NodePut, ListPut};
 ghost use lib.Dec.{ltb};
 ghost use Rattle.logic.specs.Refusal.{given};
 ghost use Rattle.code.specs.Code.{isCode, cellOf};
@@ -251,7 +252,7 @@ fn length_of(codes: &[u64]) -> u64
 // The seven bytes of heading.
 fn put_heading(text: &mut [u8], north: u64, south: u64)
     requires { ⌜ (north ≤ 3) × (south ≤ 3) ⌝ }
-    ensures { λ r. ⌜ now (text .exit) ≡ laid 0 (heading north south) (now (text .entry)) ⌝ }
+    ensures { λ r. ⌜ now (text .exit) ≡ sets (now (text .entry)) 0 (heading north south) ⌝ }
 {
     put(text, 0, 67);
     put(text, 1, 86);

@@ -24,7 +24,7 @@ slice-reshare-prefix-print-names : tie.Need-slice-reshare-prefix-print-names
 slice-reshare-prefix-print-names c = search needs
 
 slice-aggregate-print-names : tie.Need-slice-aggregate-print-names
-slice-aggregate-print-names c = sym (length-take-le _ _ (c .before .within .ensures))
+slice-aggregate-print-names c = sym (length-take-le _ _ (c .before .within .ensures .1))
 
 print-names-requires : tie.Need-print-names-requires
 print-names-requires c κs = search needs

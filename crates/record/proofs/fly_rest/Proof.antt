@@ -21,7 +21,7 @@ slice-reshare-prefix-fly-line : tie.Need-slice-reshare-prefix-fly-line
 slice-reshare-prefix-fly-line c = search needs
 
 slice-aggregate-fly-line : tie.Need-slice-aggregate-fly-line
-slice-aggregate-fly-line c = sym (length-take-le _ _ (c .before .before .before .put-bytes .ensures .0))
+slice-aggregate-fly-line c = sym (length-take-le _ _ (c .before .before .before .put-bytes .ensures .1 .1 .0))
 
 fly-line-requires-2 : tie.Need-fly-line-requires-2
 fly-line-requires-2 c κs = search needs

@@ -31,7 +31,7 @@ slice-reshare-prefix-print : tie.Need-slice-reshare-prefix-print
 slice-reshare-prefix-print c = search needs
 
 slice-aggregate-print : tie.Need-slice-aggregate-print
-slice-aggregate-print c = sym (length-take-le _ _ (c .before .within .ensures))
+slice-aggregate-print c = sym (length-take-le _ _ (c .before .within .ensures .1))
 
 print-requires : tie.Need-print-requires
 print-requires c κs = search needs
