@@ -445,7 +445,7 @@ pub extern "C" fn jgv_coverage_check(text: &[u8]) -> CheckAnswer
             refusal,
             place,
             cells: 0, // of a text that is refused
-            size: 0,
+            size: 0, // and no sum of sizes
         },
     }
 }
