@@ -2,10 +2,11 @@
 use mathlib.Core.Path.{_≡_, refl, sym, ap, ap₂, _∙_}
 use mathlib.Core.Bool.{Bool, true, false, _&&_}
 use Prim.Native.Nat.{ℕ, zero, suc, _-_, _*_, _/_, _%_, _^_, _≤_, _<_}
-use native.Mathlib.Nat.{div-add-mod'}
+use native.Mathlib.Nat.{div-add-mod', dvd-mul-right, mod-mod-of-dvd}
 use native.Mathlib.Omega.{arith}
 use lib.Dec.{eqb, ltb}
 use borrow.Author.Tests.{lt-ltb, le-ltb, eq-eqb, ne-eqb}
+use Rattle.ternary.specs.Powers.{nine-split}
 use Rattle.code.specs.declared.Coded.the-variants.{Code, Refused}
 use Rattle.code.specs.declared.Split.the-variants as split-as
 use Rattle.code.specs.Code.{coded, split, isCode, codeRefusal, pathIn}
@@ -24,6 +25,10 @@ refused {r} code e h = refusal r code h ∙ ap (λ (x : ℕ). coded x code) e
 pub answered : {r s x code : ℕ} → r ≡ s → r ≡ 0 → x ≡ code → Code x ≡ coded s code
 unfolding coded
 answered {code = code} e z h = ap Code h ∙ ap (λ (x : ℕ). coded x code) (sym z ∙ e)
+
+-- a face has a whole number of cells of each size, so the face need not be taken off
+pub rest-cut : (n j : ℕ) → j ≤ 15 → n % 9 ^ 15 % 9 ^ j ≡ n % 9 ^ j
+rest-cut n j h = ap (λ (x : ℕ). n % x % 9 ^ j) (sym (nine-split j h)) ∙ mod-mod-of-dvd (9 ^ j) n (dvd-mul-right (9 ^ j) (9 ^ (15 - j)))
 
 -- 4 where a number is no code
 pub no-code : (code : ℕ) → isCode code ≡ false → split-as.Refused 4 ≡ split (codeRefusal code) code

@@ -65,14 +65,13 @@ pub fn found_code(found: Found) -> Coded
     }
 }
 
-// Whether some cell has this code.
+// Whether some cell has this code: below 6 x 9^15 it lies in one of the faces.
 pub fn is_code(code: u64) -> bool
     ensures { λ r. ⌜ r ≡ isCode code ⌝ }
 {
     let finest = code / 16;
-    if finest / 205_891_132_094_649 < 6 {
-        let step = ternary::nine_power(15 - code % 16);
-        return finest % 205_891_132_094_649 % step == 0;
+    if finest < 1_235_346_792_567_894 {
+        return finest % ternary::nine_power(15 - code % 16) == 0;
     }
     false
 }

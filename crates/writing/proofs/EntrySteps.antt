@@ -3,13 +3,14 @@ use mathlib.Core.Path.{_≡_, refl, sym, ap, ap₂, _∙_}
 use mathlib.Core.Bool.{Bool, true, false, _&&_, not}
 use mathlib.Core.Logic.{_⊎_, inl, inr, ⊎-elim}
 use mathlib.Core.List.{List, [], _∷_, _++_}
-use Prim.Native.Nat.{ℕ, zero, suc, _+_, _-_, _*_, _/_, _≤_, _<_}
+use Prim.Native.Nat.{ℕ, zero, suc, _+_, _-_, _*_, _/_, _^_, _≤_, _<_}
 use native.Mathlib.Numerals.{add-one}
 use native.Mathlib.Omega.{arith}
 use lib.Dec.{leb, ltb}
 use lib.ListN.{length, drop, getD, set, length-drop, drop-of-length-le}
 use lib.Seq.{sets, drop-cons}
-use borrow.Author.Tests.{lt-ltb, le-ltb}
+use borrow.Author.Tests.{lt-ltb, le-ltb, ltb-true, ltb-false, le-leb, lt-leb}
+use Rattle.logic.specs.Order.{lt-or}
 use Rattle.logic.specs.Refusal.{refuse, _otherwise_, given}
 use Rattle.logic.specs.RefusalLaws.{stops, passes}
 use Rattle.cell.specs.declared.Arrangement.{Arrangement}
@@ -17,7 +18,7 @@ use Rattle.cell.specs.Cell.{arrangementRefusal}
 use Rattle.code.specs.Code.{cellOf, isCode, sizeOf}
 use Rattle.code.specs.CodeLaws.{code-is-cell, code-cell}
 use Rattle.code.specs.Inside.{startOf, endOf}
-use Rattle.code.specs.InsideLaws.{start-at}
+use Rattle.code.specs.InsideLaws.{start-at, end-small, size-pos}
 use Rattle.reading.specs.Text.{heading}
 use Rattle.writing.specs.declared.Written.{Written}
 use Rattle.writing.specs.declared.Written.the-variants.{Length, Refused}
@@ -63,16 +64,30 @@ short-order (c ∷ x ∷ cs) h = absurd (omega arith)
 pub order-end : (codes : List ℕ) (i : ℕ) → length codes ≤ i + 1 → ordered (drop i codes) ≡ true
 order-end codes i h = short-order (drop i codes) (rw (length-drop i codes) (omega arith))
 
--- two codes
-pub not-after : (c x : ℕ) → x ≤ c → false ≡ (ltb c x && not (lies (cellOf c) (cellOf x)))
-not-after c x h = rw (le-ltb c x h) refl
-
-pub after : (c x p : ℕ) → isCode c ≡ true → isCode x ≡ true → c < x → p ≡ sizeOf (cellOf c) → leb (c / 16 + p) (x / 16) ≡ (ltb c x && not (lies (cellOf c) (cellOf x)))
+-- two codes: the second comes after the first and not inside where its cell starts at the end of the first one's, or later
+after :
+    (c x : ℕ) → isCode c ≡ true → isCode x ≡ true →
+    (ltb c x && not (lies (cellOf c) (cellOf x))) ≡ leb (startOf (cellOf c) + sizeOf (cellOf c)) (startOf (cellOf x))
 unfolding endOf
-after c x p i j h e =
-    let k = not-lies (cellOf c) (cellOf x) (code-is-cell c i) (code-is-cell x j) (omega (arith, code-cell c i, code-cell x j)) in
-    let f : c / 16 + p ≡ startOf (cellOf c) + sizeOf (cellOf c) = omega (arith, start-at c i) in
-    ap₂ leb f (start-at x j) ∙ sym (rw (lt-ltb c x h) k)
+after c x i j = go (ltb c x) refl
+  where
+    go :
+        (b : Bool) → ltb c x ≡ b →
+        (b && not (lies (cellOf c) (cellOf x))) ≡ leb (startOf (cellOf c) + sizeOf (cellOf c)) (startOf (cellOf x))
+    go true e =
+        let h : c < x = ltb-true c x e in
+        not-lies (cellOf c) (cellOf x) (code-is-cell c i) (code-is-cell x j) (omega (arith, code-cell c i, code-cell x j))
+    go false e =
+        let h : x ≤ c = ltb-false c x e in
+        sym (lt-leb (startOf (cellOf c) + sizeOf (cellOf c)) (startOf (cellOf x)) (omega (arith, start-at c i, start-at x j, size-pos (cellOf c))))
+
+-- where a cell ends is a small number
+pub end-small-at : (c : ℕ) {start size : ℕ} → isCode c ≡ true → start ≡ startOf (cellOf c) → size ≡ sizeOf (cellOf c) → start + size < 2 ^ 64
+unfolding endOf
+end-small-at c t s z =
+    let v = code-is-cell c t in
+    let b : startOf (cellOf c) + sizeOf (cellOf c) ≤ cellOf c .face * 205891132094649 + 205891132094649 = end-small (cellOf c) v in
+    omega (arith, s, z, v .faced)
 
 -- ---- the refusals of the list
 
@@ -90,18 +105,22 @@ none codes e f = sym (ap₂ (λ (b o : Bool). refuse (not b) 4 otherwise refuse 
 
 -- ---- the codes, one after the other
 
--- the codes up to the place i are cells', and their order is judged
-pub record Judged (codes : List ℕ) (i refusal : ℕ) : Type 0 where
+abbrev codeAt : List ℕ → ℕ → ℕ
+codeAt codes i = getD codes i 0
+
+-- the codes up to the place i are cells', their order is judged, and the last of their cells ends at `end`
+pub record Judged (codes : List ℕ) (i refusal end : ℕ) : Type 0 where
   pub to : i ≤ length codes
   pub coded : allCodes codes ≡ allCodes (drop i codes)
-  pub last : 0 < i → isCode (getD codes (i - 1) 0) ≡ true
   pub order : ((refusal ≡ 0) × (ordered codes ≡ ordered (drop (i - 1) codes))) ⊎ ((refusal ≡ 11) × (ordered codes ≡ false))
+  pub first : i ≡ 0 → end ≡ 0
+  pub last : 0 < i → (isCode (codeAt codes (i - 1)) ≡ true) × (end ≡ startOf (cellOf (codeAt codes (i - 1))) + sizeOf (cellOf (codeAt codes (i - 1))))
 
-pub judge-starts : (codes : List ℕ) → Judged codes 0 0
-judge-starts codes = record { to = omega arith; coded = refl; last = λ h. absurd (omega arith); order = inl (refl, refl) }
+pub judge-starts : (codes : List ℕ) → Judged codes 0 0 0
+judge-starts codes = record { to = omega arith; coded = refl; order = inl (refl, refl); first = λ h. refl; last = λ h. absurd (omega arith) }
 
-module _ {codes : List ℕ} {i refusal : ℕ} (v : Judged codes i refusal) where
-  pub judge-four : i < length codes → isCode (getD codes i 0) ≡ false → 4 ≡ listRefusal codes
+module _ {codes : List ℕ} {i refusal end : ℕ} (v : Judged codes i refusal end) where
+  pub judge-four : i < length codes → isCode (codeAt codes i) ≡ false → 4 ≡ listRefusal codes
   judge-four h e = four codes (v .coded ∙ codes-step codes i h ∙ ap (λ (b : Bool). b && allCodes (drop (i + 1) codes)) e)
 
   pub judge-ends : length codes ≤ i → refusal ≡ listRefusal codes
@@ -109,43 +128,46 @@ module _ {codes : List ℕ} {i refusal : ℕ} (v : Judged codes i refusal) where
       let a : allCodes codes ≡ true = v .coded ∙ codes-end codes i h in
       ⊎-elim (λ o. o .0 ∙ none codes a (o .1 ∙ order-end codes (i - 1) (omega arith))) (λ o. o .0 ∙ eleven codes a (o .1)) (v .order)
 
-  module _ (h : i < length codes) (e : isCode (getD codes i 0) ≡ true) where
-    same-place : i + 1 - 1 ≡ i
-    same-place = omega arith
-
+  module _ {start : ℕ} (h : i < length codes) (e : isCode (codeAt codes i) ≡ true) (s : start ≡ startOf (cellOf (codeAt codes i))) where
     next-judged :
-        {r : ℕ} → ((r ≡ 0) × (ordered codes ≡ ordered (drop i codes))) ⊎ ((r ≡ 11) × (ordered codes ≡ false)) → Judged codes (i + 1) r
-    next-judged o =
+        {r next : ℕ} → next ≡ start + sizeOf (cellOf (codeAt codes i)) →
+        ((r ≡ 0) × (ordered codes ≡ ordered (drop i codes))) ⊎ ((r ≡ 11) × (ordered codes ≡ false)) → Judged codes (i + 1) r next
+    next-judged n o =
+        let p : i + 1 - 1 ≡ i = omega arith in
         record {
           to = omega arith;
           coded = v .coded ∙ codes-step codes i h ∙ ap (λ (b : Bool). b && allCodes (drop (i + 1) codes)) e;
-          last = λ z. rw same-place e;
-          order = rw same-place o;
+          order = rw p o;
+          first = λ z. absurd (omega arith);
+          last = λ z. rw p (e, n ∙ ap (λ (x : ℕ). x + sizeOf (cellOf (codeAt codes i))) s);
         }
 
-    -- the first code
-    pub judge-first : {r : ℕ} → i ≡ 0 → r ≡ refusal → Judged codes (i + 1) r
-    judge-first z k =
-        let p : i - 1 ≡ i = omega arith in
-        rw k (next-judged (rw p at (v .order)))
+    -- a later code, by where the cell before it ends
+    pair : 0 < i → ordered (drop (i - 1) codes) ≡ (leb end start && ordered (drop i codes))
+    pair z =
+        let p : i - 1 + 1 ≡ i = omega arith in
+        let l = v .last z in
+        let f = rw p at (order-step codes (i - 1) (omega arith)) in
+        f ∙ ap (λ (b : Bool). b && ordered (drop i codes)) (after (codeAt codes (i - 1)) (codeAt codes i) (l .0) e ∙ ap₂ leb (sym (l .1)) (sym s))
 
-    -- a later one, by its order with the one before
-    module _ (z : 0 < i) (b : Bool) (f : b ≡ (ltb (getD codes (i - 1) 0) (getD codes i 0) && not (lies (cellOf (getD codes (i - 1) 0)) (cellOf (getD codes i 0))))) where
-      pair : ordered (drop (i - 1) codes) ≡ (b && ordered (drop i codes))
-      pair =
-          let p : i - 1 + 1 ≡ i = omega arith in
-          rw f (rw p at (order-step codes (i - 1) (omega arith)))
+    -- the order stands where the code follows; the first code always does
+    pub judge-good : {r next : ℕ} → next ≡ start + sizeOf (cellOf (codeAt codes i)) → end ≤ start → r ≡ refusal → Judged codes (i + 1) r next
+    judge-good n g k = next-judged n (⊎-elim (λ o. inl (k ∙ o .0, o .1 ∙ same (lt-or 0 i))) (λ o. inr (k ∙ o .0, o .1)) (v .order))
+      where
+        same : (0 < i) ⊎ (i ≤ 0) → ordered (drop (i - 1) codes) ≡ ordered (drop i codes)
+        same (inl z) = pair z ∙ ap (λ (b : Bool). b && ordered (drop i codes)) (le-leb end start g)
+        same (inr z) = let p : i - 1 ≡ i = omega arith in ap (λ (j : ℕ). ordered (drop j codes)) p
 
-      pub judge-good : {r : ℕ} → b ≡ true → r ≡ refusal → Judged codes (i + 1) r
-      judge-good t k =
-          rw k
-          (next-judged
-          (⊎-elim (λ o. inl (o .0, o .1 ∙ pair ∙ ap (λ (x : Bool). x && ordered (drop i codes)) t)) (λ o. inr o) (v .order)))
-
-      pub judge-bad : {r : ℕ} → b ≡ false → r ≡ 11 → Judged codes (i + 1) r
-      judge-bad t k =
-          next-judged
-          (inr (k, ⊎-elim (λ o. o .1 ∙ pair ∙ ap (λ (x : Bool). x && ordered (drop i codes)) t) (λ o. o .1) (v .order)))
+    -- and falls where it starts before that
+    pub judge-bad : {r next : ℕ} → next ≡ start + sizeOf (cellOf (codeAt codes i)) → start < end → r ≡ 11 → Judged codes (i + 1) r next
+    judge-bad n g k =
+        next-judged n
+        (inr
+        (k, ⊎-elim (λ o. o .1 ∙ pair (later (lt-or 0 i)) ∙ ap (λ (b : Bool). b && ordered (drop i codes)) (lt-leb end start g)) (λ o. o .1) (v .order)))
+      where
+        later : (0 < i) ⊎ (i ≤ 0) → 0 < i
+        later (inl z) = z
+        later (inr z) = let f : end ≡ 0 = v .first (omega arith) in absurd (omega arith)
 
 -- ---- the heading
 

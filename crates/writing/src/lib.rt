@@ -208,33 +208,24 @@ fn put_list(
     Placed { next, place: ends }
 }
 
-// Whether the cell of the second code comes after that of the first and not inside.
-fn follows(code: u64, next: u64) -> bool
-    requires { ⌜ (isCode code ≡ true) × (isCode next ≡ true) ⌝ }
-    ensures { λ r. ⌜ r ≡ (ltb code next && not (lies (cellOf code) (cellOf next))) ⌝ }
-{
-    if next <= code {
-        return false;
-    }
-    code / 16 + code::size_in(code) <= next / 16
-}
-
-// 4 or 11, or 0 where the codes make a good list: a code that is no cell's comes before all else.
+// 4 or 11, or 0 where the codes make a good list: a code that is no cell's comes before all else. A cell that starts where the one before it
+// ends, or later, comes after it and not inside.
 fn list_refusal(codes: &[u64]) -> u64
     ensures { λ r. ⌜ r ≡ listRefusal (now (codes .entry)) ⌝ }
 {
     let mut refusal: u64 = 0;
+    let mut end: u64 = 0;
     let mut i: usize = 0;
     while i < codes.len() {
         let code = codes[i];
         if !code::is_code(code) {
             return 4;
         }
-        if i > 0 {
-            if !follows(codes[i - 1], code) {
-                refusal = 11;
-            }
+        let start = code::start_in(code);
+        if start < end {
+            refusal = 11;
         }
+        end = start + code::size_in(code);
         i = i + 1;
     }
     refusal

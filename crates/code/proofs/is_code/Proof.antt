@@ -1,13 +1,14 @@
 -- `code::is_code` meets its contract. Assumes nothing.
 use mathlib.Core.Path.{_≡_, sym, ap, ap₂, _∙_}
 use mathlib.Core.Bool.{_&&_}
-use Prim.Native.Nat.{ℕ, _/_, _%_, _-_, _^_}
+use Prim.Native.Nat.{ℕ, _/_, _%_, _-_, _^_, _≤_, _<_}
 use native.Mathlib.Omega.{arith}
 use lib.Dec.{eqb}
 use borrow.Author.Needs.{needs}
 use borrow.Author.Tests.{lt-ltb, le-ltb}
 use Rattle.ternary.specs.Powers.{nine-pos}
 use Rattle.code.specs.Code.{isCode}
+use Rattle.code.proofs.Laws.{rest-cut}
 use Rattle.code.proofs.is_code.Statement.{statement}
 use Rattle.code.proofs.is_code.Tie as tie
 
@@ -24,11 +25,17 @@ returns : tie.Need-returns
 unfolding isCode
 returns c =
     let a = c .before .before .args .code in
-    ap (λ (x : ℕ). eqb (a / 16 % 205891132094649 % x) 0) (c .nine-power .ensures) ∙ sym (ap (λ b. b && eqb (a / 16 % 9 ^ 15 % 9 ^ (15 - a % 16)) 0) (lt-ltb (a / 16 / 9 ^ 15) 6 (c .before .if1 .taken)))
+    let f : a / 16 / 9 ^ 15 < 6 = omega arith in
+    ap (λ (x : ℕ). eqb (a / 16 % x) 0) (c .nine-power .ensures)
+    ∙ ap (λ (x : ℕ). eqb x 0) (sym (rest-cut (a / 16) (15 - a % 16) (omega arith)))
+    ∙ sym (ap (λ b. b && eqb (a / 16 % 9 ^ 15 % 9 ^ (15 - a % 16)) 0) (lt-ltb (a / 16 / 9 ^ 15) 6 f))
 
 returns-2 : tie.Need-returns-2
 unfolding isCode
-returns-2 c = simp (le-ltb _ _ (c .if1 .left))
+returns-2 c =
+    let a = c .before .args .code in
+    let f : 6 ≤ a / 16 / 9 ^ 15 = omega arith in
+    simp (le-ltb _ _ f)
 
 pub is-code-spec : {M : Type 1} → statement M
 is-code-spec = tie.close (tie.spec sub-nine-power nine-power-requires rem-result returns returns-2)

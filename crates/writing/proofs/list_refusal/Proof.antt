@@ -1,9 +1,9 @@
 -- `writing::list_refusal` meets its contract: the codes up to the place i are judged. Assumes nothing.
 use native.Mathlib.Omega.{arith}
 use borrow.Author.Needs.{needs}
-use mathlib.Core.Path.{sym, _∙_}
+use mathlib.Core.Path.{sym, ap, _∙_}
 use mathlib.Core.Logic.{⊎-elim}
-use Prim.Native.Nat.{_-_}
+use Prim.Native.Nat.{ℕ, _+_, _-_}
 use lib.ListN.{length}
 use borrow.Author.Tests.{not-true, not-false}
 use Rattle.writing.proofs.EntrySteps as es
@@ -11,10 +11,10 @@ use Rattle.writing.proofs.list_refusal.Statement.{statement}
 use Rattle.writing.proofs.list_refusal.Tie as tie
 
 abbrev Inv-loop : tie.InvT-loop
-Inv-loop codes refusal₀ i₀ refusal i = es.Judged codes i refusal
+Inv-loop codes refusal₀ end₀ i₀ refusal end i = es.Judged codes i refusal end
 
 abbrev μ-loop : tie.MeasureT-loop
-μ-loop codes refusal₀ i₀ refusal i = length codes - i
+μ-loop codes refusal₀ end₀ i₀ refusal end i = length codes - i
 
 loop-holds : tie.Need-loop-holds Inv-loop μ-loop
 loop-holds c = es.judge-starts (c .before .args .codes .now)
@@ -31,17 +31,16 @@ is-code-requires c κs = search needs
 returns : tie.Need-returns Inv-loop μ-loop
 returns c = es.judge-four (c .before .before .before .before .loop .inv) (omega arith) (sym (c .before .is-code .ensures) ∙ not-true _ (c .if1 .taken))
 
-sub-follows : tie.Need-sub-follows Inv-loop μ-loop
-sub-follows c = search needs
+start-in-requires : tie.Need-start-in-requires Inv-loop μ-loop
+start-in-requires c κs = sym (c .before .is-code .ensures) ∙ not-false _ (c .if1 .left)
 
-mul-follows : tie.Need-mul-follows Inv-loop μ-loop
-mul-follows c = search needs
+size-in-requires : tie.Need-size-in-requires Inv-loop μ-loop
+size-in-requires c κs = search needs
 
-shared-slice-read-follows : tie.Need-shared-slice-read-follows Inv-loop μ-loop
-shared-slice-read-follows c = search needs
-
-follows-requires : tie.Need-follows-requires Inv-loop μ-loop
-follows-requires c κs = (c .before .before .before .before .before .before .loop .inv .last (omega arith), sym (c .before .before .before .is-code .ensures) ∙ not-false _ (c .before .before .if1 .left))
+add-end : tie.Need-add-end Inv-loop μ-loop
+add-end c =
+    let t = sym (c .before .before .before .before .is-code .ensures) ∙ not-false _ (c .before .before .before .if1 .left) in
+    record { fits = es.end-small-at _ t (c .before .before .start-in .ensures) (c .size-in .ensures) }
 
 add-i : tie.Need-add-i Inv-loop μ-loop
 add-i c = search needs
@@ -51,12 +50,11 @@ loop-less c = omega arith
 
 loop-again : tie.Need-loop-again Inv-loop μ-loop
 loop-again c =
-    let v = c .before .before .before .before .before .loop .inv in
-    let e = sym (c .before .before .is-code .ensures) ∙ not-false _ (c .before .if1 .left) in
-    ⊎-elim (λ x. es.judge-bad v (omega arith) e (omega arith) (x .2 .result) (x .2 .ensures) (not-true _ (x .3 .taken)) (x .4))
-    (⊎-elim (λ x. es.judge-good v (omega arith) e (omega arith) (x .2 .result) (x .2 .ensures) (not-false _ (x .3 .left)) (x .4))
-    (λ x. es.judge-first v (omega arith) e (omega (arith, x .0 .left)) (x .1)))
-    (c .if2 .came)
+    let v = c .before .before .before .before .before .before .before .loop .inv in
+    let e = sym (c .before .before .before .before .is-code .ensures) ∙ not-false _ (c .before .before .before .if1 .left) in
+    let s = c .before .before .start-in in
+    let n = ap (λ (x : ℕ). s .result + x) (c .size-in .ensures) in
+    ⊎-elim (λ x. es.judge-bad v (omega arith) e (s .ensures) n (x .0 .taken) (x .1)) (λ x. es.judge-good v (omega arith) e (s .ensures) n (x .0 .left) (x .1)) (c .before .if2 .came)
 
 returns-2 : tie.Need-returns-2 Inv-loop μ-loop
 returns-2 c = es.judge-ends (c .before .loop .inv) (omega arith)
@@ -72,10 +70,9 @@ list-refusal-spec =
     shared-slice-read-code
     is-code-requires
     returns
-    sub-follows
-    mul-follows
-    shared-slice-read-follows
-    follows-requires
+    start-in-requires
+    size-in-requires
+    add-end
     add-i
     loop-less
     loop-again
