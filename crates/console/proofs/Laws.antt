@@ -7,19 +7,11 @@ use native.Mathlib.Numerals.{add-one}
 use native.Mathlib.Omega.{arith}
 use lib.Dec.{ltb}
 use lib.ListN.{length, set, drop, getD, length-set}
-use lib.Seq.{sets, set-out, drop-cons}
-use borrow.Author.Tests.{le-ltb, ltb-false}
+use lib.Seq.{sets, drop-cons}
+use borrow.Author.Tests.{ltb-false}
+use Rattle.logic.specs.Stores.{sets-out}
 use Rattle.console.specs.Line.{atMost}
-
-pub fits : (room n : ℕ) → n ≤ room → atMost room n ≡ n
-fits room n h = go (ltb n room) refl
-  where
-    go : (b : Bool) → ltb n room ≡ b → cond b n room ≡ n
-    go true e = refl
-    go false e = let k : room ≤ n = ltb-false n room e in omega arith
-
-pub over : (room n : ℕ) → room ≤ n → atMost room n ≡ room
-over room n h = simp (le-ltb n room h)
+use Rattle.console.specs.LineLaws.{fits, over}
 
 pub start : (room at : ℕ) → at ≤ room → at ≡ atMost room (at + 0)
 start room at h =
@@ -40,10 +32,6 @@ pub next-end : (room at end i : ℕ) → end ≡ atMost room (at + i) → atMost
 next-end room at end i e =
     let f : at + i + 1 ≡ at + (i + 1) = omega arith in
     ap (λ (x : ℕ). atMost room (x + 1)) e ∙ one-more room (at + i) ∙ ap (atMost room) f
-
-sets-out : (l : List ℕ) (i : ℕ) (vs : List ℕ) → length l ≤ i → sets l i vs ≡ l
-sets-out l i [] h = refl
-sets-out l i (v ∷ vs) h = ap (λ (x : List ℕ). sets x (suc i) vs) (set-out l i v h) ∙ sets-out l (suc i) vs (omega arith)
 
 -- a byte stored, and then those that are left
 pub step :

@@ -1,15 +1,18 @@
 -- What the memory holds after a flight: the codes of its fixes, all of them and no other. Assumes nothing.
 use mathlib.Core.Path.{_≡_, refl, sym, ap, subst}
 use mathlib.Core.Logic.{_⊎_, inl, inr, ⊎-elim}
+use mathlib.Core.Bool.{Bool, true, false}
 use mathlib.Core.List.{List, [], _∷_, _++_}
 use Prim.Native.Nat.{ℕ, zero, suc}
 use native.Mathlib.Omega.{arith}
+use lib.Dec.{ltb}
 use lib.ListN.{length, take, drop}
 use lib.Seq.{take-at}
 use Rattle.logic.specs.Rise.{Rise}
-use Rattle.logic.specs.Refusal.{given}
+use Rattle.logic.specs.Refusal.{refuse, given}
 use Rattle.code.specs.declared.Coded.{Coded}
 use Rattle.code.specs.declared.Coded.the-variants.{Code, Refused}
+use Rattle.track.specs.declared.Added.the-variants as Adds
 use Rattle.track.specs.declared.Added.the-variants.{Count}
 use Rattle.track.specs.Track.{inserted, addRefusal, counted, refusalIn, countIn, memory}
 use Rattle.track.specs.TrackLaws.{Holds, holds-old, holds-new, holds-only, inserted-rises}
@@ -49,6 +52,19 @@ fly-after (Code c) codes held n e =
     let k = counted-count (addRefusal (length codes) held c) (length (inserted c held)) n e in
     in-front (addRefusal (length codes) held c) (inserted c held) codes n (k .0) (k .1)
 fly-after (Refused r) codes held n e = let z : _≡_ {A = ℕ} 0 1 = cc in absurd (omega arith)
+
+eight : (t : Bool) (m r : ℕ) → counted (refuse t 8) m ≡ Adds.Refused r → r ≡ 8
+unfolding counted
+eight true m r e = sym (ap refusalIn e)
+eight false m r e = let z : _≡_ {A = ℕ} 0 1 = cc in absurd (omega arith)
+
+-- it refuses a line, and not for want of room: nothing is changed
+pub fly-refused :
+    (a : Coded) (codes held : List ℕ) (r : ℕ) → flown a (length codes) held ≡ Adds.Refused r → (r ≡ 8 → ⊥) →
+    (flownMemory a codes held ≡ codes) × (withLine a held ≡ held)
+unfolding flown flownMemory addRefusal
+fly-refused (Code c) codes held r e n = absurd (n (eight (ltb (length codes) (length (inserted c held))) (length (inserted c held)) r e))
+fly-refused (Refused q) codes held r e n = (refl, refl)
 
 line-keeps : (a : Coded) (held : List ℕ) (x : ℕ) → Holds held x → Holds (withLine a held) x
 line-keeps (Code c) held x h = holds-old c held x h

@@ -1,2 +1,4 @@
 pub mod Flight
 pub mod FlightLaws
+pub mod Lines
+pub mod LinesLaws

@@ -4,3 +4,4 @@ pub mod Order
 pub mod Refusal
 pub mod RefusalLaws
 pub mod Rise
+pub mod Stores

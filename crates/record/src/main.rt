@@ -1,8 +1,11 @@
 // record n s resolution: reads a flight, a line `longitude z` for each fix, and writes the coverage text of the cells flown.
 ghost use mathlib.Core.Path.{_≡_};
+ghost use mathlib.Core.List.{_++_};
 ghost use Prim.Native.Nat.{_≤_};
-ghost use lib.ListN.{length};
+ghost use lib.ListN.{length, take};
 ghost use Rattle.track.specs.Track.{Held};
+ghost use Rattle.flight.specs.Flight.{lineCode};
+ghost use Rattle.record.specs.Recorded.{Took, Goes, Landed, Came};
 use console::Setting;
 use libc::STDIN_FILENO;
 use track::Added;
@@ -18,7 +21,7 @@ struct Flight {
 
 // A flight after one more line.
 fn after_line(count: usize, lines: u64, stop: u64) -> Flight
-    ensures { λ r. ⌜ (r .count ≡ count) × (r .at ≡ 0) ⌝ }
+    ensures { λ r. ⌜ (r .count ≡ count) × (r .at ≡ 0) × (r .stop ≡ stop) ⌝ }
 {
     Flight {
         count,
@@ -40,6 +43,7 @@ fn fly_line(
     requires { ⌜ Held (now codes) (flight .count) ⌝ }
     ensures { λ r. ⌜ Held (now (codes .exit)) (r .count) ⌝ }
     ensures { λ r. ⌜ r .at ≡ 0 ⌝ }
+    ensures { λ r. ⌜ Took (lineCode n s resolution (now (line .entry))) (now (codes .entry)) (now (codes .exit)) flight r ⌝ }
 {
     let count = flight.count;
     let stop = flight.stop;
@@ -67,9 +71,10 @@ fn fly_rest(
     flight: Flight,
 ) -> Flight
     requires { ⌜ Held (now codes) (flight .count) ⌝ }
-    requires { ⌜ flight .at ≤ length (now line) ⌝ }
+    requires { ⌜ (flight .at ≤ length (now line)) × (43 ≤ length (now line)) ⌝ }
     ensures { λ r. ⌜ Held (now (codes .exit)) (r .count) ⌝ }
     ensures { λ r. ⌜ r .at ≡ 0 ⌝ }
+    ensures { λ r. ⌜ Took (lineCode n s resolution (take (flight .at) (now (line .entry)) ++ now (rest .entry))) (now (codes .entry)) (now (codes .exit)) flight r ⌝ }
 {
     if flight.at == 0 {
         return fly_line(n, s, resolution, rest, codes, flight);
@@ -89,9 +94,10 @@ fn fly_bytes(
     before: Flight,
 ) -> Flight
     requires { ⌜ Held (now codes) (before .count) ⌝ }
-    requires { ⌜ before .at ≤ length (now line) ⌝ }
+    requires { ⌜ (before .at ≤ length (now line)) × (43 ≤ length (now line)) ⌝ }
     ensures { λ r. ⌜ Held (now (codes .exit)) (r .count) ⌝ }
     ensures { λ r. ⌜ r .at ≤ length (now (line .exit)) ⌝ }
+    ensures { λ r. ⌜ Goes n s resolution (now (bytes .entry)) (now (line .entry)) (now (codes .entry)) before (now (line .exit)) (now (codes .exit)) r ⌝ }
 {
     let mut flight = before;
     let mut i: usize = 0;
@@ -121,8 +127,10 @@ fn fly_all(
     line: &mut [u8],
     codes: &mut [u64],
 ) -> Flight
+    requires { ⌜ 43 ≤ length (now line) ⌝ }
     ensures { λ r. ⌜ Held (now (codes .exit)) (r .count) ⌝ }
     ensures { λ r. ⌜ r .at ≤ length (now (line .exit)) ⌝ }
+    ensures { λ r. ⌜ Came n s resolution (now (line .exit)) (now (codes .exit)) r ⌝ }
 {
     let mut flight = Flight {
         count: 0,
@@ -175,8 +183,9 @@ fn fly_last(
     flight: Flight,
 ) -> Flight
     requires { ⌜ Held (now codes) (flight .count) ⌝ }
-    requires { ⌜ flight .at ≤ length (now line) ⌝ }
+    requires { ⌜ (flight .at ≤ length (now line)) × (43 ≤ length (now line)) ⌝ }
     ensures { λ r. ⌜ Held (now (codes .exit)) (r .count) ⌝ }
+    ensures { λ r. ⌜ Landed n s resolution (now (line .entry)) (now (codes .entry)) flight (now (codes .exit)) r ⌝ }
 {
     let at = flight.at;
     if at == 0 {

@@ -7,6 +7,7 @@ use Prim.Native.Nat.{ℕ, suc, _+_, _-_, _*_, _^_, _≤_, _<_}
 use native.Mathlib.Omega.{arith}
 use lib.ListN.{length, drop, length-append}
 use lib.Seq.{sets, sets-eq}
+use Rattle.logic.specs.Stores.{sets-append}
 use Rattle.logic.specs.Order.{lt-or, three-ways}
 use Rattle.ternary.specs.Digits.{value}
 use Rattle.cell.specs.declared.Cell.{Cell}
@@ -30,7 +31,6 @@ use Rattle.writing.specs.ListLaws.{GoodList, InTurn, good-list, in-turn,
 use Rattle.writing.specs.Take.{restsOf, Since, Each, Standing}
 use Rattle.writing.specs.Measure.{namesFrom, ListAt, ListTakes}
 use Rattle.writing.specs.Put.{Wrote, ListWrote}
-use Rattle.writing.specs.PutLaws.{sets-append}
 
 -- ---- cells in turn have names in turn
 

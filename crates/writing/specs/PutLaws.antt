@@ -9,6 +9,7 @@ use lib.Dec.{eqb}
 use lib.ListN.{length, set, drop, getD, length-append}
 use lib.Seq.{sets, drop-cons}
 use Rattle.logic.specs.Bools.{by-cond}
+use Rattle.logic.specs.Stores.{sets-append}
 use Rattle.reading.specs.declared.Level.{Level}
 use Rattle.reading.specs.declared.Level.the-variants.{Digits}
 use Rattle.reading.specs.Reading.{Nodes, end, whole, listed, first, render, wholes}
@@ -24,12 +25,6 @@ use Rattle.writing.specs.MeasureLaws.{names-at, node-exact, node-list}
 use Rattle.writing.specs.Put.{Wrote, NodeWrote, ListWrote}
 
 -- ---- bytes stored from a place on
-
-pub sets-append : (text : List ℕ) (place : ℕ) (a b : List ℕ) → sets text place (a ++ b) ≡ sets (sets text place a) (place + length a) b
-sets-append text place [] b = let e : place + 0 ≡ place = omega arith in rw e refl
-sets-append text place (x ∷ a) b =
-    let e : suc place + length a ≡ place + suc (length a) = omega arith in
-    sets-append (set text place x) (suc place) a b ∙ rw e refl
 
 pub wrote-join :
     {place : ℕ} {a b text mid later : List ℕ} {between ends : ℕ} → Wrote place a text mid between → Wrote between b mid later ends → Wrote place (a ++ b) text later ends

@@ -1,22 +1,31 @@
--- `fly_bytes` meets its contract: each line keeps what is held. Assumes nothing.
-use mathlib.Core.Path.{_≡_}
-use Prim.Native.Nat.{_-_, _≤_}
+-- `fly_bytes` meets its contract: what is recorded is that of the bytes up to the place i. Assumes nothing.
+use mathlib.Core.Path.{_≡_, refl, sym, ap₂, _∙_}
+use mathlib.Core.List.{List}
+use Prim.Native.Nat.{ℕ, _-_, _≤_}
 use native.Mathlib.Omega.{arith}
-use lib.ListN.{length}
+use lib.ListN.{length, take, drop, take-append-drop}
+use lib.Seq.{take-all}
+use Rattle.console.specs.LineLaws.{put-first}
 use Rattle.track.specs.Track.{Held}
+use Rattle.record.specs.Recorded.{Goes}
+use Rattle.record.proofs.Laws.{goes-none, goes-as, goes-line, goes-open, line-unended, line-part, last-unended, last-part}
 use borrow.Author.Needs.{needs}
 use Rattle.record.proofs.fly_bytes.Statement.{statement}
 use Rattle.record.proofs.fly_bytes.Tie as tie
 
 abbrev Inv-loop : tie.InvT-loop
 Inv-loop n s resolution bytes line₀ codes₀ flight₀ i₀ line codes flight i =
-    Held codes (flight .count) × (flight .at ≤ length line) × (length line ≡ length line₀) × (length codes ≡ length codes₀)
+    Held codes (flight .count) × (flight .at ≤ length line) × (length line ≡ length line₀) × (length codes ≡ length codes₀) × (i ≤ length bytes)
+    × Goes n s resolution (take i bytes) line₀ codes₀ flight₀ line codes flight
 
 abbrev μ-loop : tie.MeasureT-loop
 μ-loop n s resolution bytes line₀ codes₀ flight₀ i₀ line codes flight i = length bytes - i
 
 loop-holds : tie.Need-loop-holds Inv-loop μ-loop
-loop-holds c = search needs
+loop-holds c =
+    let start = c .before .before .before in
+    let a = start .args in
+    (start .pre .0, start .pre .1 .0, refl, refl, omega arith, goes-none (a .n) (a .s) (a .resolution))
 
 find-requires : tie.Need-find-requires Inv-loop μ-loop
 find-requires c κs = search needs
@@ -40,7 +49,17 @@ same-length-2 : tie.Need-same-length-2 Inv-loop μ-loop
 same-length-2 c = search needs
 
 returns : tie.Need-returns Inv-loop μ-loop
-returns c = search needs
+returns c =
+    let a = c .before .before .before .before .before .before .before .before .before .before .before .before .args in
+    let l = c .before .before .before .before .before .before .before .before .loop in
+    let find = c .before .before .before .before .before .before .find in
+    let put = c .before .before .put-bytes .ensures in
+    let bytes = a .bytes .now in
+    let seg = take (length bytes - l .i) (drop (l .i) bytes) in
+    let un = last-unended bytes (l .i) (l .inv .4) (find .ensures .0) (c .before .before .before .before .before .if1 .taken) in
+    let cut = last-part bytes (l .i) (l .inv .4) (find .ensures .0) in
+    let line = ap₂ (λ (j : ℕ) (x : List ℕ). take j x) (put .0) (put .1 .0) ∙ put-first (l .line) seg (l .flight .at) (l .inv .1) in
+    (l .inv .0, (put .1 .1 .0, goes-open (a .n) (a .s) (a .resolution) (l .inv .5) seg un cut refl refl (put .1 .1 .1) line))
 
 sub-fly-rest : tie.Need-sub-fly-rest Inv-loop μ-loop
 sub-fly-rest c = search needs
@@ -61,7 +80,18 @@ loop-less : tie.Need-loop-less Inv-loop μ-loop
 loop-less c = search needs
 
 loop-again : tie.Need-loop-again Inv-loop μ-loop
-loop-again c = search needs
+loop-again c =
+    let a = c .before .before .before .before .before .before .before .before .before .before .before .before .before .before .before .args in
+    let start = c .before .before .before .before .before .before .before .before .before .before .before .before .before .before .before in
+    let l = c .before .before .before .before .before .before .before .before .before .before .before .loop in
+    let find = c .before .before .before .before .before .before .before .before .before .find in
+    let rest = c .before .before .before .before .fly-rest .ensures in
+    let bytes = a .bytes .now in
+    let seg = take (find .result - l .i) (drop (l .i) bytes) in
+    let un = line-unended bytes (l .i) (l .inv .4) (find .ensures .0) in
+    let cut = line-part bytes (l .i) (l .inv .4) (find .ensures .0) (omega arith) in
+    let room : 43 ≤ length (l .line) = omega (arith, start .pre .1 .1, l .inv .2) in
+    (rest .0, search needs, search needs, search needs, omega arith, goes-line (a .n) (a .s) (a .resolution) (l .inv .5) seg un cut room (rest .1 .1) (rest .1 .0))
 
 same-length-3 : tie.Need-same-length-3 Inv-loop μ-loop
 same-length-3 c = search needs
@@ -70,7 +100,11 @@ same-length-4 : tie.Need-same-length-4 Inv-loop μ-loop
 same-length-4 c = search needs
 
 returns-2 : tie.Need-returns-2 Inv-loop μ-loop
-returns-2 c = search needs
+returns-2 c =
+    let a = c .before .before .before .before .before .args in
+    let l = c .before .loop in
+    let e : take (l .i) (a .bytes .now) ≡ a .bytes .now = take-all (l .i) (a .bytes .now) (omega arith) in
+    (l .inv .0, (l .inv .1, goes-as (a .n) (a .s) (a .resolution) e (l .inv .5)))
 
 pub fly-bytes-spec : {M : Type 1} → statement M
 fly-bytes-spec =

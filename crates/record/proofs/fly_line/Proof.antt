@@ -1,10 +1,12 @@
 -- `fly_line` meets its contract: `fly` keeps what is held, whichever way it answers. Assumes nothing.
 use mathlib.Core.Path.{_≡_, sym, subst}
+use mathlib.Core.Logic.{inl, inr}
 use mathlib.Core.List.{List}
 use Prim.Native.Nat.{ℕ}
 use Rattle.track.specs.declared.Added.{Added}
 use Rattle.track.specs.Track.{Held, heldAfter}
 use borrow.Author.Needs.{needs}
+use Rattle.record.proofs.Laws.{counted-took, refused-took}
 use Rattle.record.proofs.fly_line.Statement.{statement}
 use Rattle.record.proofs.fly_line.Tie as tie
 
@@ -34,7 +36,11 @@ same-length : tie.Need-same-length
 same-length c = search needs
 
 returns : tie.Need-returns
-returns c = (held-as _ (c .before .before .before .before .before .before .before .before .before .before .before .before .args .flight .count) (c .before .before .before .refusal .given .1) (c .after-line2 .ensures .0) (c .before .before .before .before .before .before .before .fly .ensures .1 .1), c .after-line2 .ensures .1)
+returns c =
+    let start = c .before .before .before .before .before .before .before .before .before .before .before .before in
+    let f = c .before .before .before .before .before .before .before .fly .ensures in
+    let l = c .after-line2 .ensures in
+    (held-as _ (start .args .flight .count) (c .before .before .before .refusal .given .1) (l .0) (f .1 .1), (l .1, record { is = inl (l .2) }))
 
 slice-aggregate-say-line : tie.Need-slice-aggregate-say-line
 slice-aggregate-say-line c = search needs
@@ -49,13 +55,25 @@ same-length-2 : tie.Need-same-length-2
 same-length-2 c = search needs
 
 returns-2 : tie.Need-returns-2
-returns-2 c = (held-as _ (c .before .before .before .before .before .before .before .before .before .before .before .args .flight .count) (c .before .before .held .given .1) (c .after-line .ensures .0) (c .before .before .before .before .before .before .fly .ensures .1 .1), c .after-line .ensures .1)
+returns-2 c =
+    let start = c .before .before .before .before .before .before .before .before .before .before .before in
+    let f = c .before .before .before .before .before .before .fly .ensures in
+    let l = c .after-line .ensures in
+    let h = c .before .before .held .given .1 in
+    let took = counted-took _ (start .args .codes .now) (start .args .flight .count) (f .0) (f .1 .0) h (l .0) in
+    (held-as _ (start .args .flight .count) h (l .0) (f .1 .1), (l .1, record { is = inr (l .2, took) }))
 
 same-length-3 : tie.Need-same-length-3
 same-length-3 c = search needs
 
 returns-3 : tie.Need-returns-3
-returns-3 c = (held-as _ (c .before .before .before .before .before .before .before .before .before .before .before .before .before .before .args .flight .count) (c .before .before .before .before .before .refusal .given .1) (c .after-line3 .ensures .0) (c .before .before .before .before .before .before .before .before .before .fly .ensures .1 .1), c .after-line3 .ensures .1)
+returns-3 c =
+    let start = c .before .before .before .before .before .before .before .before .before .before .before .before .before .before in
+    let f = c .before .before .before .before .before .before .before .before .before .fly .ensures in
+    let l = c .after-line3 .ensures in
+    let h = c .before .before .before .before .before .refusal .given .1 in
+    let took = refused-took _ (start .args .codes .now) (start .args .flight .count) (f .0) (f .1 .0) h (c .before .before .before .if1 .left) (l .0) in
+    (held-as _ (start .args .flight .count) h (l .0) (f .1 .1), (l .1, record { is = inr (l .2, took) }))
 
 pub fly-line-spec : {M : Type 1} → statement M
 fly-line-spec =

@@ -1,6 +1,13 @@
--- `fly_rest` meets its contract: the line at hand lies within its buffer. Assumes nothing.
-use mathlib.Core.Path.{sym}
+-- `fly_rest` meets its contract: what is cut off a line in its room is cut off one that is no fix. Assumes nothing.
+use mathlib.Core.Path.{_≡_, sym, ap, ap₂, _∙_}
+use mathlib.Core.List.{List, _++_}
+use Prim.Native.Nat.{ℕ}
+use lib.ListN.{take}
 use lib.Seq.{length-take-le}
+use Rattle.console.specs.LineLaws.{put-first}
+use Rattle.flight.specs.Flight.{lineCode}
+use Rattle.flight.specs.LinesLaws.{cut-whole}
+use Rattle.record.proofs.Laws.{took-as}
 use borrow.Author.Needs.{needs}
 use Rattle.record.proofs.fly_rest.Statement.{statement}
 use Rattle.record.proofs.fly_rest.Tie as tie
@@ -12,7 +19,11 @@ same-length : tie.Need-same-length
 same-length c = search needs
 
 returns : tie.Need-returns
-returns c = search needs
+returns c =
+    let a = c .before .before .before .before .before .before .before .before .before .args in
+    let q = c .before .before .fly-line .ensures in
+    let e : _≡_ {A = List ℕ} (a .rest .now) (take (a .flight .at) (a .line .now) ++ a .rest .now) = ap (λ (i : ℕ). take i (a .line .now) ++ a .rest .now) (sym (c .before .before .before .before .if1 .taken)) in
+    (q .0, (q .1 .0, took-as (ap (lineCode (a .n) (a .s) (a .resolution)) e) (q .1 .1)))
 
 put-bytes-requires : tie.Need-put-bytes-requires
 put-bytes-requires c κs = search needs
@@ -33,7 +44,14 @@ same-length-3 : tie.Need-same-length-3
 same-length-3 c = search needs
 
 returns-2 : tie.Need-returns-2
-returns-2 c = search needs
+returns-2 c =
+    let start = c .before .before .before .before .before .before .before .before .before .before .before .before .before .before in
+    let a = start .args in
+    let put = c .before .before .before .before .before .before .before .put-bytes .ensures in
+    let q = c .before .before .fly-line2 .ensures in
+    let e = ap₂ (λ (i : ℕ) (l : List ℕ). take i l) (put .0) (put .1 .0) ∙ put-first (a .line .now) (a .rest .now) (a .flight .at) (start .pre .1 .0) in
+    let same = ap (lineCode (a .n) (a .s) (a .resolution)) e ∙ cut-whole (a .n) (a .s) (a .resolution) _ (take (a .flight .at) (a .line .now) ++ a .rest .now) (start .pre .1 .1) in
+    (q .0, (q .1 .0, took-as same (q .1 .1)))
 
 pub fly-rest-spec : {M : Type 1} → statement M
 fly-rest-spec =
