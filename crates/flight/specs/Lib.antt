@@ -1,3 +1,5 @@
+pub mod Answer
+pub mod AnswerLaws
 pub mod Flight
 pub mod FlightLaws
 pub mod Lines

@@ -2,7 +2,8 @@
 ghost use mathlib.Core.Path.{_≡_};
 ghost use Prim.Native.Nat.{_+_, _≤_};
 ghost use lib.ListN.{length};
-use code::Coded;
+ghost use Rattle.flight.specs.Answer.{putAt};
+ghost use Rattle.name_fixes.specs.Line.{answerLine};
 use console::Setting;
 use libc::STDIN_FILENO;
 
@@ -13,26 +14,14 @@ struct Progress {
     well: bool,
 }
 
-// Puts the name of a line's cell, or the refusal number, into `out` from `at` on: where it ends.
-fn put_name(n: u64, s: u64, resolution: u64, line: &[u8], out: &mut [u8], at: usize) -> usize
-    requires { ⌜ at + 64 ≤ length (now out) ⌝ }
-    ensures { λ r. ⌜ r + 44 ≤ length (now (out .exit)) ⌝ }
-{
-    match flight::line_code(n, s, resolution, line) {
-        Coded::Code(code) => {
-            let named = jeguarivo::jgv_code_name(code, &mut out[at..]);
-            at + console::within(named.length, 16)
-        }
-        Coded::Refused(refusal) => decimal::put_whole(refusal, out, at),
-    }
-}
-
-// The same with a line end after it.
+// Puts what is answered to a line, and a line end, into `out` from `at` on: where they end.
 fn put_line(n: u64, s: u64, resolution: u64, line: &[u8], out: &mut [u8], at: usize) -> usize
     requires { ⌜ at + 64 ≤ length (now out) ⌝ }
+    ensures { λ r. ⌜ r ≡ at + length (answerLine n s resolution (now (line .entry))) ⌝ }
+    ensures { λ r. ⌜ now (out .exit) ≡ putAt at (answerLine n s resolution (now (line .entry))) (now (out .entry)) ⌝ }
     ensures { λ r. ⌜ r + 43 ≤ length (now (out .exit)) ⌝ }
 {
-    let end = put_name(n, s, resolution, line, out, at);
+    let end = flight::put_answer(n, s, resolution, line, out, at);
     out[end] = 10;
     end + 1
 }
