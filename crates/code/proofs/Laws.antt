@@ -1,16 +1,20 @@
--- What the functions answer where something is refused, and where nothing is. Assumes nothing.
+-- What the functions answer where something is refused, and where nothing is; a path of sixteen digits. Assumes nothing.
 use mathlib.Core.Path.{_≡_, refl, sym, ap, ap₂, _∙_}
 use mathlib.Core.Bool.{Bool, true, false, _&&_}
-use Prim.Native.Nat.{ℕ, zero, suc, _-_, _*_, _/_, _%_, _^_, _≤_, _<_}
+use Prim.Native.Nat.{ℕ, zero, suc, _+_, _-_, _*_, _/_, _%_, _^_, _≤_, _<_}
 use native.Mathlib.Nat.{div-add-mod', dvd-mul-right, mod-mod-of-dvd}
 use native.Mathlib.Omega.{arith}
 use lib.Dec.{eqb, ltb}
 use borrow.Author.Tests.{lt-ltb, le-ltb, eq-eqb, ne-eqb}
-use Rattle.ternary.specs.Powers.{nine-split}
+use Rattle.ternary.specs.Powers.{power-le, nine-le, nine-split}
+use Rattle.ternary.specs.Weave.{weave, rowIn, columnIn}
+use Rattle.ternary.specs.WeaveLaws.{weave-more, row-more, column-more}
+use Rattle.cell.specs.declared.Cell.{Cell}
+use Rattle.cell.specs.Cell.{IsCell}
 use Rattle.code.specs.declared.Coded.the-variants.{Code, Refused}
 use Rattle.code.specs.declared.Split.the-variants as split-as
-use Rattle.code.specs.Code.{coded, split, isCode, codeRefusal, pathIn}
-use Rattle.code.specs.CodeLaws.{code-passes, code-stops}
+use Rattle.code.specs.Code.{coded, split, isCode, codeRefusal, pathOf, pathIn}
+use Rattle.code.specs.CodeLaws.{path-weave, path-in-small, code-passes, code-stops}
 
 refusal : (r code : ℕ) → (r ≡ 0 → ⊥) → Refused r ≡ coded r code
 unfolding coded
@@ -29,6 +33,44 @@ answered {code = code} e z h = ap Code h ∙ ap (λ (x : ℕ). coded x code) (sy
 -- a face has a whole number of cells of each size, so the face need not be taken off
 pub rest-cut : (n j : ℕ) → j ≤ 15 → n % 9 ^ 15 % 9 ^ j ≡ n % 9 ^ j
 rest-cut n j h = ap (λ (x : ℕ). n % x % 9 ^ j) (sym (nine-split j h)) ∙ mod-mod-of-dvd (9 ^ j) n (dvd-mul-right (9 ^ j) (9 ^ (15 - j)))
+
+-- ---- sixteen digits, of which the first are zeros
+
+sixteen : (k : ℕ) → k ≤ 15 → 16 ≡ k + (16 - k)
+sixteen k h = omega arith
+
+module _ (c : Cell) (v : IsCell c) where
+  row-below : c .row < 43046721
+  row-below = let p : 3 ^ c .resolution ≤ 14348907 = power-le {i = c .resolution} {j = 15} (v .fine) in omega (arith, v .rowed)
+
+  column-below : c .column < 43046721
+  column-below = let p : 3 ^ c .resolution ≤ 14348907 = power-le {i = c .resolution} {j = 15} (v .fine) in omega (arith, v .columned)
+
+  pub both-below : (c .row < 43046721) × (c .column < 43046721)
+  both-below = (row-below, column-below)
+
+  pub path-sixteen : weave 16 (c .row) (c .column) ≡ pathOf c
+  path-sixteen =
+      ap (λ (x : ℕ). weave x (c .row) (c .column)) (sixteen (c .resolution) (v .fine))
+      ∙ weave-more (c .resolution) (16 - c .resolution) (c .row) (c .column) (v .rowed) (v .columned) ∙ sym (path-weave c)
+
+module _ (code : ℕ) (t : isCode code ≡ true) where
+  fine : code % 16 ≤ 15
+  fine = omega arith
+
+  sum : 16 ≡ 16 - code % 16 + code % 16
+  sum = omega arith
+
+  pub path-below : pathIn code < 1853020188851841
+  path-below = let p : 9 ^ (code % 16) ≤ 205891132094649 = nine-le {i = code % 16} {j = 15} fine in omega (arith, path-in-small code t)
+
+  pub row-sixteen : rowIn 16 (pathIn code) ≡ rowIn (code % 16) (pathIn code)
+  row-sixteen = ap (λ (x : ℕ). rowIn x (pathIn code)) sum ∙ row-more (code % 16) (16 - code % 16) (pathIn code) (path-in-small code t)
+
+  pub column-sixteen : columnIn 16 (pathIn code) ≡ columnIn (code % 16) (pathIn code)
+  column-sixteen = ap (λ (x : ℕ). columnIn x (pathIn code)) sum ∙ column-more (code % 16) (16 - code % 16) (pathIn code) (path-in-small code t)
+
+-- ---- what is answered
 
 -- 4 where a number is no code
 pub no-code : (code : ℕ) → isCode code ≡ false → split-as.Refused 4 ≡ split (codeRefusal code) code

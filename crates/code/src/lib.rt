@@ -39,7 +39,7 @@ pub fn code_of(cell: Cell) -> u64
     requires { ⌜ IsCell cell ⌝ }
     ensures { λ r. ⌜ r ≡ codeOf cell ⌝ }
 {
-    let path = ternary::path(cell.resolution, cell.row, cell.column);
+    let path = ternary::path(cell.row, cell.column);
     code_at(cell.face, cell.resolution, path)
 }
 
@@ -112,7 +112,7 @@ pub fn cell_of(code: u64) -> Found
     else {
         return Found::Refused(4);
     };
-    let place = ternary::unwoven(resolution, path);
+    let place = ternary::unwoven(path);
     Found::At(Cell {
         face,
         resolution,

@@ -1,7 +1,7 @@
 -- Weaving and taking apart are inverse to each other. Assumes nothing.
 use mathlib.Core.Path.{_≡_, refl, sym, ap, ap₂, _∙_}
 use Prim.Native.Nat.{ℕ, zero, suc, _+_, _-_, _*_, _/_, _%_, _^_, _≤_, _<_}
-use native.Mathlib.Nat.{pow-suc, div-one, div-add-mod', div-div-eq-div-mul, mul-assoc, mul-comm}
+use native.Mathlib.Nat.{pow-suc, div-one, div-eq-of-lt, div-add-mod', div-div-eq-div-mul, mul-assoc, mul-comm}
 use native.Mathlib.Omega.{arith}
 use Rattle.ternary.specs.Weave.{weave, rowIn, columnIn}
 
@@ -118,10 +118,6 @@ weave-before (suc r) q x =
 pub weave-last : (r x : ℕ) → weave r 0 (x % 3 ^ r) ≡ weave r 0 x
 weave-last r x = sym (weave-before r (x / 3 ^ r) (x % 3 ^ r)) ∙ ap (weave r 0) (div-add-mod' x (3 ^ r))
 
-pub weave-both-last : (r i j : ℕ) → weave r (i % 3 ^ r) (j % 3 ^ r) ≡ weave r i j
-weave-both-last r i j =
-    weave-apart r (i % 3 ^ r) (j % 3 ^ r) ∙ ap₂ (λ (x y : ℕ). 3 * x + y) (weave-last r i) (weave-last r j) ∙ sym (weave-apart r i j)
-
 -- zeros before the digits change nothing
 weave-zeros : (r : ℕ) → weave r 0 0 ≡ 0
 unfolding weave
@@ -166,6 +162,27 @@ column-split k (suc r) p =
     let h : columnIn (k + r) (p / 9) ≡ w * 3 ^ r + columnIn r (p / 9) = column-split k r (p / 9) in
     let m : columnIn k (p / 9 ^ suc r) * 3 ^ suc r ≡ w * 3 ^ r * 3 = ap₂ _*_ (ap (columnIn k) (further 9 r p)) (pow-suc 3 r) ∙ sym (mul-assoc w (3 ^ r) 3) in
     ap (λ (x : ℕ). columnIn x p) e ∙ omega arith
+
+-- zeros before the digits change nothing here either
+row-zeros : (r : ℕ) → rowIn r 0 ≡ 0
+unfolding rowIn
+row-zeros zero = refl
+row-zeros (suc r) = let h = row-zeros r in omega arith
+
+column-zeros : (r : ℕ) → columnIn r 0 ≡ 0
+unfolding columnIn
+column-zeros zero = refl
+column-zeros (suc r) = let h = column-zeros r in omega arith
+
+pub row-more : (k r p : ℕ) → p < 9 ^ k → rowIn (r + k) p ≡ rowIn k p
+row-more k r p h =
+    let z : rowIn r (p / 9 ^ k) ≡ 0 = ap (rowIn r) (div-eq-of-lt h) ∙ row-zeros r in
+    row-split r k p ∙ ap (λ (x : ℕ). x * 3 ^ k + rowIn k p) z ∙ omega arith
+
+pub column-more : (k r p : ℕ) → p < 9 ^ k → columnIn (r + k) p ≡ columnIn k p
+column-more k r p h =
+    let z : columnIn r (p / 9 ^ k) ≡ 0 = ap (columnIn r) (div-eq-of-lt h) ∙ column-zeros r in
+    column-split r k p ∙ ap (λ (x : ℕ). x * 3 ^ k + columnIn k p) z ∙ omega arith
 
 before-more : (b r q : ℕ) → q * b ^ suc r ≡ q * b ^ r * b
 before-more b r q = ap (λ (x : ℕ). q * x) (pow-suc b r) ∙ sym (mul-assoc q (b ^ r) b)

@@ -89,34 +89,14 @@ fn spread(x: u64) -> u64
     n + 6 * thirds + 54 * ninths + 486 * last_bits(n * 76 / 2_048)
 }
 
-// The path of sixteen ternary digits of a row and a column.
-fn long_path(row: u64, column: u64) -> u64
+// The path of sixteen ternary digits of a row and a column. Where there are fewer, zeros before them change nothing.
+pub fn path(row: u64, column: u64) -> u64
     requires { ⌜ (row < 43046721) × (column < 43046721) ⌝ }
     ensures { λ r. ⌜ r ≡ weave 16 row column ⌝ }
 {
     let n = 3 * spread(row) + spread(column);
     let high = n / 281_474_976_710_656 * 6_561 + n / 4_294_967_296 % 65_536;
     high * 43_046_721 + (n / 65_536 % 65_536 * 6_561 + n % 65_536)
-}
-
-// x modulo m. What callers give is mostly below m, and then nothing is divided.
-fn remainder(x: u64, m: u64) -> u64
-    requires { ⌜ 0 < m ⌝ }
-    ensures { λ r. ⌜ r ≡ x % m ⌝ }
-{
-    if x < m {
-        return x;
-    }
-    x % m
-}
-
-// The path of the last k ternary digits of a row and a column: zeros before them change nothing.
-pub fn path(k: u64, row: u64, column: u64) -> u64
-    requires { ⌜ k ≤ 15 ⌝ }
-    ensures { λ r. ⌜ r ≡ weave k row column ⌝ }
-{
-    let m = power(k);
-    long_path(remainder(row, m), remainder(column, m))
 }
 
 // A row and a column.
@@ -149,14 +129,14 @@ fn sixteen_digits(x: u64) -> u64
     eight_digits(x / 43_046_721) * 6_561 + eight_digits(x % 43_046_721)
 }
 
-// The row and the column of the last k digits of a path: the last k digits of those of sixteen.
-pub fn unwoven(k: u64, path: u64) -> Pair
-    requires { ⌜ k ≤ 15 ⌝ }
-    ensures { λ r. ⌜ (r .row ≡ rowIn k path) × (r .column ≡ columnIn k path) ⌝ }
+// The row and the column of sixteen digits of a path. Where there are fewer, zeros before them change nothing.
+pub fn unwoven(path: u64) -> Pair
+    requires { ⌜ path < 1853020188851841 ⌝ }
+    ensures { λ r. ⌜ (r .row ≡ rowIn 16 path) × (r .column ≡ columnIn 16 path) ⌝ }
 {
-    let both = sixteen_digits(path % 1_853_020_188_851_841);
-    let m = power(k);
-    let row = remainder(both % 4_294_967_296, m);
-    let column = remainder(both / 4_294_967_296, m);
-    Pair { row, column }
+    let both = sixteen_digits(path);
+    Pair {
+        row: both % 4_294_967_296,
+        column: both / 4_294_967_296,
+    }
 }

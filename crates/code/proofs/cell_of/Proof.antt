@@ -1,13 +1,14 @@
 -- `code::cell_of` meets its contract. Assumes nothing.
-use mathlib.Core.Path.{sym, ap, ap₂, _∙_}
+use mathlib.Core.Path.{sym, ap, _∙_}
 use Prim.Native.Nat.{ℕ}
-use native.Mathlib.Omega.{arith}
 use borrow.Author.Needs.{needs}
 use Rattle.ternary.specs.Weave.{rowIn, columnIn}
 use Rattle.cell.specs.declared.Found.the-variants.{At}
 use Rattle.cell.specs.Cell.{found}
 use Rattle.code.specs.Code.{cellOf}
+use Rattle.code.specs.CodeLaws.{a-code}
 use Rattle.code.specs.DecodedLaws.{parted, unparted}
+use Rattle.code.proofs.Laws.{path-below, row-sixteen, column-sixteen}
 use Rattle.code.proofs.cell_of.Statement.{statement}
 use Rattle.code.proofs.cell_of.Tie as tie
 
@@ -31,7 +32,7 @@ unwoven-requires : tie.Need-unwoven-requires
 unwoven-requires c κs =
     let n = c .before .before .before in
     let p = parted (n .before .args .code) (n .parts-of .ensures) (c .before .face .given .1) in
-    omega (arith, p .resolution, p .cell .fine)
+    rw (p .path) (path-below (n .before .args .code) (a-code (n .before .args .code) (p .allowed)))
 
 returns-2 : tie.Need-returns-2
 unfolding cellOf found
@@ -39,12 +40,13 @@ returns-2 c =
     let n = c .before .before .before .before in
     let a = n .before .args .code in
     let p = parted a (n .parts-of .ensures) (c .before .before .face .given .1) in
+    let t = a-code a (p .allowed) in
     ap At
     (λ i. record {
       face = p .face i;
       resolution = p .resolution i;
-      row = (c .unwoven .ensures .0 ∙ ap₂ rowIn (p .resolution) (p .path)) i;
-      column = (c .unwoven .ensures .1 ∙ ap₂ columnIn (p .resolution) (p .path)) i;
+      row = (c .unwoven .ensures .0 ∙ ap (rowIn 16) (p .path) ∙ row-sixteen a t) i;
+      column = (c .unwoven .ensures .1 ∙ ap (columnIn 16) (p .path) ∙ column-sixteen a t) i;
     })
     ∙ sym (ap (λ (x : ℕ). found x (cellOf a)) (p .allowed))
 

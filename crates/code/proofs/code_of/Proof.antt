@@ -1,25 +1,26 @@
 -- `code::code_of` meets its contract. Assumes nothing.
-use mathlib.Core.Path.{_≡_, sym, ap, _∙_}
+use mathlib.Core.Path.{_≡_, ap, _∙_}
 use borrow.Author.Needs.{needs}
-use Rattle.ternary.specs.WeaveLaws.{weave-small}
 use Rattle.code.specs.Code.{codeAt, codeOf}
-use Rattle.code.specs.CodeLaws.{path-weave, path-small}
+use Rattle.code.specs.CodeLaws.{path-small}
+use Rattle.code.proofs.Laws.{both-below, path-sixteen}
 use Rattle.code.proofs.code_of.Statement.{statement}
 use Rattle.code.proofs.code_of.Tie as tie
 
 path-requires : tie.Need-path-requires
-path-requires c κs = search needs
+path-requires c κs = both-below (c .args .cell) (c .pre)
 
 code-at-requires : tie.Need-code-at-requires
 code-at-requires c κs =
     let a = c .before .args .cell in
-    (c .before .pre .faced, c .before .pre .fine, rw (c .path .ensures) (weave-small (a .resolution) (a .row) (a .column)))
+    let v = c .before .pre in
+    (v .faced, v .fine, rw (c .path .ensures ∙ path-sixteen a v) (path-small a))
 
 returns : tie.Need-returns
 unfolding codeOf
 returns c =
     let a = c .before .before .args .cell in
-    c .code-at .ensures ∙ ap (codeAt (a .face) (a .resolution)) (c .before .path .ensures ∙ sym (path-weave a))
+    c .code-at .ensures ∙ ap (codeAt (a .face) (a .resolution)) (c .before .path .ensures ∙ path-sixteen a (c .before .before .pre))
 
 pub code-of-spec : {M : Type 1} → statement M
 code-of-spec = tie.close (tie.spec path-requires code-at-requires returns)

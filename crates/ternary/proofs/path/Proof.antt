@@ -1,50 +1,69 @@
--- `ternary::path` meets its contract: the last k digits, with zeros before them. Assumes nothing.
-use mathlib.Core.Path.{_≡_, ap, ap₂, _∙_}
-use Prim.Native.Nat.{ℕ, _+_, _-_, _%_, _^_, _≤_, _<_}
-use native.Mathlib.Nat.{mod-lt}
+-- `ternary::path` meets its contract. Assumes nothing.
+use mathlib.Core.Path.{_≡_, ap₂, _∙_}
+use Prim.Native.Nat.{ℕ, _+_, _*_, _/_, _%_}
 use native.Mathlib.Omega.{arith}
 use borrow.Author.Needs.{needs}
-use Rattle.ternary.specs.Powers.{power-pos, power-le}
+use Rattle.ternary.specs.Parts.{parts}
 use Rattle.ternary.specs.Weave.{weave}
-use Rattle.ternary.specs.WeaveLaws.{weave-more, weave-both-last}
-use Rattle.ternary.proofs.Kept.{kept}
+use Rattle.ternary.proofs.Parts.{both-parts, long, spread-small}
 use Rattle.ternary.proofs.path.Statement.{statement}
 use Rattle.ternary.proofs.path.Tie as tie
 
-kept-small : (k x : ℕ) {r : ℕ} → k ≤ 15 → r ≡ x % 3 ^ k → r < 43046721
-kept-small k x h e =
-    let p : x % 3 ^ k < 3 ^ k = mod-lt x (power-pos k) in
-    let q : 3 ^ k ≤ 3 ^ 15 = power-le {i = k} {j = 15} h in
+-- the row's digits and the column's together
+together : (c : tie.After-spread2) → let i = c .before .before .args .row in let j = c .before .before .args .column in 3 * c .before .spread .result + c .spread2 .result ≡ parts (weave 4 (i / 531441) (j / 531441)) (weave 4 (i / 6561) (j / 6561)) (weave 4 (i / 81) (j / 81)) (weave 4 i j)
+together c =
+    let a = c .before .before in
+    ap₂ (λ (x y : ℕ). 3 * x + y) (c .before .spread .ensures) (c .spread2 .ensures) ∙ both-parts (a .args .row) (a .args .column) (a .pre .0) (a .pre .1)
+
+spread-requires : tie.Need-spread-requires
+spread-requires c κs = search needs
+
+mul-n : tie.Need-mul-n
+mul-n c = let i = c .before .args .row in let h = spread-small (i / 531441) (i / 6561 % 81) (i / 81 % 81) (i % 81) (c .spread .ensures) in omega arith
+
+spread-requires-2 : tie.Need-spread-requires-2
+spread-requires-2 c κs = search needs
+
+add-n : tie.Need-add-n
+add-n c =
+    let a = c .before .before .args in
+    let h = spread-small (a .row / 531441) (a .row / 6561 % 81) (a .row / 81 % 81) (a .row % 81) (c .before .spread .ensures) in
+    let k = spread-small (a .column / 531441) (a .column / 6561 % 81) (a .column / 81 % 81) (a .column % 81) (c .spread2 .ensures) in
     omega arith
 
-power-requires : tie.Need-power-requires
-power-requires c κs = search needs
+mul-high : tie.Need-mul-high
+mul-high c = search needs
 
-remainder-requires : tie.Need-remainder-requires
-remainder-requires c κs = let e = c .power .ensures in let p = power-pos (c .before .args .k) in omega arith
+add-high : tie.Need-add-high
+add-high c = search needs
 
-remainder-requires-2 : tie.Need-remainder-requires-2
-remainder-requires-2 c κs = let e = c .before .power .ensures in let p = power-pos (c .before .before .args .k) in omega arith
+mul-result : tie.Need-mul-result
+mul-result c = search needs
 
-long-path-requires : tie.Need-long-path-requires
-long-path-requires c κs =
-    let u = c .before .before in
-    let a = u .before .args in
-    let e = u .power .ensures in
-    (kept-small (a .k) (a .row) (u .before .pre) (kept (a .k) (a .row) e (c .before .remainder .ensures)), kept-small (a .k) (a .column) (u .before .pre) (kept (a .k) (a .column) e (c .remainder2 .ensures)))
+mul-result-2 : tie.Need-mul-result-2
+mul-result-2 c = search needs
+
+add-result : tie.Need-add-result
+add-result c = search needs
+
+add-result-2 : tie.Need-add-result-2
+add-result-2 c = search needs
 
 returns : tie.Need-returns
-returns c =
-    let u = c .before .before .before in
-    let a = u .before .args in
-    let k = a .k in
-    let e = u .power .ensures in
-    let n : 16 ≡ k + (16 - k) = omega arith in
-    c .long-path .ensures
-    ∙ ap₂ (weave 16) (kept k (a .row) e (c .before .before .remainder .ensures)) (kept k (a .column) e (c .before .remainder2 .ensures))
-    ∙ ap (λ (x : ℕ). weave x (a .row % 3 ^ k) (a .column % 3 ^ k)) n
-    ∙ weave-more k (16 - k) (a .row % 3 ^ k) (a .column % 3 ^ k) (mod-lt (a .row) (power-pos k)) (mod-lt (a .column) (power-pos k))
-    ∙ weave-both-last k (a .row) (a .column)
+returns c = let a = c .before .before .args in long (3 * c .before .spread .result + c .spread2 .result) (a .row) (a .column) (together c)
 
 pub path-spec : {M : Type 1} → statement M
-path-spec = tie.close (tie.spec power-requires remainder-requires remainder-requires-2 long-path-requires returns)
+path-spec =
+    tie.close
+    (tie.spec
+    spread-requires
+    mul-n
+    spread-requires-2
+    add-n
+    mul-high
+    add-high
+    mul-result
+    mul-result-2
+    add-result
+    add-result-2
+    returns)
