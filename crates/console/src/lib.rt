@@ -7,6 +7,7 @@ ghost use lib.ListN.{length, set};
 ghost use lib.Seq.{sets};
 ghost use Rattle.io.specs.Counts.{Counts};
 ghost use Rattle.console.specs.Line.{atMost};
+ghost use Rattle.console.specs.Setting.{settingRefusal, Usable};
 use cell::Arrangement;
 use decimal::Whole;
 use libc::STDERR_FILENO;
@@ -97,7 +98,9 @@ pub fn whole_argument(i: usize) -> Whole {
 }
 
 // 5 or 2 where n, s and the resolution cannot be used.
-fn setting_refusal(n: u64, s: u64, resolution: u64) -> u64 {
+fn setting_refusal(n: u64, s: u64, resolution: u64) -> u64
+    ensures { λ r. ⌜ r ≡ settingRefusal n s resolution ⌝ }
+{
     let arrangement = Arrangement { north: n, south: s };
     let refusal = arrangement.refusal();
     if refusal != 0 {
@@ -106,8 +109,10 @@ fn setting_refusal(n: u64, s: u64, resolution: u64) -> u64 {
     if resolution > 15 { 2 } else { 0 }
 }
 
-// The arguments n, s and resolution, as many as there are to be.
-pub fn given_setting(program: &[u8]) -> Setting {
+// The arguments n, s and resolution, as many as there are to be. Where they cannot be used, standard error says why.
+pub fn given_setting(program: &[u8]) -> Setting
+    ensures { λ r. ⌜ Usable r ⌝ }
+{
     if os::arg_count() != 4 {
         return Setting::Wrong;
     }
