@@ -502,8 +502,7 @@ fn refusals() {
     assert_eq!(check(&long), Err(13.into()));
     assert_eq!(check(&long[1..]), Err(at(0)));
     let mut cut = Random::for_test("refusals").text_of_length(LONGEST - 1);
-    cut.extend(b"S(");
-    cut.truncate(LONGEST);
+    cut.push(b'('); // opens a list that does not end, or may not stand there
     assert!(check(&cut).is_err_and(|no| no.refusal == 9 && no.place >= LONGEST as u64 - 1));
 
     let (mut lent, mut bytes) = ([5; 3], [5; 14]);
