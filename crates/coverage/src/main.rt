@@ -1,7 +1,9 @@
 // coverage check FILE, coverage list FILE, coverage ask FILE NAME, coverage write n s: reads and writes coverage texts.
 ghost use mathlib.Core.Path.{_≡_};
+ghost use mathlib.Core.List.{_∷_, []};
 ghost use Prim.Native.Nat.{_+_, _≤_};
-ghost use lib.ListN.{length};
+ghost use lib.ListN.{length, take};
+ghost use Rattle.coverage.specs.Read.{Took, Goes, Ends, OfSome};
 use cell::Arrangement;
 use console::Got;
 use decimal::Whole;
@@ -192,7 +194,7 @@ fn ask_text(text: &[u8], name: &[u8]) {
 
 // Names that stopped before the end of the input.
 fn stopped(names: Names, refusal: u64) -> Names
-    ensures { λ r. ⌜ (r .count ≡ names .count) × (r .at ≡ 0) ⌝ }
+    ensures { λ r. ⌜ (r .count ≡ names .count) × (r .at ≡ 0) × (r .stop ≡ refusal) ⌝ }
 {
     Names {
         count: names.count,
@@ -207,6 +209,7 @@ fn take_line(line: &[u8], codes: &mut [u64], names: Names) -> Names
     requires { ⌜ names .count ≤ length (now codes) ⌝ }
     requires { ⌜ names .at ≤ length (now line) ⌝ }
     ensures { λ r. ⌜ (r .count ≤ length (now (codes .exit))) × (r .at ≡ 0) ⌝ }
+    ensures { λ r. ⌜ Took (take (names .at) (now (line .entry))) (now (codes .entry)) (now (codes .exit)) names r ⌝ }
 {
     let count = names.count;
     let at = names.at;
@@ -237,8 +240,9 @@ fn take_line(line: &[u8], codes: &mut [u64], names: Names) -> Names
 // One more byte of the input.
 fn take_byte(byte: u8, line: &mut [u8], codes: &mut [u64], names: Names) -> Names
     requires { ⌜ names .count ≤ length (now codes) ⌝ }
-    requires { ⌜ names .at ≤ length (now line) ⌝ }
+    requires { ⌜ (names .at ≤ length (now line)) × (18 ≤ length (now line)) ⌝ }
     ensures { λ r. ⌜ (r .count ≤ length (now (codes .exit))) × (r .at ≤ length (now (line .exit))) ⌝ }
+    ensures { λ r. ⌜ Goes (byte ∷ []) (now (line .entry)) (now (codes .entry)) names (now (line .exit)) (now (codes .exit)) r ⌝ }
 {
     if byte == 10 {
         return take_line(line, codes, names);
@@ -255,8 +259,9 @@ fn take_byte(byte: u8, line: &mut [u8], codes: &mut [u64], names: Names) -> Name
 // The next bytes of the input.
 fn take_bytes(bytes: &[u8], line: &mut [u8], codes: &mut [u64], before: Names) -> Names
     requires { ⌜ before .count ≤ length (now codes) ⌝ }
-    requires { ⌜ before .at ≤ length (now line) ⌝ }
+    requires { ⌜ (before .at ≤ length (now line)) × (18 ≤ length (now line)) ⌝ }
     ensures { λ r. ⌜ (r .count ≤ length (now (codes .exit))) × (r .at ≤ length (now (line .exit))) ⌝ }
+    ensures { λ r. ⌜ Goes (now (bytes .entry)) (now (line .entry)) (now (codes .entry)) before (now (line .exit)) (now (codes .exit)) r ⌝ }
 {
     let mut names = before;
     let mut i: usize = 0;
@@ -269,7 +274,9 @@ fn take_bytes(bytes: &[u8], line: &mut [u8], codes: &mut [u64], before: Names) -
 
 // The names as far as they go. A loop has to end, and nothing says that an input does: no input takes so many turns.
 fn take_all(bytes: &mut [u8], line: &mut [u8], codes: &mut [u64]) -> Names
+    requires { ⌜ 18 ≤ length (now line) ⌝ }
     ensures { λ r. ⌜ (r .count ≤ length (now (codes .exit))) × (r .at ≤ length (now (line .exit))) ⌝ }
+    ensures { λ r. ⌜ OfSome (now (line .exit)) (now (codes .exit)) r ⌝ }
 {
     let mut names = Names {
         count: 0,
@@ -297,8 +304,9 @@ fn take_all(bytes: &mut [u8], line: &mut [u8], codes: &mut [u64]) -> Names
 // The last line may have no end.
 fn take_rest(line: &[u8], codes: &mut [u64], names: Names) -> Names
     requires { ⌜ names .count ≤ length (now codes) ⌝ }
-    requires { ⌜ names .at ≤ length (now line) ⌝ }
+    requires { ⌜ (names .at ≤ length (now line)) × (18 ≤ length (now line)) ⌝ }
     ensures { λ r. ⌜ r .count ≤ length (now (codes .exit)) ⌝ }
+    ensures { λ r. ⌜ Ends (now (line .entry)) (now (codes .entry)) names (now (codes .exit)) r ⌝ }
 {
     if names.at == 0 {
         return names;

@@ -6,7 +6,7 @@ use mathlib.Core.List.{List, [], _∷_}
 use Prim.Native.Nat.{ℕ, suc, _+_, _≤_, _<_}
 use native.Mathlib.Omega.{arith}
 use lib.Dec.{eqb, leb}
-use lib.ListN.{length}
+use lib.ListN.{length, take}
 use borrow.Author.Tests.{lt-leb}
 use Rattle.logic.specs.Bools.{by-cond}
 use Rattle.logic.specs.Order.{lt-or}
@@ -42,10 +42,20 @@ parts-length stop (b ∷ bs) = go (eqb b stop) (parts-length stop bs)
     go true h = omega arith
     go false h = omega arith
 
-trimmed-length : (bs : List ℕ) → length bs ≤ length (trimmed bs) + 1
+pub trimmed-length : (bs : List ℕ) → length bs ≤ length (trimmed bs) + 1
 trimmed-length [] = omega arith
 trimmed-length (b ∷ []) = by-cond (λ (l : List ℕ). 1 ≤ length l + 1) (eqb b 13) (λ _. omega arith) (λ _. omega arith)
 trimmed-length (b ∷ c ∷ bs) = omega (arith, trimmed-length (c ∷ bs))
+
+-- and what is left is the first bytes
+pub trimmed-take : (bs : List ℕ) → take (length (trimmed bs)) bs ≡ trimmed bs
+trimmed-take [] = refl
+trimmed-take (b ∷ []) = go (eqb b 13)
+  where
+    go : (t : Bool) → take (length (cond t [] (b ∷ []))) (b ∷ []) ≡ cond t [] (b ∷ [])
+    go true = refl
+    go false = refl
+trimmed-take (b ∷ c ∷ bs) = ap (λ (l : List ℕ). b ∷ l) (trimmed-take (c ∷ bs))
 
 second-not : (a : Number) → fixOf a Numbers.Not ≡ Lines.Not
 unfolding fixOf

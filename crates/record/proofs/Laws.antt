@@ -7,9 +7,9 @@ use Prim.Native.Nat.{ℕ, zero, suc, _+_, _-_, _≤_, _<_}
 use native.Mathlib.Omega.{arith}
 use lib.Dec.{eqb}
 use lib.ListN.{length, take, drop, length-drop, take-append-drop}
-use lib.Seq.{take-all, take-at, take-length, take-append-le, take-append-add, length-take-le}
+use lib.Seq.{take-all, take-length, take-append-add, length-take-le}
 use borrow.Author.Tests.{eqb-true, eqb-false}
-use Rattle.logic.specs.Order.{lt-or}
+use Rattle.logic.specs.Stores.{take-nil, take-cut}
 use Rattle.bytes.specs.Bytes.{slice, indexOf, indexAfter}
 use Rattle.code.specs.declared.Coded.{Coded}
 use Rattle.track.specs.declared.Added.{Added}
@@ -39,19 +39,6 @@ pub took-as : {a b : Coded} {codes later : List ℕ} {f r : Flight} → a ≡ b 
 took-as {codes = codes} {later = later} {f = f} {r = r} e h = subst (λ (x : Coded). Took x codes later f r) e h
 
 -- ---- bytes
-
-take-nil : (n : ℕ) → _≡_ {A = List ℕ} (take n []) []
-take-nil zero = refl
-take-nil (suc n) = refl
-
--- what is cut off twice
-take-cut : (n : ℕ) (x y : List ℕ) → take n (take n x ++ y) ≡ take n (x ++ y)
-take-cut n x y =
-    ⊎-elim
-    (λ h.
-    let l : length (take n x) ≡ n = length-take-le n x (omega arith) in
-    take-at (take n x) y n l ∙ sym (take-append-le n x y (omega arith)))
-    (λ h. ap (λ (z : List ℕ). take n (z ++ y)) (take-all n x h)) (lt-or n (length x))
 
 -- up to the first line feed there is none
 pub unended-front : (xs : List ℕ) → Unended (take (indexOf 10 xs) xs)

@@ -1,8 +1,11 @@
--- `take_all` meets its contract: each turn keeps the names within the room. Assumes nothing.
-use mathlib.Core.Path.{_≡_}
+-- `take_all` meets its contract: each turn takes the bytes that it read. Assumes nothing.
+use mathlib.Core.Path.{_≡_, refl}
 use Prim.Native.Nat.{_≤_}
 use native.Mathlib.Omega.{arith}
 use lib.ListN.{length}
+use mathlib.Core.List.{[]}
+use Rattle.coverage.specs.Read.{OfSome}
+use Rattle.coverage.proofs.Laws.{reads-none, stopped-reads}
 use borrow.Author.Needs.{needs}
 use Rattle.coverage.proofs.take_all.Statement.{statement}
 use Rattle.coverage.proofs.take_all.Tie as tie
@@ -10,12 +13,15 @@ use Rattle.coverage.proofs.take_all.Tie as tie
 abbrev Inv-loop : tie.InvT-loop
 Inv-loop bytes₀ line₀ codes₀ names₀ turns₀ t8 t9 bytes line codes names turns =
     (names .count ≤ length codes) × (names .at ≤ length line) × (length bytes ≡ length bytes₀) × (length line ≡ length line₀) × (length codes ≡ length codes₀)
+    × OfSome line codes names
 
 abbrev μ-loop : tie.MeasureT-loop
 μ-loop bytes₀ line₀ codes₀ names₀ turns₀ t8 t9 bytes line codes names turns = turns
 
 loop-holds : tie.Need-loop-holds Inv-loop μ-loop
-loop-holds c = search needs
+loop-holds c =
+    let a = c .before .before .before .args in
+    (omega arith, omega arith, refl, refl, refl, ([], reads-none (a .line .now) (a .codes .now) _ refl refl))
 
 read-requires : tie.Need-read-requires Inv-loop μ-loop
 read-requires c κs = search needs
@@ -42,7 +48,10 @@ same-length-3 : tie.Need-same-length-3 Inv-loop μ-loop
 same-length-3 c = search needs
 
 returns : tie.Need-returns Inv-loop μ-loop
-returns c = search needs
+returns c =
+    let s = c .stopped .ensures in
+    let v = c .before .before .before .before .before .before .before .before .before .before .loop .inv in
+    ((omega (arith, s .0, v .0), omega (arith, s .1)), ([], stopped-reads (s .2)))
 
 same-length-4 : tie.Need-same-length-4 Inv-loop μ-loop
 same-length-4 c = search needs
@@ -54,7 +63,7 @@ same-length-6 : tie.Need-same-length-6 Inv-loop μ-loop
 same-length-6 c = search needs
 
 returns-2 : tie.Need-returns-2 Inv-loop μ-loop
-returns-2 c = search needs
+returns-2 c = let v = c .before .before .before .before .before .before .before .loop .inv in ((v .0, v .1), v .5)
 
 slice-reshare-prefix-take-bytes : tie.Need-slice-reshare-prefix-take-bytes Inv-loop μ-loop
 slice-reshare-prefix-take-bytes c = search needs
@@ -72,7 +81,10 @@ loop-less : tie.Need-loop-less Inv-loop μ-loop
 loop-less c = search needs
 
 loop-again : tie.Need-loop-again Inv-loop μ-loop
-loop-again c = search needs
+loop-again c =
+    let f = c .before .before .before .before .take-bytes .ensures in
+    let some = c .before .before .before .before .before .before .before .before .before .before .before .before .before .before .before .loop .inv .5 in
+    (f .0 .0, f .0 .1, search needs, search needs, search needs, (_, f .1 .on (some .0) (some .1)))
 
 same-length-7 : tie.Need-same-length-7 Inv-loop μ-loop
 same-length-7 c = search needs
@@ -84,7 +96,7 @@ same-length-9 : tie.Need-same-length-9 Inv-loop μ-loop
 same-length-9 c = search needs
 
 returns-3 : tie.Need-returns-3 Inv-loop μ-loop
-returns-3 c = search needs
+returns-3 c = let v = c .before .loop .inv in ((v .0, v .1), v .5)
 
 pub take-all-spec : {M : Type 1} → statement M
 take-all-spec =

@@ -1,8 +1,13 @@
--- `take_line` meets its contract: the line at hand lies within its buffer, and a store keeps the length. Assumes nothing.
-use mathlib.Core.Path.{refl, sym}
+-- `take_line` meets its contract: a name's code stands behind the others, and anything else stops the reading. Assumes nothing.
+use mathlib.Core.Path.{_≡_, refl, sym, ap, _∙_}
 use native.Mathlib.Omega.{arith}
-use lib.ListN.{length-set}
+use lib.ListN.{take, length-set}
 use lib.Seq.{length-take-le}
+use mathlib.Core.Logic.{inl, inr}
+use mathlib.Core.List.{[], _∷_, _++_}
+use Prim.Native.Nat.{ℕ}
+use Rattle.name.specs.Name.{nameRefusal, nameCode}
+use Rattle.coverage.proofs.Laws.{name-text, refusal-is, code-is, stored}
 use borrow.Author.Needs.{needs}
 use Rattle.coverage.proofs.take_line.Statement.{statement}
 use Rattle.coverage.proofs.take_line.Tie as tie
@@ -11,7 +16,9 @@ stopped-requires : tie.Need-stopped-requires
 stopped-requires c κs = search needs
 
 returns : tie.Need-returns
-returns c = search needs
+returns c =
+    let s = c .stopped .ensures in
+    ((omega (arith, s .0), s .1), record { is = inl (λ z. c .before .if1 .taken (sym (s .2) ∙ z)) })
 
 next-requires : tie.Need-next-requires
 next-requires c κs = search needs
@@ -40,7 +47,9 @@ stopped-requires-2 : tie.Need-stopped-requires-2
 stopped-requires-2 c κs = search needs
 
 returns-2 : tie.Need-returns-2
-returns-2 c = search needs
+returns-2 c =
+    let s = c .stopped2 .ensures in
+    ((omega (arith, s .0), s .1), record { is = inl (λ z. c .before .before .before .if2 .taken (sym (s .2) ∙ z)) })
 
 mul-codes : tie.Need-mul-codes
 mul-codes c = search needs
@@ -56,8 +65,17 @@ same-length c = search needs
 
 returns-3 : tie.Need-returns-3
 returns-3 c =
-    let a = c .before .before .before .before .before .before .before .before .before .before .before .args in
-    (rw (length-set (a .codes .now) (a .names .count) (c .before .before .jgv-name-code .result .code)) (omega (arith, c .if3 .taken)), refl)
+    let start = c .before .before .before .before .before .before .before .before .before .before .before in
+    let a = start .args in
+    let answer = c .before .before .jgv-name-code in
+    let length-is = c .before .before .before .before .trimmed-length .ensures in
+    let t = name-text (a .line .now) (a .names .at) (start .pre .1) (length-is .0) (length-is .1) in
+    let fine = sym (refusal-is _ (answer .ensures)) ∙ c .before .if2 .left in
+    let code = code-is _ (answer .ensures) fine ∙ ap nameCode t in
+    let held = stored (a .codes .now) (a .names .count) (answer .result .code) (c .if3 .taken) ∙ ap (λ (x : ℕ). take (a .names .count) (a .codes .now) ++ (x ∷ [])) code in (
+      (rw (length-set (a .codes .now) (a .names .count) (answer .result .code)) (omega (arith, c .if3 .taken)), refl),
+      record { is = inr (c .before .before .before .before .before .before .before .if1 .left, sym (ap nameRefusal t) ∙ fine, held) },
+    )
 
 slice-aggregate-say-line-2 : tie.Need-slice-aggregate-say-line-2
 slice-aggregate-say-line-2 c = search needs
@@ -69,7 +87,12 @@ stopped-requires-3 : tie.Need-stopped-requires-3
 stopped-requires-3 c κs = search needs
 
 returns-4 : tie.Need-returns-4
-returns-4 c = search needs
+returns-4 c =
+    let s = c .stopped3 .ensures in
+    ((omega (arith, s .0), s .1), record { is = inl (λ z. thirteen (sym (s .2) ∙ z)) })
+  where
+    thirteen : _≡_ {A = ℕ} 13 0 → ⊥
+    thirteen e = omega arith
 
 pub take-line-spec : {M : Type 1} → statement M
 take-line-spec =
