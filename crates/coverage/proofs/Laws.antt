@@ -20,7 +20,7 @@ use Rattle.flight.specs.LinesLaws.{Unended, ended-append, begun-append, unended
 use Rattle.jeguarivo.specs.declared.CodeAnswer.{CodeAnswer}
 use Rattle.jeguarivo.specs.Entries.{nameAnswer, codeAnswer}
 use Rattle.coverage.specs.declared.Names.{Names}
-use Rattle.coverage.specs.Read.{codesOn, AllNames, Took, Reads, Goes, Ends}
+use Rattle.coverage.specs.Read.{codesOn, AllNames, Stops, Took, Reads, Goes, Ends}
 
 -- ---- one line
 
@@ -88,7 +88,7 @@ goes-line {line} {codes} {line′} {later} {f} {r} h t z = record { on = next }
     next : (past : List ℕ) → Reads past line codes f → Reads (past ++ (10 ∷ [])) line′ later r
     next past v =
         record {
-          is = ⊎-elim (λ a. inl a) (λ a. ⊎-elim (λ w. absurd (w (a .0))) (λ w. inr (good a w)) (v .is)) (t .is);
+          is = ⊎-elim (λ a. inl (a .0)) (λ a. ⊎-elim (λ w. absurd (w (a .0))) (λ w. inr (good a w)) (v .is)) (t .is);
         }
       where
         x : List ℕ
@@ -170,9 +170,9 @@ ends-line {line} {codes} {codes′} {f} {r} p q h t = record { all = λ bytes v.
     shut :
         (bytes x : List ℕ) → begun [] bytes ≡ x →
         (f .stop ≡ 0 → ⊥) ⊎ (AllNames (ended [] bytes) × (take (f .count) codes ≡ codesOn (ended [] bytes)) × (take (f .at) line ≡ take (length line) (begun [] bytes))) →
-        (r .stop ≡ 0 → ⊥) ⊎ ((f .stop ≡ 0) × (nameRefusal (trimmed (take (f .at) line)) ≡ 0) × (take (r .count) codes′ ≡ take (f .count) codes ++ (nameCode (trimmed (take (f .at) line)) ∷ []))) →
+        ((r .stop ≡ 0 → ⊥) × Stops (take (f .at) line) codes f) ⊎ ((f .stop ≡ 0) × (nameRefusal (trimmed (take (f .at) line)) ≡ 0) × (take (r .count) codes′ ≡ take (f .count) codes ++ (nameCode (trimmed (take (f .at) line)) ∷ []))) →
         (r .stop ≡ 0 → ⊥) ⊎ (AllNames (linesOf bytes) × (take (r .count) codes′ ≡ codesOn (linesOf bytes)))
-    shut bytes x e v (inl a) = inl a
+    shut bytes x e v (inl a) = inl (a .0)
     shut bytes x e (inl w) (inr a) = absurd (w (a .0))
     shut bytes [] e (inr w) (inr a) =
         let l : length (take (f .at) line) ≡ f .at = length-take-le (f .at) line q in

@@ -2,7 +2,7 @@
 use mathlib.Core.Path.{_≡_}
 use mathlib.Core.Logic.{_⊎_}
 use mathlib.Core.List.{List, [], _∷_, _++_}
-use Prim.Native.Nat.{ℕ}
+use Prim.Native.Nat.{ℕ, _≤_}
 use lib.ListN.{length, take}
 use Rattle.decimal.specs.Decimal.{trimmed}
 use Rattle.name.specs.Name.{nameRefusal, nameCode}
@@ -19,9 +19,13 @@ abbrev pub AllNames : List (List ℕ) → Type 0
 AllNames [] = Unit {0}
 AllNames (line ∷ lines) = (nameRefusal (trimmed line) ≡ 0) × AllNames lines
 
+-- why the reading stops at a line: it had stopped before, the line is no name, or there is no room for another code
+abbrev pub Stops : (text codes : List ℕ) (f : Names) → Type 0
+Stops text codes f = (f .stop ≡ 0 → ⊥) ⊎ ((nameRefusal (trimmed text) ≡ 0 → ⊥) ⊎ (length codes ≤ f .count))
+
 -- one line: it is a name, and its code stands behind the others; or the reading has stopped
 pub record Took (text codes later : List ℕ) (f r : Names) : Type 0 where
-  pub is : (r .stop ≡ 0 → ⊥) ⊎ ((f .stop ≡ 0) × (nameRefusal (trimmed text) ≡ 0) × (take (r .count) later ≡ take (f .count) codes ++ (nameCode (trimmed text) ∷ [])))
+  pub is : ((r .stop ≡ 0 → ⊥) × Stops text codes f) ⊎ ((f .stop ≡ 0) × (nameRefusal (trimmed text) ≡ 0) × (take (r .count) later ≡ take (f .count) codes ++ (nameCode (trimmed text) ∷ [])))
 
 -- the bytes so far: the lines that ended in them are names, whose codes were taken, in this order; and the line that has begun stands in its
 -- room, as much of it as there is room for

@@ -126,7 +126,7 @@ module _ (n s k : ℕ) where
             let code = ap (λ (l : List ℕ). lineCode n s k (l ++ seg)) (v .open-line) ∙ cut-line n s k (length line) x seg h in
             let flew = sym (ap (λ (ls : List (List ℕ)). after n s k ls []) lines ∙ after-append n s k (ended [] p) ((x ++ seg) ∷ []) []) in
             record {
-              held = ⊎-elim (λ a. inl a) (λ a. ⊎-elim (λ w. inl (a .0 ∙ w)) (λ w. inr (a .1 ∙ ap₂ withLine code w ∙ flew)) (v .held)) (t .is);
+              held = ⊎-elim (λ a. inl (a .0)) (λ a. ⊎-elim (λ w. inl (a .0 ∙ w)) (λ w. inr (a .1 ∙ ap₂ withLine code w ∙ flew)) (v .held)) (t .is);
               open-line = ap (λ (i : ℕ). take i line′) z ∙ sym (ap (take (length line′)) rest ∙ take-nil (length line′));
             }
 
@@ -191,4 +191,4 @@ module _ (n s k : ℕ) where
           let lines : ended [] bytes ++ last (begun [] bytes) ≡ ended [] bytes ++ ((b ∷ x) ∷ []) = ap (λ (l : List ℕ). ended [] bytes ++ last l) e in
           let code = ap (lineCode n s k) (v .open-line ∙ ap (take (length line)) e) ∙ cut-whole n s k (length line) (b ∷ x) h in
           let flew = sym (ap (λ (ls : List (List ℕ)). after n s k ls []) lines ∙ after-append n s k (ended [] bytes) ((b ∷ x) ∷ []) []) in
-          ⊎-elim (λ a. inl a) (λ a. ⊎-elim (λ w. inl (a .0 ∙ w)) (λ w. inr (a .1 ∙ ap₂ withLine code w ∙ flew)) (v .held)) (t .is)
+          ⊎-elim (λ a. inl (a .0)) (λ a. ⊎-elim (λ w. inl (a .0 ∙ w)) (λ w. inr (a .1 ∙ ap₂ withLine code w ∙ flew)) (v .held)) (t .is)

@@ -5,13 +5,17 @@ use mathlib.Core.List.{List, [], _++_}
 use Prim.Native.Nat.{ℕ}
 use lib.ListN.{length, take}
 use Rattle.code.specs.declared.Coded.{Coded}
+use Rattle.track.specs.declared.Added.the-variants.{Refused}
+use Rattle.flight.specs.Flight.{flown}
 use Rattle.flight.specs.FlightLaws.{withLine, after}
 use Rattle.flight.specs.Lines.{ended, begun, linesOf}
 use Rattle.record.specs.declared.Flight.{Flight}
 
--- one line, by its code: its cell is held then too, or the memory was full, which stops the flight
+-- one line, by its code: its cell is held then too, or the memory has no room for it, which stops the flight
 pub record Took (line : Coded) (codes later : List ℕ) (f r : Flight) : Type 0 where
-  pub is : (r .stop ≡ 8) ⊎ ((r .stop ≡ f .stop) × (take (r .count) later ≡ withLine line (take (f .count) codes)))
+  pub is :
+      ((r .stop ≡ 8) × (flown line (length codes) (take (f .count) codes) ≡ Refused 8)) ⊎
+      ((r .stop ≡ f .stop) × (take (r .count) later ≡ withLine line (take (f .count) codes)))
 
 -- the bytes so far: the cells of the lines that ended in them are held, all of them and no other, or the memory was full; and the line that
 -- has begun stands in its room, as much of it as there is room for

@@ -18,7 +18,7 @@ stopped-requires c κs = search needs
 returns : tie.Need-returns
 returns c =
     let s = c .stopped .ensures in
-    ((omega (arith, s .0), s .1), record { is = inl (λ z. c .before .if1 .taken (sym (s .2) ∙ z)) })
+    ((omega (arith, s .0), s .1), record { is = inl (λ z. c .before .if1 .taken (sym (s .2) ∙ z), inl (c .before .if1 .taken)) })
 
 next-requires : tie.Need-next-requires
 next-requires c κs = search needs
@@ -49,7 +49,13 @@ stopped-requires-2 c κs = search needs
 returns-2 : tie.Need-returns-2
 returns-2 c =
     let s = c .stopped2 .ensures in
-    ((omega (arith, s .0), s .1), record { is = inl (λ z. c .before .before .before .if2 .taken (sym (s .2) ∙ z)) })
+    let start = c .before .before .before .before .before .before .before .before .before .before .before .before .before in
+    let a = start .args in
+    let answer = c .before .before .before .before .jgv-name-code in
+    let length-is = c .before .before .before .before .before .before .trimmed-length .ensures in
+    let t = name-text (a .line .now) (a .names .at) (start .pre .1) (length-is .0) (length-is .1) in
+    let bad = c .before .before .before .if2 .taken in
+    ((omega (arith, s .0), s .1), record { is = inl (λ z. bad (sym (s .2) ∙ z), inr (inl (λ z. bad (refusal-is _ (answer .ensures) ∙ ap nameRefusal t ∙ z)))) })
 
 mul-codes : tie.Need-mul-codes
 mul-codes c = search needs
@@ -89,7 +95,7 @@ stopped-requires-3 c κs = search needs
 returns-4 : tie.Need-returns-4
 returns-4 c =
     let s = c .stopped3 .ensures in
-    ((omega (arith, s .0), s .1), record { is = inl (λ z. thirteen (sym (s .2) ∙ z)) })
+    ((omega (arith, s .0), s .1), record { is = inl (λ z. thirteen (sym (s .2) ∙ z), inr (inr (c .before .before .before .if3 .left))) })
   where
     thirteen : _≡_ {A = ℕ} 13 0 → ⊥
     thirteen e = omega arith

@@ -1,9 +1,10 @@
 -- `fly_line` meets its contract: `fly` keeps what is held, whichever way it answers. Assumes nothing.
-use mathlib.Core.Path.{_≡_, sym, subst}
+use mathlib.Core.Path.{_≡_, sym, ap, subst, _∙_}
 use mathlib.Core.Logic.{inl, inr}
 use mathlib.Core.List.{List}
 use Prim.Native.Nat.{ℕ}
 use Rattle.track.specs.declared.Added.{Added}
+use Rattle.track.specs.declared.Added.the-variants.{Refused}
 use Rattle.track.specs.Track.{Held, heldAfter}
 use borrow.Author.Needs.{needs}
 use Rattle.record.proofs.Laws.{counted-took, refused-took}
@@ -40,7 +41,7 @@ returns c =
     let start = c .before .before .before .before .before .before .before .before .before .before .before .before in
     let f = c .before .before .before .before .before .before .before .fly .ensures in
     let l = c .after-line2 .ensures in
-    (held-as _ (start .args .flight .count) (c .before .before .before .refusal .given .1) (l .0) (f .1 .1), (l .1, record { is = inl (l .2) }))
+    (held-as _ (start .args .flight .count) (c .before .before .before .refusal .given .1) (l .0) (f .1 .1), (l .1, record { is = inl (l .2, sym (f .0) ∙ c .before .before .before .refusal .given .1 ∙ ap Refused (c .before .if1 .taken)) }))
 
 slice-aggregate-say-line : tie.Need-slice-aggregate-say-line
 slice-aggregate-say-line c = search needs
