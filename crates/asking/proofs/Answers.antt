@@ -6,15 +6,15 @@ use Prim.Native.Nat.{ℕ, zero, suc}
 use native.Mathlib.Omega.{arith}
 use lib.Dec.{eqb}
 use Rattle.logic.specs.Refusal.{refuse, _otherwise_}
-use Rattle.logic.specs.RefusalLaws.{stops, passes}
+use Rattle.logic.specs.Laws.Refusal.{stops, passes}
 use Rattle.cell.specs.declared.Arrangement.{Arrangement}
 use Rattle.cell.specs.Cell.{arrangementRefusal}
-use Rattle.cell.specs.CellLaws.{five}
+use Rattle.cell.specs.Laws.Cell.{five}
 use Rattle.code.specs.Code.{cellOf, codeRefusal}
 use Rattle.reading.specs.Ground.{wholeCells}
 use Rattle.reading.specs.TextReading.{nodesOf, northOf, southOf}
 use Rattle.reader.specs.Check.{placeWith}
-use Rattle.reader.specs.AnswerLaws.{Read, Unread}
+use Rattle.reader.specs.Laws.Answer.{Read, Unread}
 use Rattle.asking.specs.declared.Asked.{Asked}
 use Rattle.asking.specs.declared.Asked.the-variants.{Covered, Refused}
 use Rattle.asking.specs.Ask.{anyWithin, askRefusal, asked, askedAs}

@@ -10,17 +10,17 @@ use lib.ListN.{length, drop, getD, drop-of-length-le}
 use lib.Seq.{drop-drop, drop-append-add}
 use lib.Dec.{leb, eqb}
 use borrow.Author.Tests.{le-leb, lt-leb, eq-eqb, ne-eqb}
-use Rattle.logic.specs.Bools.{clash}
-use Rattle.logic.specs.Order.{lt-or}
+use Rattle.logic.specs.Laws.Bools.{clash}
+use Rattle.logic.specs.Laws.Order.{lt-or}
 use Rattle.reading.specs.declared.Level.{Level}
 use Rattle.reading.specs.declared.Level.the-variants.{Faces, Digits}
 use Rattle.reading.specs.Reading.{Nodes, end, whole, listed, first, many, room, render, Good}
-use Rattle.reading.specs.ReadingLaws.{many-most}
-use Rattle.reading.specs.ParseLaws.{Stop}
+use Rattle.reading.specs.Laws.Reading.{many-most}
+use Rattle.reading.specs.Laws.Parse.{Stop}
 use Rattle.reading.specs.TextReading.{isText, nodesOf}
 use Rattle.walk.specs.Walk.{opens, wholeAt}
-use Rattle.walk.specs.WalkLaws.{not-shut, whole-name, opens-nodes, body, good, byte-at}
-use Rattle.asking.specs.AskNodes.{anyIn, and-none, in-short, in-behind, openPast, shutIn, shut-list, nodeIn}
+use Rattle.walk.specs.Laws.Walk.{not-shut, whole-name, opens-nodes, body, good, byte-at}
+use Rattle.asking.specs.Internal.AskNodes.{anyIn, and-none, in-short, in-behind, openPast, shutIn, shut-list, nodeIn}
 
 -- the byte at a place, where the bytes from there on are known
 module _ (t : List ℕ) (i : ℕ) {b : ℕ} {bs : List ℕ} (e : drop i t ≡ b ∷ bs) where

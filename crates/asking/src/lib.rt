@@ -7,7 +7,7 @@ ghost use Rattle.code.specs.Code.{isCode, cellOf};
 ghost use Rattle.reading.specs.Ground.{wholeCells};
 ghost use Rattle.reading.specs.TextReading.{isText, nodesOf};
 ghost use Rattle.asking.specs.Ask.{anyWithin, askRefusal, asked, askedAs};
-ghost use Rattle.asking.specs.AskNodes.{openPast, shutIn, nodeIn};
+ghost use Rattle.asking.specs.Internal.AskNodes.{openPast, shutIn, nodeIn};
 use cell::Arrangement;
 use reader::Checked;
 

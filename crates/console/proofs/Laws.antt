@@ -9,9 +9,9 @@ use lib.Dec.{ltb}
 use lib.ListN.{length, set, drop, getD, length-set}
 use lib.Seq.{sets, drop-cons}
 use borrow.Author.Tests.{ltb-false}
-use Rattle.logic.specs.Stores.{sets-out}
+use Rattle.logic.specs.Laws.Stores.{sets-out}
 use Rattle.console.specs.Line.{atMost}
-use Rattle.console.specs.LineLaws.{fits, over}
+use Rattle.console.specs.Laws.Line.{fits, over}
 
 pub start : (room at : ℕ) → at ≤ room → at ≡ atMost room (at + 0)
 start room at h =

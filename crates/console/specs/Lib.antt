@@ -1,3 +1,3 @@
+pub mod Laws
 pub mod Line
-pub mod LineLaws
 pub mod Setting

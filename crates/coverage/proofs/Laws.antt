@@ -9,14 +9,14 @@ use lib.Dec.{ltb}
 use lib.ListN.{length, take, getD, set}
 use lib.Seq.{take-all, take-take, take-suc, take-suc-set, length-take-le}
 use borrow.Author.Tests.{lt-ltb}
-use Rattle.logic.specs.Order.{lt-or}
+use Rattle.logic.specs.Laws.Order.{lt-or}
 use Rattle.logic.specs.Refusal.{_otherwise_, given}
-use Rattle.logic.specs.Stores.{take-nil, take-cut}
+use Rattle.logic.specs.Laws.Stores.{take-nil, take-cut}
 use Rattle.decimal.specs.Decimal.{trimmed}
-use Rattle.decimal.specs.LongLaws.{trimmed-length, trimmed-take}
+use Rattle.decimal.specs.Laws.Long.{trimmed-length, trimmed-take}
 use Rattle.name.specs.Name.{nameRefusal, nameCode}
 use Rattle.flight.specs.Lines.{ended, begun, last, linesOf}
-use Rattle.flight.specs.LinesLaws.{Unended, ended-append, begun-append, unended, begun-on}
+use Rattle.flight.specs.Laws.Lines.{Unended, ended-append, begun-append, unended, begun-on}
 use Rattle.jeguarivo.specs.declared.CodeAnswer.{CodeAnswer}
 use Rattle.jeguarivo.specs.Entries.{nameAnswer, codeAnswer}
 use Rattle.coverage.specs.declared.Names.{Names}

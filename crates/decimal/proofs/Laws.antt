@@ -11,7 +11,7 @@ use lib.IntN.{ℤ}
 use lib.ListN.{length, take, drop, getD, set, length-map, length-append, length-drop}
 use lib.Seq.{drop-cons, take-all, take-take, set-split, drop-at, length-take-le}
 use borrow.Author.Tests.{lt-leb, le-leb, lt-ltb, le-ltb, eq-eqb, ne-eqb, ltb-true}
-use Rattle.logic.specs.Bools.{by-cond}
+use Rattle.logic.specs.Laws.Bools.{by-cond}
 use Rattle.ternary.specs.Digits.{value}
 use Rattle.signed.specs.Sign.{withSign}
 use Rattle.decimal.specs.Decimal.{isDigit, allDigits, written, wholeIn, numberOf, numberIn, ahead, behind, trimmed, fixOf, fixIn, printedFrom, printed}

@@ -9,13 +9,13 @@ use lib.Seq.{take-all, drop-length, drop-drop}
 use borrow.Rule.Slice.PartMut.{putMid, postOf, post-is}
 use borrow.Author.Tests.{le-ltb}
 use Rattle.logic.specs.Refusal.{refuse, given}
-use Rattle.logic.specs.RefusalLaws.{passes}
+use Rattle.logic.specs.Laws.Refusal.{passes}
 use Rattle.code.specs.Code.{isCode, cellOf}
-use Rattle.code.specs.CodeLaws.{code-passes, code-is-cell}
+use Rattle.code.specs.Laws.Code.{code-passes, code-is-cell}
 use Rattle.name.specs.declared.Named.{Named}
 use Rattle.name.specs.declared.Named.the-variants.{Length, Refused as Refused-name}
 use Rattle.name.specs.Name.{nameOf, nameIn, codeNameRefusal, named, lengthIn}
-use Rattle.name.specs.NameLaws.{length-name}
+use Rattle.name.specs.Laws.Name.{length-name}
 use Rattle.code.specs.declared.Coded.{Coded}
 use Rattle.code.specs.declared.Coded.the-variants as coded-as
 use Rattle.track.specs.declared.Added.{Added}

@@ -1,6 +1,4 @@
 pub mod Answer
-pub mod AnswerLaws
 pub mod Flight
-pub mod FlightLaws
+pub mod Laws
 pub mod Lines
-pub mod LinesLaws

@@ -4,17 +4,17 @@ use mathlib.Core.Bool.{Bool, false}
 use Prim.Native.Nat.{ℕ, zero, suc}
 use native.Mathlib.Omega.{arith}
 use Rattle.logic.specs.Refusal.{_otherwise_, given}
-use Rattle.logic.specs.RefusalLaws.{passes, both, given-value, given-none}
+use Rattle.logic.specs.Laws.Refusal.{passes, both, given-value, given-none}
 use Rattle.cell.specs.declared.Cell.{Cell}
 use Rattle.cell.specs.declared.Found.{Found}
 use Rattle.cell.specs.declared.Found.the-variants as found-as
 use Rattle.cell.specs.declared.Arrangement.{Arrangement}
 use Rattle.cell.specs.Cell.{IsCell, IsArrangement, found}
-use Rattle.cell.specs.CellLaws.{is-arrangement}
-use Rattle.cell.specs.FoundLaws.{found-at, found-refused}
+use Rattle.cell.specs.Laws.Cell.{is-arrangement}
+use Rattle.cell.specs.Laws.Found.{found-at, found-refused}
 use Rattle.code.specs.declared.Coded.{Coded}
 use Rattle.code.specs.Code.{codeOf, cellOf, coded, foundCode}
-use Rattle.code.specs.CodeLaws.{a-code, code-is-cell, found-coded}
+use Rattle.code.specs.Laws.Code.{a-code, code-is-cell, found-coded}
 use Rattle.name.specs.Name.{named}
 use Rattle.jeguarivo.specs.declared.CodeAnswer.{CodeAnswer}
 use Rattle.jeguarivo.specs.Entries.{codeAnswer, codedAnswer, foundAnswer, cellAnswer, namedAnswer, lengthAnswer, arrangement, placedRefusal, placedAnswer}

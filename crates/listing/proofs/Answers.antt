@@ -8,12 +8,12 @@ use lib.ListN.{length}
 use lib.Dec.{ltb}
 use borrow.Author.Tests.{lt-ltb, le-ltb}
 use Rattle.logic.specs.Refusal.{refuse, _otherwise_, given}
-use Rattle.logic.specs.RefusalLaws.{stops, passes}
+use Rattle.logic.specs.Laws.Refusal.{stops, passes}
 use Rattle.reader.specs.Check.{textRefusal, placeWith}
-use Rattle.reader.specs.AnswerLaws.{Read, Unread}
+use Rattle.reader.specs.Laws.Answer.{Read, Unread}
 use Rattle.listing.specs.declared.Listed.the-variants.{Count, Refused}
 use Rattle.listing.specs.List.{codesOf, listRefusal, listed}
-use Rattle.listing.specs.ListLaws.{listed-count}
+use Rattle.listing.specs.Laws.List.{listed-count}
 
 module _ {t : List ℕ} {n s c z : ℕ} (r : Read t n s c z) where
   pub counted : c ≡ length (codesOf t)

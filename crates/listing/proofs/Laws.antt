@@ -10,9 +10,9 @@ use lib.Seq.{length-take-le, take-suc-set, drop-set-lt, drop-drop}
 use Rattle.reading.specs.TextReading.{isText}
 use Rattle.walk.specs.declared.Spot.{Spot}
 use Rattle.walk.specs.Walk.{origin, after, wholeAt, walk, Walks}
-use Rattle.walk.specs.WalkLaws.{walks-start, walks-on, past-whole, past-other, walked}
+use Rattle.walk.specs.Laws.Walk.{walks-start, walks-on, past-whole, past-other, walked}
 use Rattle.listing.specs.List.{codesOf}
-use Rattle.listing.specs.ListLaws.{spotCode, walk-codes}
+use Rattle.listing.specs.Laws.List.{spotCode, walk-codes}
 
 -- what holds before the byte at i, with `count` codes put
 pub record Lists (t codes₀ codes : List ℕ) (count i : ℕ) (s : Spot) : Type 0 where

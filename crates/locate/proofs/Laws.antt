@@ -5,7 +5,7 @@ use Prim.Native.Nat.{ℕ}
 use Rattle.root.specs.Floor.{axisOf}
 use Rattle.locate.specs.declared.End.{End}
 use Rattle.locate.specs.Fix.{Point, capCell}
-use Rattle.locate.specs.End.{Stands}
+use Rattle.locate.specs.Internal.End.{Stands}
 
 -- ---- four tests one after the other, as the range of a fix has them
 

@@ -9,7 +9,7 @@ ghost use Rattle.signed.specs.Sign.{withSign};
 ghost use Rattle.root.specs.Floor.{axisOf};
 ghost use Rattle.locate.specs.Fix.{quarter, inRange, offsetOf, beltCell, capCell, fixCell, fixRefusal};
 ghost use Rattle.locate.specs.Fix.{turnedNorth};
-ghost use Rattle.locate.specs.End.{Stands, endOf};
+ghost use Rattle.locate.specs.Internal.End.{Stands, endOf};
 use cell::Arrangement;
 use cell::Cell;
 use cell::Found;

@@ -1,7 +1,4 @@
-pub mod Bools
 pub mod Choice
-pub mod Order
+pub mod Laws
 pub mod Refusal
-pub mod RefusalLaws
 pub mod Rise
-pub mod Stores

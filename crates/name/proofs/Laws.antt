@@ -11,12 +11,12 @@ use lib.ListN.{length, take, drop, getD, set, length-map}
 use lib.Seq.{drop-cons, take-take, take-set-le, set-split, drop-at, length-take-le}
 use borrow.Author.Tests.{lt-leb, le-leb, lt-ltb, le-ltb}
 use Rattle.logic.specs.Refusal.{refuse, given}
-use Rattle.logic.specs.RefusalLaws.{stops, passes}
+use Rattle.logic.specs.Laws.Refusal.{stops, passes}
 use Rattle.ternary.specs.Digits.{value, digits}
 use Rattle.code.specs.declared.Coded.the-variants.{Code, Refused}
 use Rattle.code.specs.Code.{coded, codeRefusal, cellOf}
 use Rattle.name.specs.Name.{isDigit, allDigits, digitBytes, firstLetter, nameOf, named, codeNameRefusal}
-use Rattle.name.specs.NameLaws.{length-name}
+use Rattle.name.specs.Laws.Name.{length-name}
 use Rattle.name.specs.declared.Named.the-variants as Named-as
 
 -- ---- reading

@@ -5,9 +5,9 @@ use Prim.Native.Nat.{ℕ, _+_, _-_, _*_, _/_, _^_, _≤_, _<_}
 use native.Mathlib.Nat.{mul-le-mul, mul-left-comm, mul-mul-mul-comm, mul-pos, mul-lt-mul-of-pos-left, mul-div-mul-left}
 use native.Mathlib.Omega.{arith}
 use lib.IntN.{subℕ}
-use Rattle.ternary.specs.Powers.{power-add}
+use Rattle.ternary.specs.Laws.Powers.{power-add}
 use Rattle.nucleus.specs.Nucleus.{floorZ, northZ, southZ}
-use Rattle.nucleus.specs.FlooredLaws.{floor-times}
+use Rattle.nucleus.specs.Internal.FlooredLaws.{floor-times}
 
 -- the height's square is at most the side's
 pub height-le : (m h : ℕ) → h < m → h * h ≤ m * m

@@ -7,7 +7,7 @@ ghost use lib.IntN.{pos, negℤ, subℕ};
 ghost use Rattle.cell.specs.Cell.{IsCell, IsArrangement};
 ghost use Rattle.locate.specs.Fix.{quarter};
 ghost use Rattle.nucleus.specs.Nucleus.{floorZ, northZ, southZ, centred, northNucleus, southNucleus, groundNucleus};
-ghost use Rattle.nucleus.specs.TriangleLaws.{middle, OffCentre, Inside, IsStart};
+ghost use Rattle.nucleus.specs.Internal.TriangleLaws.{middle, OffCentre, Inside, IsStart};
 use cell::Arrangement;
 use cell::Cell;
 use division::Quotient;

@@ -14,9 +14,9 @@ use borrow.Author.Tests.{lt-ltb, le-ltb, le-leb, lt-leb, eq-eqb, ne-eqb}
 use Rattle.reading.specs.declared.Level.{Level}
 use Rattle.reading.specs.declared.Level.the-variants.{Faces, Belt, Digits}
 use Rattle.reading.specs.Reading.{first, many, room}
-use Rattle.reading.specs.ReadingLaws.{many-most}
+use Rattle.reading.specs.Laws.Reading.{many-most}
 use Rattle.reading.specs.Scan.{frame, State, at, Next, stop, on, step, after, scan, start}
-use Rattle.place.specs.Stack.{hereOf, stack, standsAt, mayOpen, mayShut, mayStand}
+use Rattle.place.specs.Internal.Stack.{hereOf, stack, standsAt, mayOpen, mayShut, mayStand}
 use Rattle.place.proofs.Steps.{stack-set, stack-set-whole, stack-more, step-open, step-shut, step-stand, open-deeper, stand-from, stand-below}
 
 -- ---- bytes

@@ -9,12 +9,12 @@ use lib.ListN.{length, getD, set}
 use lib.Seq.{getD-set-other}
 use lib.Dec.{leb, ltb, eqb}
 use borrow.Author.Tests.{eq-eqb, ne-eqb, eqb-false, ltb-false, leb-false, not-true}
-use Rattle.logic.specs.Bools.{and-left, and-right}
+use Rattle.logic.specs.Laws.Bools.{and-left, and-right}
 use Rattle.reading.specs.declared.Level.{Level}
 use Rattle.reading.specs.Reading.{first, many, room}
-use Rattle.reading.specs.ReadingLaws.{room-le}
+use Rattle.reading.specs.Laws.Reading.{room-le}
 use Rattle.reading.specs.Scan.{Frame, frame, at, Next, stop, on, level, opens, shuts, stands, step}
-use Rattle.place.specs.Stack.{hereOf, stack, standsAt, mayOpen, mayShut, mayStand}
+use Rattle.place.specs.Internal.Stack.{hereOf, stack, standsAt, mayOpen, mayShut, mayStand}
 
 level-stack : (l : Level) (k : ℕ) (lo w : List ℕ) → level l (stack k lo w) ≡ hereOf l k
 level-stack l zero lo w = refl

@@ -6,7 +6,7 @@ ghost use Prim.Native.Nat.{_+_, _-_, _≤_};
 ghost use lib.ListN.{length, drop};
 ghost use Rattle.reading.specs.Reading.{first, room};
 ghost use Rattle.reading.specs.Scan.{scan, start};
-ghost use Rattle.place.specs.Stack.{hereOf, mayOpen, mayShut, mayStand};
+ghost use Rattle.place.specs.Internal.Stack.{hereOf, mayOpen, mayShut, mayStand};
 
 // What nodes are, k lists deep.
 fn here(level: Level, k: usize) -> Level

@@ -11,15 +11,15 @@ use Rattle.reading.specs.Reading.{Nodes}
 use Rattle.reading.specs.Parse.{Parse, bad, got, parse}
 use Rattle.reading.specs.Scan.{scan, start}
 use Rattle.reading.specs.Place.{least, greatest, lead, placeOf, none, taken, toEnd, readText}
-use Rattle.reading.specs.PlaceLaws.{lead-length, head-of, accepted-read}
+use Rattle.reading.specs.Laws.Place.{lead-length, head-of, accepted-read}
 use Rattle.reading.specs.Report.{count, area}
 use Rattle.reading.specs.TextReading.{wasRead, isText}
 use Rattle.reader.specs.declared.Checked.the-variants.{Text, Refused}
 use Rattle.reader.specs.declared.Got.{Got}
 use Rattle.reader.specs.declared.Got.the-variants.{Bad, Read}
 use Rattle.reader.specs.Check.{otherVersion, answer, checkedOf}
-use Rattle.reader.specs.CheckLaws.{refusal-13, refusal-10, refusal-9, version-short, version-early, version-late, version-other, counted-answer}
-use Rattle.reader.specs.Got.{gotOf, NodesIs}
+use Rattle.reader.specs.Laws.Check.{refusal-13, refusal-10, refusal-9, version-short, version-early, version-late, version-other, counted-answer}
+use Rattle.reader.specs.Internal.Got.{gotOf, NodesIs}
 
 module _ (t : List ℕ) where
   pub long-answer : 65536 < length t → Refused 13 0 ≡ checkedOf t

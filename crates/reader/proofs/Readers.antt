@@ -6,14 +6,14 @@ use Prim.Native.Nat.{ℕ, suc, _+_, _-_, _*_, _/_, _≤_, _<_}
 use native.Mathlib.Omega.{arith}
 use native.Mathlib.Nat.{zero-mul, one-mul, add-mul, mul-le-mul-right}
 use lib.ListN.{length, getD, List·getD-eq-default}
-use Rattle.logic.specs.Order.{lt-or}
+use Rattle.logic.specs.Laws.Order.{lt-or}
 use Rattle.reading.specs.declared.Level.{Level}
 use Rattle.reading.specs.declared.Level.the-variants.{Faces, Belt, Digits}
 use Rattle.reader.specs.declared.Got.{Got}
 use Rattle.reader.specs.declared.Got.the-variants.{Bad, Read}
 use Rattle.reading.specs.Reading.{first, many, room}
-use Rattle.reading.specs.ReadingLaws.{many-most}
-use Rattle.reader.specs.Got.{NodeIs, NodesIs}
+use Rattle.reading.specs.Laws.Reading.{many-most}
+use Rattle.reader.specs.Internal.Got.{NodeIs, NodesIs}
 use Rattle.reader.proofs.Steps as st
 use Rattle.reader.proofs.Steps.{plus}
 

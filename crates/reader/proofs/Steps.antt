@@ -14,12 +14,12 @@ use Rattle.reading.specs.declared.Level.{Level}
 use Rattle.reading.specs.declared.Level.the-variants.{Digits}
 use Rattle.reading.specs.Reading.{Nodes, end, whole, listed, first, many, room, wholes, render, Some}
 use Rattle.reading.specs.Parse.{Parse, bad, got, Item, wrong, bare, held, close, item, addWhole, addListed, then, parse}
-use Rattle.reading.specs.ParseLaws.{Right, RightItem, sound, item-right, drop-rest}
+use Rattle.reading.specs.Laws.Parse.{Right, RightItem, sound, item-right, drop-rest}
 use Rattle.reading.specs.Report.{count, area}
-use Rattle.reading.specs.ReportLaws.{area-most, count-most}
+use Rattle.reading.specs.Laws.Report.{area-most, count-most}
 use Rattle.reader.specs.declared.Got.{Got}
 use Rattle.reader.specs.declared.Got.the-variants.{Bad, Read}
-use Rattle.reader.specs.Got.{gotOf, itemOf}
+use Rattle.reader.specs.Internal.Got.{gotOf, itemOf}
 
 -- the byte at a place, and those after it
 drop-byte : (s : List ℕ) (at : ℕ) → at < length s → drop at s ≡ getD s at 0 ∷ drop (at + 1) s

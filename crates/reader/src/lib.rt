@@ -6,7 +6,7 @@ ghost use lib.Dec.{eqb};
 ghost use lib.ListN.{length, getD};
 ghost use Rattle.reading.specs.Place.{least, greatest, lead};
 ghost use Rattle.reader.specs.Check.{checkedOf};
-ghost use Rattle.reader.specs.Got.{NodeIs, NodesIs};
+ghost use Rattle.reader.specs.Internal.Got.{NodeIs, NodesIs};
 ghost use Rattle.reader.specs.declared.Checked.the-variants.{Refused as RefusedWith};
 
 // What checking answers: the heading's n and s, the number of whole cells and the sum of their sizes; or the refusal, with the place for 9.

@@ -11,7 +11,7 @@ use Rattle.reading.specs.Text.{heading, ReadsAs}
 use Rattle.reading.specs.Parse.{parse}
 use Rattle.reading.specs.Scan.{scan}
 use Rattle.reading.specs.Place.{lead, placeOf, none, toEnd, readText}
-use Rattle.reading.specs.PlaceLaws.{accepted-read}
+use Rattle.reading.specs.Laws.Place.{accepted-read}
 
 -- the text with this body, and n = s = 0
 abbrev text : List ℕ → List ℕ

@@ -9,15 +9,15 @@ use lib.Dec.{eqb}
 use lib.ListN.{length, take, drop, length-drop, take-append-drop}
 use lib.Seq.{take-all, take-length, take-append-add, length-take-le}
 use borrow.Author.Tests.{eqb-true, eqb-false}
-use Rattle.logic.specs.Stores.{take-nil, take-cut}
+use Rattle.logic.specs.Laws.Stores.{take-nil, take-cut}
 use Rattle.bytes.specs.Bytes.{slice, indexOf, indexAfter}
 use Rattle.code.specs.declared.Coded.{Coded}
 use Rattle.track.specs.declared.Added.{Added}
 use Rattle.track.specs.declared.Added.the-variants.{Count, Refused}
 use Rattle.flight.specs.Flight.{lineCode, flown, flownMemory}
-use Rattle.flight.specs.FlightLaws.{withLine, after, fly-after, fly-refused}
+use Rattle.flight.specs.Laws.Flight.{withLine, after, fly-after, fly-refused}
 use Rattle.flight.specs.Lines.{ended, begun, last, linesOf}
-use Rattle.flight.specs.LinesLaws.{Unended, ended-append, begun-append, unended, begun-on, ended-line, begun-line, after-append, cut-line, cut-whole}
+use Rattle.flight.specs.Laws.Lines.{Unended, ended-append, begun-append, unended, begun-on, ended-line, begun-line, after-append, cut-line, cut-whole}
 use Rattle.record.specs.declared.Flight.{Flight}
 use Rattle.record.specs.Recorded.{Took, Recorded, Goes, Landed}
 

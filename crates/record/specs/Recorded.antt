@@ -7,7 +7,7 @@ use lib.ListN.{length, take}
 use Rattle.code.specs.declared.Coded.{Coded}
 use Rattle.track.specs.declared.Added.the-variants.{Refused}
 use Rattle.flight.specs.Flight.{flown}
-use Rattle.flight.specs.FlightLaws.{withLine, after}
+use Rattle.flight.specs.Laws.Flight.{withLine, after}
 use Rattle.flight.specs.Lines.{ended, begun, linesOf}
 use Rattle.record.specs.declared.Flight.{Flight}
 

@@ -7,12 +7,12 @@ use native.Mathlib.Nat.{le-of-lt, lt-of-not-le, mul-le-mul, mul-lt-mul-of-pos-le
 use native.Mathlib.Omega.{arith}
 use lib.Dec.{lit<}
 use lib.IntN.{pos, negℤ, natAbs}
-use Rattle.logic.specs.Order.{lt-or}
+use Rattle.logic.specs.Laws.Order.{lt-or}
 use Rattle.root.specs.declared.Axis.{Axis}
 use Rattle.root.specs.Floor.{plusAt, minusAt, atMost, IsFloor, rootFloor, axisOf}
-use Rattle.root.specs.SquareLaws.{under-root, under-root-lt, over-root, over-root-lt, plus-square, plus-not, minus-is, minus-not, minus-over}
-use Rattle.root.specs.FloorLaws.{one-floor, floor-is, at-most-up, axis-size}
-use Rattle.root.specs.Bracket.{lowPart, highPart, share}
+use Rattle.root.specs.Laws.Square.{under-root, under-root-lt, over-root, over-root-lt, plus-square, plus-not, minus-is, minus-not, minus-over}
+use Rattle.root.specs.Laws.Floor.{one-floor, floor-is, at-most-up, axis-size}
+use Rattle.root.specs.Internal.Bracket.{lowPart, highPart, share}
 
 -- ---- sizes
 

@@ -1,4 +1,3 @@
 pub mod Floor
-pub mod SquareLaws
-pub mod FloorLaws
-pub mod Bracket
+pub mod Internal
+pub mod Laws

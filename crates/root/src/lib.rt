@@ -4,7 +4,7 @@ ghost use Prim.Native.Nat.{_+_, _*_, _^_, _≤_, _<_};
 ghost use lib.IntN.{negℤ};
 ghost use Rattle.wide.specs.Value.{three};
 ghost use Rattle.root.specs.Floor.{square, plusAt, minusAt, atMost, rootFloor, axisOf};
-ghost use Rattle.root.specs.Bracket.{lowPart};
+ghost use Rattle.root.specs.Internal.Bracket.{lowPart};
 use wide::Three;
 
 // A signed whole number: the part of the root that a floor adds or takes away.

@@ -4,7 +4,7 @@ use Prim.Native.Nat.{ℕ, _+_, _*_, _/_, _%_, _^_, _<_}
 use native.Mathlib.Nat.{add-mul, mul-right-comm}
 use native.Mathlib.Omega.{arith}
 use Rattle.ternary.specs.Weave.{rowIn, columnIn, bothIn}
-use Rattle.ternary.specs.WeaveLaws.{row-small, column-small, row-split, column-split, row-last, column-last}
+use Rattle.ternary.specs.Laws.Weave.{row-small, column-small, row-split, column-split, row-last, column-last}
 
 pub both-small : (k p : ℕ) → bothIn k p < 3 ^ k * 4294967297
 both-small k p = let r = row-small k p in let c = column-small k p in omega arith

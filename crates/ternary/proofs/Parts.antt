@@ -2,9 +2,9 @@
 use mathlib.Core.Path.{_≡_, sym, ap, ap₂, _∙_}
 use Prim.Native.Nat.{ℕ, _+_, _*_, _/_, _%_, _<_}
 use native.Mathlib.Omega.{arith}
-use Rattle.ternary.specs.Parts.{parts, quarters, bits}
+use Rattle.ternary.specs.Internal.Parts.{parts, quarters, bits}
 use Rattle.ternary.specs.Weave.{weave}
-use Rattle.ternary.specs.WeaveLaws.{weave-step, weave-apart, weave-split, weave-last, weave-small}
+use Rattle.ternary.specs.Laws.Weave.{weave-step, weave-apart, weave-split, weave-last, weave-small}
 
 -- a number of sixteen digits in parts of four
 pub in-parts : (x : ℕ) → (x / 6561 + x / 6561 / 81 * 65455) * 4294967296 + (x % 6561 + x % 6561 / 81 * 65455) ≡ quarters x

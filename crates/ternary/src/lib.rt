@@ -3,7 +3,7 @@
 // looked up, and the row and the column stand in one number.
 ghost use mathlib.Core.Path.{_≡_};
 ghost use Prim.Native.Nat.{_*_, _/_, _%_, _^_, _≤_, _<_};
-ghost use Rattle.ternary.specs.Parts.{parts, quarters, bits};
+ghost use Rattle.ternary.specs.Internal.Parts.{parts, quarters, bits};
 ghost use Rattle.ternary.specs.Weave.{weave, rowIn, columnIn, bothIn};
 
 mod digits;

@@ -12,9 +12,9 @@ use Rattle.logic.specs.Refusal.{refuse, given}
 use Rattle.logic.specs.Rise.{Rise}
 use Rattle.track.specs.declared.Added.{Added}
 use Rattle.track.specs.declared.Added.the-variants.{Count, Refused}
-use Rattle.logic.specs.Order.{lt-or}
+use Rattle.logic.specs.Laws.Order.{lt-or}
 use Rattle.track.specs.Track.{Held, inserted, numberBelow, addRefusal, counted, added, heldAfter, memory}
-use Rattle.track.specs.TrackLaws.{inserted-rises}
+use Rattle.track.specs.Laws.Track.{inserted-rises}
 use Rattle.track.proofs.Laws.{place-within, inserted-held, inserted-new}
 
 refused-8 : (room : ℕ) (held : List ℕ) (code : ℕ) → room < length (inserted code held) → addRefusal room held code ≡ 8

@@ -10,20 +10,20 @@ use lib.Dec.{leb, ltb}
 use lib.ListN.{length, drop, getD, set, length-drop, drop-of-length-le}
 use lib.Seq.{sets, drop-cons}
 use borrow.Author.Tests.{lt-ltb, le-ltb, ltb-true, ltb-false, le-leb, lt-leb}
-use Rattle.logic.specs.Order.{lt-or}
+use Rattle.logic.specs.Laws.Order.{lt-or}
 use Rattle.logic.specs.Refusal.{refuse, _otherwise_, given}
-use Rattle.logic.specs.RefusalLaws.{stops, passes}
+use Rattle.logic.specs.Laws.Refusal.{stops, passes}
 use Rattle.cell.specs.declared.Arrangement.{Arrangement}
 use Rattle.cell.specs.Cell.{arrangementRefusal}
 use Rattle.code.specs.Code.{cellOf, isCode, sizeOf}
-use Rattle.code.specs.CodeLaws.{code-is-cell, code-cell}
+use Rattle.code.specs.Laws.Code.{code-is-cell, code-cell}
 use Rattle.code.specs.Inside.{startOf, endOf}
-use Rattle.code.specs.InsideLaws.{start-at, end-small, size-pos}
+use Rattle.code.specs.Laws.Inside.{start-at, end-small, size-pos}
 use Rattle.reading.specs.Text.{heading}
 use Rattle.writing.specs.declared.Written.{Written}
 use Rattle.writing.specs.declared.Written.the-variants.{Length, Refused}
 use Rattle.writing.specs.WriteEntry.{allCodes, lies, ordered, listRefusal, textOf, writeRefusal, textIn, written}
-use Rattle.writing.specs.ListLaws.{not-lies}
+use Rattle.writing.specs.Laws.List.{not-lies}
 
 -- ---- the tests of the list
 

@@ -6,10 +6,10 @@ use mathlib.Core.List.{List}
 use native.Mathlib.Nat.{suc-mul, add-assoc}
 use native.Mathlib.Omega.{arith}
 use lib.ListN.{length, getD}
-use Rattle.logic.specs.Order.{lt-or}
+use Rattle.logic.specs.Laws.Order.{lt-or}
 use Rattle.writing.specs.declared.Taken.{Taken}
-use Rattle.writing.specs.Measure.{AtHand, NodeAt, NodeTakes, NodeMeasured, ListMeasured}
-use Rattle.writing.specs.MeasureLaws.{node-finest, node-exact, node-list, node-nine, node-held, list-none, list-node, list-rest, list-in, all-later, list-skip, list-out}
+use Rattle.writing.specs.Internal.Measure.{AtHand, NodeAt, NodeTakes, NodeMeasured, ListMeasured}
+use Rattle.writing.specs.Internal.MeasureLaws.{node-finest, node-exact, node-list, node-nine, node-held, list-none, list-node, list-rest, list-in, all-later, list-skip, list-out}
 
 -- ---- a node
 

@@ -6,16 +6,16 @@ use mathlib.Core.List.{List}
 use native.Mathlib.Nat.{suc-mul}
 use native.Mathlib.Omega.{arith}
 use lib.ListN.{length, getD, set}
-use Rattle.logic.specs.Order.{lt-or}
+use Rattle.logic.specs.Laws.Order.{lt-or}
 use Rattle.reading.specs.declared.Level.{Level}
 use Rattle.reading.specs.declared.Level.the-variants.{Digits}
 use Rattle.reading.specs.Reading.{first}
 use Rattle.writing.specs.declared.Placed.{Placed}
-use Rattle.writing.specs.Measure.{AtHand, NodeAt}
-use Rattle.writing.specs.MeasureLaws.{node-list, list-node, next-list, all-later, list-skip}
-use Rattle.writing.specs.Whole.{WholeTold}
-use Rattle.writing.specs.Put.{NodeWrote, ListWrote, NodePut, ListPut}
-use Rattle.writing.specs.PutLaws.{whole-wrote, other-code, held-wrote, none-wrote, in-wrote, out-wrote}
+use Rattle.writing.specs.Internal.Measure.{AtHand, NodeAt}
+use Rattle.writing.specs.Internal.MeasureLaws.{node-list, list-node, next-list, all-later, list-skip}
+use Rattle.writing.specs.Internal.Whole.{WholeTold}
+use Rattle.writing.specs.Internal.Put.{NodeWrote, ListWrote, NodePut, ListPut}
+use Rattle.writing.proofs.PutLaws.{whole-wrote, other-code, held-wrote, none-wrote, in-wrote, out-wrote}
 use Rattle.writing.proofs.MeasureSteps.{less, one-less, hand-inside, hand-outside}
 
 -- ---- a node

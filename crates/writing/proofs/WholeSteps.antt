@@ -4,9 +4,9 @@ use Prim.Native.Nat.{ℕ, _+_, _-_, _/_, _%_, _^_, _≤_, _<_}
 use mathlib.Core.List.{List}
 use native.Mathlib.Omega.{arith}
 use lib.ListN.{length, getD}
-use Rattle.writing.specs.MeasureLaws.{area-at, node-finest, node-exact}
-use Rattle.writing.specs.Whole.{WholeTold, Tiled}
-use Rattle.writing.specs.WholeLaws.{gap-held, end-held, all-whole}
+use Rattle.writing.specs.Internal.MeasureLaws.{area-at, node-finest, node-exact}
+use Rattle.writing.specs.Internal.Whole.{WholeTold, Tiled}
+use Rattle.writing.proofs.WholeLaws.{gap-held, end-held, all-whole}
 
 pub finest : {codes : List ℕ} {at cell size : ℕ} → at < length codes → size < 9 → WholeTold codes at cell size (at + 1)
 finest {codes} {at} {cell} {size} h l =

@@ -4,15 +4,15 @@ ghost use mathlib.Core.Bool.{true, _&&_, not};
 ghost use Prim.Native.Nat.{_+_, _-_, _*_, _^_, _≤_, _<_};
 ghost use lib.ListN.{length, set};
 ghost use lib.Seq.{sets};
-ghost use Rattle.writing.specs.Measure.{AtHand, NodeMeasured, ListMeasured};
-ghost use Rattle.writing.specs.Whole.{WholeTold};
-ghost use Rattle.writing.specs.Put.{NodePut, ListPut};
+ghost use Rattle.writing.specs.Internal.Measure.{AtHand, NodeMeasured, ListMeasured};
+ghost use Rattle.writing.specs.Internal.Whole.{WholeTold};
+ghost use Rattle.writing.specs.Internal.Put.{NodePut, ListPut};
 ghost use lib.Dec.{ltb};
 ghost use Rattle.logic.specs.Refusal.{given};
 ghost use Rattle.code.specs.Code.{isCode, cellOf};
 ghost use Rattle.reading.specs.Text.{heading};
 ghost use Rattle.writing.specs.WriteEntry.{lies, listRefusal, textOf, writeRefusal, textIn, written};
-ghost use Rattle.writing.specs.EntryLaws.{LengthIs};
+ghost use Rattle.writing.specs.Internal.EntryLaws.{LengthIs};
 use cell::Arrangement;
 
 // The length of a text that was written, or the number of the refusal.

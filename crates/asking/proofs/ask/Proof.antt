@@ -4,8 +4,8 @@ use mathlib.Core.Bool.{true}
 use borrow.Author.Needs.{needs}
 use borrow.Author.Tests.{not-true, not-false}
 use Rattle.code.specs.Code.{isCode}
-use Rattle.code.specs.CodeLaws.{code-passes, code-stops}
-use Rattle.reader.specs.AnswerLaws.{answered, refused}
+use Rattle.code.specs.Laws.Code.{code-passes, code-stops}
+use Rattle.reader.specs.Laws.Answer.{answered, refused}
 use Rattle.asking.proofs.Answers.{not-arranged, no-code, not-read, read-to}
 use Rattle.asking.proofs.ask.Statement.{statement}
 use Rattle.asking.proofs.ask.Tie as tie

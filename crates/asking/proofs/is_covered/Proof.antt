@@ -5,14 +5,14 @@ use native.Mathlib.Omega.{arith}
 use lib.ListN.{length, drop}
 use borrow.Author.Needs.{needs}
 use Rattle.code.specs.Code.{cellOf}
-use Rattle.code.specs.CodeLaws.{code-is-cell}
+use Rattle.code.specs.Laws.Code.{code-is-cell}
 use Rattle.code.specs.Inside.{endOf}
-use Rattle.code.specs.InsideLaws.{end-small, size-pos}
+use Rattle.code.specs.Laws.Inside.{end-small, size-pos}
 use Rattle.reading.specs.Ground.{wholeCells}
-use Rattle.reading.specs.ReadingLaws.{many-most}
+use Rattle.reading.specs.Laws.Reading.{many-most}
 use Rattle.reading.specs.TextReading.{nodesOf}
 use Rattle.asking.specs.Ask.{anyWithin}
-use Rattle.asking.specs.AskNodes.{anyIn, nodes-asked}
+use Rattle.asking.specs.Internal.AskNodes.{anyIn, nodes-asked}
 use Rattle.asking.proofs.Laws.{Asks, asks-start, asks-end, asks-shut, asks-named, asks-fits, asks-behind, asks-past, asks-yes, asks-into, node-some}
 use Rattle.asking.proofs.is_covered.Statement.{statement}
 use Rattle.asking.proofs.is_covered.Tie as tie

@@ -1,7 +1,7 @@
 -- `asking::open_past` meets its contract. Assumes nothing.
 use native.Mathlib.Omega.{arith}
 use borrow.Author.Tests.{eq-eqb, ne-eqb}
-use Rattle.asking.specs.AskNodes.{openPast}
+use Rattle.asking.specs.Internal.AskNodes.{openPast}
 use Rattle.asking.proofs.open_past.Statement.{statement}
 use Rattle.asking.proofs.open_past.Tie as tie
 

@@ -4,7 +4,7 @@ use Prim.Native.Nat.{ℕ, _+_, _*_, _≤_}
 use native.Mathlib.Omega.{arith}
 use borrow.Author.Needs.{needs}
 use Rattle.code.specs.Number.{startAs, codeAs}
-use Rattle.code.specs.NumberLaws.{end-as-small}
+use Rattle.code.specs.Laws.Number.{end-as-small}
 use Rattle.code.proofs.code_as.Statement.{statement}
 use Rattle.code.proofs.code_as.Tie as tie
 

@@ -4,7 +4,7 @@ use Prim.Native.Nat.{ℕ, _+_, _*_, _<_}
 use native.Mathlib.Omega.{arith}
 use borrow.Author.Needs.{needs}
 use Rattle.code.specs.Code.{codeAt}
-use Rattle.code.specs.CodeLaws.{finest-small}
+use Rattle.code.specs.Laws.Code.{finest-small}
 use Rattle.code.proofs.code_at.Statement.{statement}
 use Rattle.code.proofs.code_at.Tie as tie
 

@@ -2,7 +2,7 @@
 use mathlib.Core.Path.{_≡_, ap, _∙_}
 use borrow.Author.Needs.{needs}
 use Rattle.code.specs.Code.{codeAt, codeOf}
-use Rattle.code.specs.CodeLaws.{path-small}
+use Rattle.code.specs.Laws.Code.{path-small}
 use Rattle.code.proofs.Laws.{both-below, path-sixteen}
 use Rattle.code.proofs.code_of.Statement.{statement}
 use Rattle.code.proofs.code_of.Tie as tie

@@ -6,7 +6,7 @@ use native.Mathlib.Omega.{arith}
 use lib.Dec.{eqb}
 use borrow.Author.Needs.{needs}
 use borrow.Author.Tests.{lt-ltb, le-ltb}
-use Rattle.ternary.specs.Powers.{nine-pos}
+use Rattle.ternary.specs.Laws.Powers.{nine-pos}
 use Rattle.code.specs.Code.{isCode}
 use Rattle.code.proofs.Laws.{rest-cut}
 use Rattle.code.proofs.is_code.Statement.{statement}

@@ -5,7 +5,7 @@ use native.Mathlib.Omega.{arith}
 use lib.ListN.{length, length-set}
 use lib.Seq.{set-out}
 use borrow.Author.Needs.{needs}
-use Rattle.console.specs.LineLaws.{fits, over}
+use Rattle.console.specs.Laws.Line.{fits, over}
 use Rattle.console.proofs.put_byte.Statement.{statement}
 use Rattle.console.proofs.put_byte.Tie as tie
 

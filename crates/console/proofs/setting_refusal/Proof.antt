@@ -4,7 +4,7 @@ use mathlib.Core.Bool.{Bool}
 use borrow.Author.Tests.{lt-ltb, le-ltb}
 use borrow.Author.Needs.{needs}
 use Rattle.logic.specs.Refusal.{refuse}
-use Rattle.logic.specs.RefusalLaws.{stops, passes}
+use Rattle.logic.specs.Laws.Refusal.{stops, passes}
 use Rattle.console.specs.Setting.{settingRefusal}
 use Rattle.console.proofs.setting_refusal.Statement.{statement}
 use Rattle.console.proofs.setting_refusal.Tie as tie

@@ -2,7 +2,7 @@
 use mathlib.Core.Path.{sym}
 use native.Mathlib.Omega.{arith}
 use borrow.Author.Needs.{needs}
-use Rattle.console.specs.LineLaws.{fits, over}
+use Rattle.console.specs.Laws.Line.{fits, over}
 use Rattle.console.proofs.within.Statement.{statement}
 use Rattle.console.proofs.within.Tie as tie
 

@@ -4,7 +4,7 @@ use mathlib.Core.List.{List, [], _∷_}
 use Prim.Native.Nat.{ℕ}
 use native.Mathlib.Omega.{arith}
 use lib.ListN.{take}
-use Rattle.console.specs.LineLaws.{put-first}
+use Rattle.console.specs.Laws.Line.{put-first}
 use Rattle.coverage.proofs.Laws.{goes-line, goes-feed, goes-open}
 use borrow.Author.Needs.{needs}
 use Rattle.coverage.proofs.take_byte.Statement.{statement}

@@ -7,7 +7,7 @@ use native.Mathlib.Omega.{arith}
 use lib.ListN.{length, take, drop}
 use lib.Seq.{length-take-le}
 use borrow.Author.Needs.{needs}
-use Rattle.signed.specs.SignLaws.{back-result}
+use Rattle.signed.specs.Laws.Sign.{back-result}
 use Rattle.decimal.specs.declared.FixLine.the-variants.{Fix}
 use Rattle.decimal.specs.Decimal.{numberIn, ahead, behind, trimmed}
 use Rattle.decimal.proofs.Laws.{from-on, take-ahead, ahead-le, drop-ahead, take-trimmed, no-space, no-first, no-second, two-numbers}

@@ -1,10 +1,10 @@
 -- `flight::line_code` meets its contract: each way is one case of the line's reading. Assumes nothing.
 use mathlib.Core.Path.{_≡_, sym, ap, ap₂, _∙_}
-use Rattle.signed.specs.SignLaws.{back-result}
-use Rattle.cell.specs.FoundLaws.{found-is-cell}
+use Rattle.signed.specs.Laws.Sign.{back-result}
+use Rattle.cell.specs.Laws.Found.{found-is-cell}
 use Rattle.code.specs.Code.{foundCode}
-use Rattle.code.specs.CodeLaws.{found-coded}
-use Rattle.locate.specs.FixLaws.{fix-allowed}
+use Rattle.code.specs.Laws.Code.{found-coded}
+use Rattle.locate.specs.Laws.Fix.{fix-allowed}
 use Rattle.flight.specs.Flight.{fixCoded, ofLine, lineCode}
 use borrow.Author.Needs.{needs}
 use Rattle.flight.proofs.line_code.Statement.{statement}

@@ -6,7 +6,7 @@ use mathlib.Core.List.{List}
 use Prim.Native.Nat.{ℕ, _+_}
 use lib.ListN.{length}
 use Rattle.flight.specs.Answer.{putAt}
-use Rattle.flight.specs.AnswerLaws.{line-is-code}
+use Rattle.flight.proofs.AnswerLaws.{line-is-code}
 use Rattle.flight.proofs.Laws.{part-room, name-part, answer-name, answer-number}
 use Rattle.flight.proofs.put_answer.Statement.{statement}
 use Rattle.flight.proofs.put_answer.Tie as tie

@@ -4,12 +4,12 @@ use borrow.Author.Tests.{lt-ltb, le-ltb}
 use Rattle.logic.specs.Refusal.{refuse, _otherwise_, given}
 use Rattle.cell.specs.declared.Found.{Found}
 use Rattle.cell.specs.declared.Cell.{Cell}
-use Rattle.cell.specs.FoundLaws.{found-is-cell}
+use Rattle.cell.specs.Laws.Found.{found-is-cell}
 use Rattle.cell.specs.Hierarchy.{childOf, childRefusal}
-use Rattle.cell.specs.HierarchyLaws.{child-allowed}
+use Rattle.cell.specs.Laws.Hierarchy.{child-allowed}
 use Rattle.code.specs.Code.{codeOf, foundCode}
 use Rattle.jeguarivo.specs.Entries.{codeAnswer, codedAnswer, childCode}
-use Rattle.code.specs.DecodedLaws.{decoded, undecoded}
+use Rattle.code.specs.Laws.Decoded.{decoded, undecoded}
 use Rattle.jeguarivo.proofs.Laws.{four-first, code-refused, found-code, next-code}
 use native.Mathlib.Omega.{arith}
 use borrow.Author.Needs.{needs}

@@ -3,7 +3,7 @@ use mathlib.Core.Path.{_≡_, sym, ap, ap₂, _∙_}
 use Rattle.code.specs.Code.{cellOf}
 use Rattle.shape.specs.Shape.{shapeOf, cornersOf}
 use Rattle.jeguarivo.specs.Entries.{cornerCount}
-use Rattle.code.specs.DecodedLaws.{decoded, undecoded}
+use Rattle.code.specs.Laws.Decoded.{decoded, undecoded}
 use Rattle.jeguarivo.proofs.Laws.{value-given, zero-given}
 use borrow.Author.Needs.{needs}
 use Rattle.jeguarivo.proofs.jgv_corner_count.Statement.{statement}

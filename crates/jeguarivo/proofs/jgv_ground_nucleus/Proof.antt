@@ -1,6 +1,6 @@
 -- `jgv_ground_nucleus` meets its contract. Assumes nothing.
 use mathlib.Core.Path.{_≡_, ap, _∙_}
-use Rattle.signed.specs.SignLaws.{back-result}
+use Rattle.signed.specs.Laws.Sign.{back-result}
 use Rattle.nucleus.specs.Nucleus.{groundNucleus}
 use Rattle.jeguarivo.specs.Entries.{groundFix, aFix, noFix}
 use Rattle.jeguarivo.proofs.Laws.{placed-stands, placed-value, placed-none}

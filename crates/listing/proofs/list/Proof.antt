@@ -2,7 +2,7 @@
 use mathlib.Core.Path.{_≡_, refl, sym, _∙_}
 use lib.ListN.{length}
 use Rattle.listing.specs.List.{codesIn}
-use Rattle.reader.specs.AnswerLaws.{Read, Unread, answered, refused}
+use Rattle.reader.specs.Laws.Answer.{Read, Unread, answered, refused}
 use Rattle.listing.proofs.Answers.{counted, short, enough, unread, nothing-listed, all-listed}
 use native.Mathlib.Omega.{arith}
 use borrow.Author.Needs.{needs}

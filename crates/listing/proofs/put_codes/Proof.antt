@@ -7,7 +7,7 @@ use lib.ListN.{length, drop}
 use borrow.Author.Needs.{needs}
 use borrow.Author.Tests.{not-true, not-false}
 use Rattle.walk.specs.Walk.{wholeAt}
-use Rattle.walk.specs.WalkLaws.{goes-here}
+use Rattle.walk.specs.Laws.Walk.{goes-here}
 use Rattle.listing.specs.List.{codesOf}
 use Rattle.listing.proofs.Laws.{Lists, lists-start, on, lists-past, has-room, lists-put, lists-end}
 use Rattle.listing.proofs.put_codes.Statement.{statement}

@@ -7,11 +7,11 @@ use borrow.Author.Needs.{needs}
 use lib.IntN.{ℤ, natAbs}
 use Rattle.cell.specs.declared.Arrangement.{Arrangement}
 use Rattle.signed.specs.Sign.{negative, withSign}
-use Rattle.signed.specs.SignLaws.{back, below-zero, sign-and-size}
+use Rattle.signed.specs.Laws.Sign.{back, below-zero, sign-and-size}
 use Rattle.locate.specs.Fix.{inBelt, eastOf, offsetOf, heightOf, beltCell, capCell, northCell, southCell, fixCell}
-use Rattle.locate.specs.End.{endOf}
-use Rattle.locate.specs.FixLaws.{fix-belt, fix-south, fix-north}
-use Rattle.locate.specs.RangeLaws.{longitude-low, east-small, z-small, belt-at, cap-at, offset-small}
+use Rattle.locate.specs.Internal.End.{endOf}
+use Rattle.locate.specs.Laws.Fix.{fix-belt, fix-south, fix-north}
+use Rattle.locate.specs.Internal.RangeLaws.{longitude-low, east-small, z-small, belt-at, cap-at, offset-small}
 use Rattle.locate.proofs.Laws.{stands-cell}
 use Rattle.locate.proofs.cell_of.Statement.{statement}
 use Rattle.locate.proofs.cell_of.Tie as tie

@@ -10,8 +10,8 @@ use Rattle.cell.specs.Cell.{IsArrangement}
 use Rattle.cell.specs.Neighbour.{turnOf}
 use Rattle.root.specs.Floor.{axisOf}
 use Rattle.locate.specs.Fix.{Point, quarter, startNorth, startSouth, turnedNorth}
-use Rattle.locate.specs.End.{Stands, endOf}
-use Rattle.locate.specs.TurnLaws.{south-turned}
+use Rattle.locate.specs.Internal.End.{Stands, endOf}
+use Rattle.locate.specs.Laws.Turn.{south-turned}
 use Rattle.locate.proofs.end_of.Statement.{statement}
 use Rattle.locate.proofs.end_of.Tie as tie
 

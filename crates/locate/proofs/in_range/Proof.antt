@@ -3,7 +3,7 @@ use mathlib.Core.Path.{_≡_, sym, ap₂, _∙_}
 use borrow.Author.Needs.{needs}
 use mir.Syntax.{w64}
 use mir.Val.{toZ, ofZ}
-use Rattle.signed.specs.SignLaws.{back}
+use Rattle.signed.specs.Laws.Sign.{back}
 use Rattle.locate.specs.Fix.{inRange}
 use Rattle.locate.proofs.Laws.{last, no-third, no-second, no-first}
 use Rattle.locate.proofs.in_range.Statement.{statement}

@@ -11,7 +11,7 @@ use Rattle.ternary.specs.Digits.{value}
 use Rattle.code.specs.declared.Coded.the-variants.{Code}
 use Rattle.code.specs.Code.{coded, codeAt}
 use Rattle.name.specs.Name.{firstLetter, allDigits, digitsIn, nameRefusal, nameCode}
-use Rattle.name.specs.NameLaws.{Accepted, letter-bounds, path-below, not-refused}
+use Rattle.name.specs.Laws.Name.{Accepted, letter-bounds, path-below, not-refused}
 use Rattle.name.proofs.Laws.{read-bad, read-good}
 use Rattle.name.proofs.name_code.Statement.{statement}
 use Rattle.name.proofs.name_code.Tie as tie

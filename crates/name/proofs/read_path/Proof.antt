@@ -6,7 +6,7 @@ use native.Mathlib.Nat.{pow-suc}
 use native.Mathlib.Omega.{arith}
 use lib.ListN.{length, drop, getD, drop-of-length-le}
 use borrow.Author.Needs.{needs}
-use Rattle.ternary.specs.Powers.{nine-le}
+use Rattle.ternary.specs.Laws.Powers.{nine-le}
 use Rattle.name.specs.Name.{allDigits, isDigit}
 use Rattle.name.proofs.Laws.{read, read-all, low-digit, high-digit, a-digit, stopped, further, read-on, no-digit, all-digits}
 use Rattle.name.proofs.read_path.Statement.{statement}

@@ -8,10 +8,10 @@ use lib.Dec.{eqb, ltb, lit<}
 use lib.IntN.{ℤ, pos, negℤ, subℕ}
 use borrow.Author.Needs.{needs}
 use borrow.Author.Tests.{lt-ltb, le-ltb}
-use Rattle.logic.specs.Order.{lt-or}
-use Rattle.signed.specs.SignLaws.{back-as}
+use Rattle.logic.specs.Laws.Order.{lt-or}
+use Rattle.signed.specs.Laws.Sign.{back-as}
 use Rattle.nucleus.specs.Nucleus.{floorZ}
-use Rattle.nucleus.specs.FlooredLaws.{floor-plus, floor-minus, floor-signed}
+use Rattle.nucleus.specs.Internal.FlooredLaws.{floor-plus, floor-minus, floor-signed}
 use Rattle.nucleus.proofs.belt_z.Statement.{statement}
 use Rattle.nucleus.proofs.belt_z.Tie as tie
 

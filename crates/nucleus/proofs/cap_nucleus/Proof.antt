@@ -6,11 +6,11 @@ use native.Mathlib.Nat.{mul-pos, mul-lt-mul-of-pos-left}
 use native.Mathlib.Omega.{arith}
 use lib.IntN.{pos, negℤ}
 use borrow.Author.Needs.{needs}
-use Rattle.signed.specs.SignLaws.{back-as}
+use Rattle.signed.specs.Laws.Sign.{back-as}
 use Rattle.locate.specs.Fix.{Point}
 use Rattle.nucleus.specs.Nucleus.{fix, centred, capLongitude, northZ, southZ, northNucleus, southNucleus}
-use Rattle.nucleus.specs.TriangleLaws.{middle, Inside, OffCentre, IsStart}
-use Rattle.nucleus.specs.StartLaws.{off-centre, north-is, south-is, north-pole, south-pole}
+use Rattle.nucleus.specs.Internal.TriangleLaws.{middle, Inside, OffCentre, IsStart}
+use Rattle.nucleus.specs.Internal.StartLaws.{off-centre, north-is, south-is, north-pole, south-pole}
 use Rattle.nucleus.proofs.Laws.{finer-cap}
 use Rattle.nucleus.proofs.cap_nucleus.Statement.{statement}
 use Rattle.nucleus.proofs.cap_nucleus.Tie as tie

@@ -7,11 +7,11 @@ use native.Mathlib.Omega.{arith}
 use lib.Dec.{eqb, lit<}
 use lib.IntN.{pos, negℤ, subℕ}
 use borrow.Author.Needs.{needs}
-use Rattle.signed.specs.SignLaws.{back-as}
-use Rattle.locate.specs.PartLaws.{part-lt}
+use Rattle.signed.specs.Laws.Sign.{back-as}
+use Rattle.locate.specs.Laws.Part.{part-lt}
 use Rattle.nucleus.specs.Nucleus.{floorZ, northZ, southZ}
-use Rattle.nucleus.specs.FlooredLaws.{floor-signed}
-use Rattle.nucleus.specs.CapLaws.{north-z, south-z}
+use Rattle.nucleus.specs.Internal.FlooredLaws.{floor-signed}
+use Rattle.nucleus.specs.Internal.CapLaws.{north-z, south-z}
 use Rattle.nucleus.proofs.Laws.{height-le}
 use Rattle.nucleus.proofs.cap_z.Statement.{statement}
 use Rattle.nucleus.proofs.cap_z.Tie as tie

@@ -6,7 +6,7 @@ use native.Mathlib.Omega.{arith}
 use lib.Dec.{eqb, lit<}
 use lib.IntN.{pos, subℕ}
 use borrow.Author.Needs.{needs}
-use Rattle.signed.specs.SignLaws.{back-as, pos-sub}
+use Rattle.signed.specs.Laws.Sign.{back-as, pos-sub}
 use Rattle.nucleus.proofs.floored.Statement.{statement}
 use Rattle.nucleus.proofs.floored.Tie as tie
 

@@ -9,18 +9,18 @@ use borrow.Author.Needs.{needs}
 use lib.Dec.{ltb}
 use lib.IntN.{subℕ}
 use borrow.Author.Tests.{lt-ltb, le-ltb}
-use Rattle.ternary.specs.Powers.{power-le, power-pos}
-use Rattle.signed.specs.SignLaws.{back-as}
+use Rattle.ternary.specs.Laws.Powers.{power-le, power-pos}
+use Rattle.signed.specs.Laws.Sign.{back-as}
 use Rattle.cell.specs.declared.Cell.{Cell}
 use Rattle.cell.specs.declared.Arrangement.{Arrangement}
 use Rattle.cell.specs.Cell.{IsCell, IsArrangement}
 use Rattle.cell.specs.Neighbour.{rows}
-use Rattle.cell.specs.CellLaws.{row-small, column-small}
+use Rattle.cell.specs.Laws.Cell.{row-small, column-small}
 use Rattle.locate.specs.Fix.{quarter}
 use Rattle.nucleus.specs.declared.Fix.{Fix}
 use Rattle.nucleus.specs.Nucleus.{fix, beltLongitude, beltZ, northNucleus, southNucleus, groundNucleus}
-use Rattle.nucleus.specs.TriangleLaws.{middle, Inside}
-use Rattle.nucleus.specs.PlaceLaws.{on-north, on-belt, on-south}
+use Rattle.nucleus.specs.Internal.TriangleLaws.{middle, Inside}
+use Rattle.nucleus.specs.Internal.PlaceLaws.{on-north, on-belt, on-south}
 use Rattle.nucleus.proofs.Laws.{up-times, finer-along, finer-z, finer-lt}
 use Rattle.nucleus.proofs.ground_nucleus.Statement.{statement}
 use Rattle.nucleus.proofs.ground_nucleus.Tie as tie

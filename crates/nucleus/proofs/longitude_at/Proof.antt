@@ -3,7 +3,7 @@ use Prim.Native.Nat.{_*_, _/_, _<_}
 use native.Mathlib.Nat.{div-lt-iff-lt-mul}
 use native.Mathlib.Omega.{arith}
 use borrow.Author.Needs.{needs}
-use Rattle.signed.specs.SignLaws.{back-as}
+use Rattle.signed.specs.Laws.Sign.{back-as}
 use Rattle.nucleus.proofs.longitude_at.Statement.{statement}
 use Rattle.nucleus.proofs.longitude_at.Tie as tie
 

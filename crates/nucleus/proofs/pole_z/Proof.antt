@@ -1,7 +1,7 @@
 -- `nucleus::pole_z` meets its contract. Assumes nothing.
 use native.Mathlib.Omega.{arith}
 use borrow.Author.Needs.{needs}
-use Rattle.signed.specs.SignLaws.{back-as}
+use Rattle.signed.specs.Laws.Sign.{back-as}
 use Rattle.nucleus.proofs.pole_z.Statement.{statement}
 use Rattle.nucleus.proofs.pole_z.Tie as tie
 

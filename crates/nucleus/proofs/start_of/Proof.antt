@@ -3,7 +3,7 @@ use mathlib.Core.Logic.{⊎-elim}
 use Prim.Native.Nat.{_+_, _*_, _≤_, _<_}
 use native.Mathlib.Omega.{arith}
 use borrow.Author.Needs.{needs}
-use Rattle.nucleus.specs.TriangleLaws.{before-centre, start-0, start-1, start-2, start-3}
+use Rattle.nucleus.specs.Internal.TriangleLaws.{before-centre, start-0, start-1, start-2, start-3}
 use Rattle.nucleus.proofs.start_of.Statement.{statement}
 use Rattle.nucleus.proofs.start_of.Tie as tie
 

@@ -3,7 +3,7 @@ use mathlib.Core.Path.{_≡_, _∙_, ap}
 use native.Mathlib.Omega.{arith}
 use borrow.Author.Needs.{needs}
 use Rattle.reading.specs.Reading.{first, many}
-use Rattle.place.specs.Stack.{hereOf}
+use Rattle.place.specs.Internal.Stack.{hereOf}
 use Rattle.place.proofs.Laws.{base-fits, many-fits, stand-low, stand-high, stand-other, stand-ninth}
 use Rattle.place.proofs.may_stand.Statement.{statement}
 use Rattle.place.proofs.may_stand.Tie as tie

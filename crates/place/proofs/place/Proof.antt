@@ -6,8 +6,8 @@ use native.Mathlib.Omega.{arith}
 use lib.ListN.{length, getD}
 use borrow.Author.Needs.{needs}
 use borrow.Author.Tests.{not-true, not-false}
-use Rattle.reading.specs.ReadingLaws.{many-most}
-use Rattle.place.specs.Stack.{hereOf, mayOpen, mayShut, mayStand}
+use Rattle.reading.specs.Laws.Reading.{many-most}
+use Rattle.place.specs.Internal.Stack.{hereOf, mayOpen, mayShut, mayStand}
 use Rattle.place.proofs.Steps.{open-named, open-deeper, shut-inside, stand-from, stand-below}
 use Rattle.place.proofs.Laws.{Inv, start-inv, low-most, whole-most, named-some, at-end, stop-open, stop-shut, stop-stand, go-open, go-shut, go-stand}
 use Rattle.place.proofs.place.Statement.{statement}

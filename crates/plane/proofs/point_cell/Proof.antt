@@ -10,13 +10,13 @@ use Rattle.logic.specs.Refusal.{refuse, _otherwise_}
 use Rattle.cell.specs.declared.Arrangement.{Arrangement}
 use Rattle.cell.specs.declared.Found.the-variants.{Refused}
 use Rattle.cell.specs.Cell.{IsArrangement, found}
-use Rattle.cell.specs.CellLaws.{is-arrangement}
-use Rattle.cell.specs.FoundLaws.{refused, then}
+use Rattle.cell.specs.Laws.Cell.{is-arrangement}
+use Rattle.cell.specs.Laws.Found.{refused, then}
 use Rattle.signed.specs.Sign.{negative}
-use Rattle.signed.specs.SignLaws.{back}
+use Rattle.signed.specs.Laws.Sign.{back}
 use Rattle.plane.specs.Plane.{inImage, pointCell, pointRefusal}
-use Rattle.plane.specs.Depth.{depthBelow, foundAt}
-use Rattle.plane.specs.ImageLaws.{image-west, refusal-is, found-is}
+use Rattle.plane.specs.Internal.Depth.{depthBelow, foundAt}
+use Rattle.plane.specs.Internal.ImageLaws.{image-west, refusal-is, found-is}
 use Rattle.plane.proofs.point_cell.Statement.{statement}
 use Rattle.plane.proofs.point_cell.Tie as tie
 

@@ -10,7 +10,7 @@ use borrow.Author.Tests.{eqb-true, eqb-false, not-true, not-false}
 use borrow.Fn.Kinds.{In}
 use borrow.Fn.PlainCycle.{Measures, is, falls, and}
 use Rattle.reading.specs.Reading.{first, room}
-use Rattle.reading.specs.ReadingLaws.{many-most}
+use Rattle.reading.specs.Laws.Reading.{many-most}
 use Rattle.reader.proofs.Readers as rd
 use Rattle.reader.proofs.Readers.{Opens, Runs}
 use Rattle.reader.proofs.node.Reads as node

@@ -5,7 +5,7 @@ use Prim.Native.Nat.{ℕ, _-_, _≤_}
 use native.Mathlib.Omega.{arith}
 use lib.ListN.{length, take, drop, take-append-drop}
 use lib.Seq.{take-all}
-use Rattle.console.specs.LineLaws.{put-first}
+use Rattle.console.specs.Laws.Line.{put-first}
 use Rattle.track.specs.Track.{Held}
 use Rattle.record.specs.Recorded.{Goes}
 use Rattle.record.proofs.Laws.{goes-none, goes-as, goes-line, goes-open, line-unended, line-part, last-unended, last-part}

@@ -4,9 +4,9 @@ use mathlib.Core.List.{List, _++_}
 use Prim.Native.Nat.{ℕ}
 use lib.ListN.{take}
 use lib.Seq.{length-take-le}
-use Rattle.console.specs.LineLaws.{put-first}
+use Rattle.console.specs.Laws.Line.{put-first}
 use Rattle.flight.specs.Flight.{lineCode}
-use Rattle.flight.specs.LinesLaws.{cut-whole}
+use Rattle.flight.specs.Laws.Lines.{cut-whole}
 use Rattle.record.proofs.Laws.{took-as}
 use borrow.Author.Needs.{needs}
 use Rattle.record.proofs.fly_rest.Statement.{statement}

@@ -5,9 +5,9 @@ use native.Mathlib.Nat.{le-of-lt, mul-le-mul, mul-div-mul-right}
 use native.Mathlib.Omega.{arith}
 use borrow.Author.Needs.{needs}
 use lib.IntN.{ℤ, natAbs}
-use Rattle.ternary.specs.Powers.{power-le, power-pos, power-add}
+use Rattle.ternary.specs.Laws.Powers.{power-le, power-pos, power-add}
 use Rattle.root.specs.Floor.{rootFloor, axisOf}
-use Rattle.root.specs.FloorLaws.{floor-below, floor-part, axis-size}
+use Rattle.root.specs.Laws.Floor.{floor-below, floor-part, axis-size}
 use Rattle.root.proofs.floor.Statement.{statement}
 use Rattle.root.proofs.floor.Tie as tie
 

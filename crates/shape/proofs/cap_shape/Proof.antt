@@ -6,7 +6,7 @@ use native.Mathlib.Omega.{arith}
 use lib.Dec.{eqb}
 use borrow.Author.Needs.{needs}
 use borrow.Author.Tests.{eq-eqb, ne-eqb}
-use Rattle.logic.specs.Bools.{not-both}
+use Rattle.logic.specs.Laws.Bools.{not-both}
 use Rattle.shape.specs.Shape.{capShape}
 use Rattle.shape.proofs.cap_shape.Statement.{statement}
 use Rattle.shape.proofs.cap_shape.Tie as tie

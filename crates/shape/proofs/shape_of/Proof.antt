@@ -5,7 +5,7 @@ use Prim.Native.Nat.{ℕ}
 use native.Mathlib.Omega.{arith}
 use borrow.Author.Needs.{needs}
 use borrow.Author.Tests.{lt-ltb, le-ltb}
-use Rattle.ternary.specs.Powers.{power-le}
+use Rattle.ternary.specs.Laws.Powers.{power-le}
 use Rattle.shape.specs.Shape.{capShape, shapeOf}
 use Rattle.shape.proofs.shape_of.Statement.{statement}
 use Rattle.shape.proofs.shape_of.Tie as tie

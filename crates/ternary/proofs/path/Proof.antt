@@ -3,7 +3,7 @@ use mathlib.Core.Path.{_≡_, ap₂, _∙_}
 use Prim.Native.Nat.{ℕ, _+_, _*_, _/_, _%_}
 use native.Mathlib.Omega.{arith}
 use borrow.Author.Needs.{needs}
-use Rattle.ternary.specs.Parts.{parts}
+use Rattle.ternary.specs.Internal.Parts.{parts}
 use Rattle.ternary.specs.Weave.{weave}
 use Rattle.ternary.proofs.Parts.{both-parts, long, spread-small}
 use Rattle.ternary.proofs.path.Statement.{statement}

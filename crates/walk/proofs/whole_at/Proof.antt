@@ -9,7 +9,7 @@ use lib.Dec.{eqb}
 use borrow.Author.Tests.{eq-eqb, ne-eqb}
 use borrow.Author.Needs.{needs}
 use Rattle.walk.specs.Walk.{opens, wholeAt}
-use Rattle.walk.specs.WalkLaws.{byte-at}
+use Rattle.walk.specs.Laws.Walk.{byte-at}
 use Rattle.walk.proofs.whole_at.Statement.{statement}
 use Rattle.walk.proofs.whole_at.Tie as tie
 

@@ -2,7 +2,7 @@
 use native.Mathlib.Omega.{arith}
 use mathlib.Core.Path.{_≡_, refl, sym, ap, _∙_}
 use mathlib.Core.List.{[]}
-use Rattle.writing.specs.EntryLaws.{LengthIs, top-at, top-length}
+use Rattle.writing.specs.Internal.EntryLaws.{LengthIs, top-at, top-length}
 use borrow.Author.Needs.{needs}
 use Rattle.writing.proofs.length_of.Statement.{statement}
 use Rattle.writing.proofs.length_of.Tie as tie

@@ -4,8 +4,8 @@ use borrow.Author.Needs.{needs}
 use Prim.Native.Nat.{_-_}
 use lib.ListN.{length, getD}
 use Rattle.code.specs.Code.{cellOf, sizeOf}
-use Rattle.code.specs.InsideLaws.{size-small}
-use Rattle.writing.specs.Whole.{Tiled}
+use Rattle.code.specs.Laws.Inside.{size-small}
+use Rattle.writing.specs.Internal.Whole.{Tiled}
 use Rattle.writing.proofs.WholeSteps as ws
 use Rattle.writing.proofs.whole_until.Statement.{statement}
 use Rattle.writing.proofs.whole_until.Tie as tie

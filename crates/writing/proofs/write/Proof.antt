@@ -3,9 +3,9 @@ use native.Mathlib.Omega.{arith}
 use mathlib.Core.Path.{_≡_, refl, sym, ap, _∙_}
 use mathlib.Core.List.{[]}
 use lib.ListN.{length}
-use Rattle.cell.specs.CellLaws.{is-arrangement}
+use Rattle.cell.specs.Laws.Cell.{is-arrangement}
 use Rattle.reading.specs.declared.Level.the-variants.{Faces}
-use Rattle.writing.specs.EntryLaws.{top-at, top-text}
+use Rattle.writing.specs.Internal.EntryLaws.{top-at, top-text}
 use Rattle.writing.proofs.EntrySteps as es
 use borrow.Author.Needs.{needs}
 use Rattle.writing.proofs.write.Statement.{statement}

@@ -5,9 +5,9 @@ use borrow.Author.Needs.{needs}
 use borrow.Author.Tests.{lt-ltb, le-ltb, eq-eqb, ne-eqb}
 use Rattle.logic.specs.Refusal.{_otherwise_}
 use Rattle.cell.specs.Cell.{IsCell, found}
-use Rattle.cell.specs.CellLaws.{is-cell, row-small, column-small}
+use Rattle.cell.specs.Laws.Cell.{is-cell, row-small, column-small}
 use Rattle.cell.specs.Hierarchy.{childRefusal, childOf}
-use Rattle.cell.specs.FoundLaws.{refused, then}
+use Rattle.cell.specs.Laws.Found.{refused, then}
 use Rattle.cell.proofs.Cell.child.Statement.{statement}
 use Rattle.cell.proofs.Cell.child.Tie as tie
 

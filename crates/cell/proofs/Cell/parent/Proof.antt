@@ -3,7 +3,7 @@ use borrow.Author.Needs.{needs}
 use borrow.Author.Tests.{eq-eqb, ne-eqb}
 use Rattle.cell.specs.Cell.{found}
 use Rattle.cell.specs.Hierarchy.{parentRefusal, parentOf}
-use Rattle.cell.specs.FoundLaws.{refused, then}
+use Rattle.cell.specs.Laws.Found.{refused, then}
 use Rattle.cell.proofs.Cell.parent.Statement.{statement}
 use Rattle.cell.proofs.Cell.parent.Tie as tie
 

@@ -6,15 +6,15 @@ use lib.Dec.{ltb}
 use borrow.Author.Needs.{needs}
 use borrow.Author.Tests.{lt-ltb, le-ltb}
 use Rattle.logic.specs.Refusal.{refuse}
-use Rattle.ternary.specs.Powers.{power-pos}
+use Rattle.ternary.specs.Laws.Powers.{power-pos}
 use Rattle.cell.specs.declared.Cell.{Cell}
 use Rattle.cell.specs.declared.Found.{Found}
 use Rattle.cell.specs.declared.Found.the-variants.{At}
 use Rattle.cell.specs.Cell.{IsCell, IsArrangement, found}
-use Rattle.cell.specs.CellLaws.{is-cell, is-arrangement}
+use Rattle.cell.specs.Laws.Cell.{is-cell, is-arrangement}
 use Rattle.cell.specs.Neighbour.{neighbourOf, neighbourRefusal}
-use Rattle.cell.specs.Seams.{step-across, step-within}
-use Rattle.cell.specs.FoundLaws.{refused, then}
+use Rattle.cell.specs.Internal.Seams.{step-across, step-within}
+use Rattle.cell.specs.Laws.Found.{refused, then}
 use Rattle.cell.proofs.Cell.step.Statement.{statement}
 use Rattle.cell.proofs.Cell.step.Tie as tie
 

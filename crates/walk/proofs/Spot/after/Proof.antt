@@ -6,7 +6,7 @@ use native.Mathlib.Omega.{arith}
 use lib.Dec.{ltb}
 use borrow.Author.Tests.{eq-eqb, ne-eqb, ltb-true}
 use borrow.Author.Needs.{needs}
-use Rattle.ternary.specs.Powers.{nine-le}
+use Rattle.ternary.specs.Laws.Powers.{nine-le}
 use Rattle.walk.specs.declared.Spot.{Spot}
 use Rattle.walk.specs.Walk.{spot, Fits, numberIn, after, goesOn}
 use Rattle.walk.proofs.Spot.after.Statement.{statement}

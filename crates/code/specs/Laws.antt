@@ -1,0 +1,5 @@
+pub mod Code
+pub mod Decoded
+pub mod Inside
+pub mod Number
+pub mod Size

@@ -1,0 +1,3 @@
+pub mod Fix
+pub mod Part
+pub mod Turn

@@ -1,0 +1,4 @@
+pub mod Bools
+pub mod Order
+pub mod Refusal
+pub mod Stores

@@ -1,0 +1,12 @@
+pub mod BeltLaws
+pub mod CapLaws
+pub mod FlooredLaws
+pub mod FractionLaws
+pub mod NearLaws
+pub mod OnceLaws
+pub mod OneStartLaws
+pub mod PlaceLaws
+pub mod RuleLaws
+pub mod SentLaws
+pub mod StartLaws
+pub mod TriangleLaws

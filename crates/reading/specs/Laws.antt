@@ -1,0 +1,9 @@
+pub mod Demand
+pub mod Fewest
+pub mod Ground
+pub mod Named
+pub mod Parse
+pub mod Place
+pub mod Reading
+pub mod Report
+pub mod Rising

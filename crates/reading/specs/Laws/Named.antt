@@ -1,0 +1,260 @@
+-- Names and cells: every name is one cell's and every cell has one name, and a name begins another exactly when the one's cell has the other's inside.
+-- Assumes nothing.
+use mathlib.Core.Path.{_≡_, refl, sym, ap, ap₂, _∙_}
+use mathlib.Core.Logic.{inl, inr}
+use mathlib.Core.List.{List, [], _∷_, _++_, map, map-append, append-assoc, append-nil}
+use Prim.Native.Nat.{ℕ, zero, suc, _+_, _-_, _*_, _/_, _%_, _^_, _<_}
+use native.Mathlib.Nat.{pow-suc, mul-comm, mul-assoc, add-mul, zero-mul, div-one, div-div-eq-div-mul, div-eq-of-lt, mul-add-div-right}
+use native.Mathlib.Omega.{arith}
+use lib.ListN.{length, length-append, length-map}
+use Rattle.ternary.specs.Digits.{value, Below}
+use Rattle.ternary.specs.Laws.Digits.{value-snoc, value-below, value-one}
+use Rattle.ternary.specs.Laws.Powers.{power-add, power-pos}
+use Rattle.cell.specs.declared.Cell.{Cell}
+use Rattle.cell.specs.Cell.{IsCell}
+use Rattle.code.specs.Code.{digitsOf, sizeOf}
+use Rattle.code.specs.Laws.Code.{length-digits-of, digits-of-below}
+use Rattle.code.specs.Inside.{Inside}
+use Rattle.reading.specs.Ground.{cellNamed, Finest, Covers, SameGround, Cells, sizeSum}
+use Rattle.reading.specs.Prefix.{Name, nameOf, Prefix, Covered, FinestName, SameNames, IsName, Names, sizes}
+use Rattle.reading.specs.Laws.Ground.{digs-below}
+
+-- ---- a digit is 3 times that of the row plus that of the column
+
+abbrev rows : List ℕ → List ℕ
+rows ds = map (λ d. d / 3) ds
+
+abbrev columns : List ℕ → List ℕ
+columns ds = map (λ d. d % 3) ds
+
+rows-below : (ds : List ℕ) → Below 9 ds → Below 3 (rows ds)
+rows-below [] h = tt
+rows-below (d ∷ ds) h = (omega (arith, h .0), rows-below ds (h .1))
+
+columns-below : (ds : List ℕ) → Below 3 (columns ds)
+columns-below [] = tt
+columns-below (d ∷ ds) = (omega arith, columns-below ds)
+
+both-digits : (ds es : List ℕ) → rows ds ≡ rows es → columns ds ≡ columns es → ds ≡ es
+both-digits [] [] p q = refl
+both-digits [] (e ∷ es) p q = absurd (omega (arith, ap length p))
+both-digits (d ∷ ds) [] p q = absurd (omega (arith, ap length p))
+both-digits (d ∷ ds) (e ∷ es) p q =
+    let i : d / 3 ≡ e / 3 = cc in
+    let j : d % 3 ≡ e % 3 = cc in
+    ap₂ _∷_ (omega arith) (both-digits ds es (cc) (cc))
+
+-- ---- a name is a cell's
+
+row-small : (ds : List ℕ) → Below 9 ds → value 3 (rows ds) < 3 ^ length ds
+row-small ds h = let e = length-map ds (λ (d : ℕ). d / 3) in rw e at (value-below 3 (rows ds) (rows-below ds h))
+
+column-small : (ds : List ℕ) → value 3 (columns ds) < 3 ^ length ds
+column-small ds = let e = length-map ds (λ (d : ℕ). d % 3) in rw e at (value-below 3 (columns ds) (columns-below ds))
+
+pub named-cell : (q : Name) → IsName 6 15 q → IsCell (cellNamed q)
+unfolding cellNamed
+named-cell [] n = absurd n
+named-cell (f ∷ ds) n = record { fine = n .1; faced = omega (arith, n .0); rowed = row-small ds (n .2); columned = column-small ds }
+
+-- ---- a cell has a name
+
+row-digits : (k i j : ℕ) → i < 3 ^ k → value 3 (rows (digitsOf k i j)) ≡ i
+unfolding digitsOf value
+row-digits zero i j h = omega arith
+row-digits (suc k) i j h =
+    let ds = digitsOf k (i / 3) (j / 3) in
+    let d = 3 * (i % 3) + j % 3 in
+    let e : value 3 (rows ds) ≡ i / 3 = row-digits k (i / 3) (j / 3) (omega (arith, pow-suc 3 k)) in
+    ap (value 3) (map-append (λ (d : ℕ). d / 3) ds (d ∷ [])) ∙ value-snoc 3 (rows ds) (d / 3) ∙ omega arith
+
+column-digits : (k i j : ℕ) → j < 3 ^ k → value 3 (columns (digitsOf k i j)) ≡ j
+unfolding digitsOf value
+column-digits zero i j h = omega arith
+column-digits (suc k) i j h =
+    let ds = digitsOf k (i / 3) (j / 3) in
+    let d = 3 * (i % 3) + j % 3 in
+    let e : value 3 (columns ds) ≡ j / 3 = column-digits k (i / 3) (j / 3) (omega (arith, pow-suc 3 k)) in
+    ap (value 3) (map-append (λ (d : ℕ). d % 3) ds (d ∷ [])) ∙ value-snoc 3 (columns ds) (d % 3) ∙ omega arith
+
+pub cell-is-named : (x : Cell) → IsCell x → IsName 6 15 (nameOf x)
+unfolding nameOf
+cell-is-named x v =
+    (omega (arith, v .faced), omega (arith, v .fine, length-digits-of (x .resolution) (x .row) (x .column)), digits-of-below (x .resolution) (x .row) (x .column))
+
+pub cell-named : (x : Cell) → IsCell x → cellNamed (nameOf x) ≡ x
+unfolding cellNamed nameOf
+cell-named x v =
+    λ i. record {
+      face = x .face;
+      resolution = length-digits-of (x .resolution) (x .row) (x .column) i;
+      row = row-digits (x .resolution) (x .row) (x .column) (v .rowed) i;
+      column = column-digits (x .resolution) (x .row) (x .column) (v .columned) i;
+    }
+
+-- ---- and no other
+
+pub name-named : (q : Name) → IsName 6 15 q → nameOf (cellNamed q) ≡ q
+unfolding cellNamed nameOf
+name-named [] n = absurd n
+name-named (f ∷ ds) n =
+    let k : ℕ = length ds in
+    let i : ℕ = value 3 (rows ds) in
+    let j : ℕ = value 3 (columns ds) in
+    let es : List ℕ = digitsOf k i j in
+    let m : length es ≡ k = length-digits-of k i j in
+    let p : rows es ≡ rows ds =
+    value-one 3 (rows es) (rows ds) (rows-below es (digits-of-below k i j)) (rows-below ds (n .2)) (length-map es _ ∙ m ∙ sym (length-map ds _)) (row-digits k i j (row-small ds (n .2))) in
+    let q : columns es ≡ columns ds =
+    value-one 3 (columns es) (columns ds) (columns-below es) (columns-below ds) (length-map es _ ∙ m ∙ sym (length-map ds _)) (column-digits k i j (column-small ds)) in
+    ap (λ (x : List ℕ). f ∷ x) (both-digits es ds p q)
+
+pub only-name : {x : Cell} (q : Name) → IsName 6 15 q → cellNamed q ≡ x → q ≡ nameOf x
+only-name q n e = sym (name-named q n) ∙ ap nameOf e
+
+-- ---- what lies inside has the name in front
+
+-- the last r digits, and the digits of the row and the column without theirs
+digits-append : (k r i j : ℕ) → digitsOf (k + r) i j ≡ digitsOf k (i / 3 ^ r) (j / 3 ^ r) ++ digitsOf r i j
+unfolding digitsOf
+digits-append k zero i j =
+    let e : k + 0 ≡ k = omega arith in
+    ap (λ (x : ℕ). digitsOf x i j) e ∙ sym (append-nil (digitsOf k (i / 1) (j / 1)) ∙ ap₂ (digitsOf k) (div-one i) (div-one j))
+digits-append k (suc r) i j =
+    let e : k + suc r ≡ suc (k + r) = omega arith in
+    let t : 3 * 3 ^ r ≡ 3 ^ suc r = mul-comm 3 (3 ^ r) ∙ sym (pow-suc 3 r) in
+    let d : List ℕ = (3 * (i % 3) + j % 3) ∷ [] in
+    let f : (x : ℕ) → x / 3 / 3 ^ r ≡ x / 3 ^ suc r = λ x. div-div-eq-div-mul x 3 (3 ^ r) ∙ ap (λ (y : ℕ). x / y) t in
+    ap (λ (x : ℕ). digitsOf x i j) e
+    ∙ ap (λ (x : List ℕ). x ++ d) (digits-append k r (i / 3) (j / 3))
+    ∙ append-assoc (digitsOf k (i / 3 / 3 ^ r) (j / 3 / 3 ^ r)) (digitsOf r (i / 3) (j / 3)) d
+    ∙ ap₂ (λ (x y : ℕ). digitsOf k x y ++ digitsOf (suc r) i j) (f i) (f j)
+
+prefix-append : (q p : Name) → Prefix q (q ++ p)
+prefix-append [] p = tt
+prefix-append (a ∷ q) p = (refl, prefix-append q p)
+
+pub inside-prefix : (c x : Cell) → Inside c x → Prefix (nameOf c) (nameOf x)
+unfolding nameOf
+inside-prefix c x i =
+    let r : ℕ = x .resolution - c .resolution in
+    let k : x .resolution ≡ c .resolution + r = omega (arith, i .finer) in
+    let e : digitsOf (x .resolution) (x .row) (x .column) ≡ digitsOf (c .resolution) (c .row) (c .column) ++ digitsOf r (x .row) (x .column) =
+    ap (λ (y : ℕ). digitsOf y (x .row) (x .column)) k
+    ∙ digits-append (c .resolution) r (x .row) (x .column)
+    ∙ ap₂ (λ (a b : ℕ). digitsOf (c .resolution) a b ++ digitsOf r (x .row) (x .column)) (i .row) (i .column) in
+    (sym (i .face), rw e (prefix-append (digitsOf (c .resolution) (c .row) (c .column)) (digitsOf r (x .row) (x .column))))
+
+-- ---- what has the name in front lies inside
+
+rest-of : (q p : Name) → Prefix q p → (s : Name) × (p ≡ q ++ s)
+rest-of [] p h = (p, refl)
+rest-of (a ∷ q) [] h = absurd h
+rest-of (a ∷ q) (b ∷ p) h = let e = rest-of q p (h .1) in (e .0, ap₂ _∷_ (sym (h .0)) (e .1))
+
+below-rest : (b : ℕ) (ds es : List ℕ) → Below b (ds ++ es) → Below b es
+below-rest b [] es h = h
+below-rest b (d ∷ ds) es h = below-rest b ds es (h .1)
+
+value-append : (ds es : List ℕ) → value 3 (ds ++ es) ≡ value 3 ds * 3 ^ length es + value 3 es
+unfolding value
+value-append [] es = omega (arith, zero-mul (3 ^ length es))
+value-append (d ∷ ds) es =
+    let n = length ds in
+    let m = length es in
+    let p : d * 3 ^ length (ds ++ es) ≡ d * 3 ^ n * 3 ^ m =
+    ap (λ (x : ℕ). d * 3 ^ x) (length-append ds es) ∙ ap (λ (x : ℕ). d * x) (power-add n m) ∙ sym (mul-assoc d (3 ^ n) (3 ^ m)) in
+    let q : value 3 (ds ++ es) ≡ value 3 ds * 3 ^ m + value 3 es = value-append ds es in
+    let r : (d * 3 ^ n + value 3 ds) * 3 ^ m ≡ d * 3 ^ n * 3 ^ m + value 3 ds * 3 ^ m = add-mul (d * 3 ^ n) (value 3 ds) (3 ^ m) in
+    omega arith
+
+-- a number without its last digits is the value of the digits in front
+value-front : (ds es : List ℕ) → Below 3 es → value 3 (ds ++ es) / 3 ^ length es ≡ value 3 ds
+value-front ds es h =
+    ap (λ (x : ℕ). x / 3 ^ length es) (value-append ds es)
+    ∙ mul-add-div-right (power-pos (length es)) (value 3 ds) (value 3 es)
+    ∙ (let z = div-eq-of-lt (value-below 3 es h) in omega arith)
+
+module _ (f : ℕ → ℕ) (ds es : List ℕ) (b : Below 3 (map f es)) where
+  map-front : value 3 (map f (ds ++ es)) / 3 ^ length es ≡ value 3 (map f ds)
+  map-front =
+      ap₂ (λ (x : List ℕ) (n : ℕ). value 3 x / 3 ^ n) (map-append f ds es) (sym (length-map es f)) ∙ value-front (map f ds) (map f es) b
+
+pub prefix-inside : (c x : Cell) → IsCell c → IsCell x → Prefix (nameOf c) (nameOf x) → Inside c x
+unfolding nameOf
+prefix-inside c x v w h =
+    let ds : List ℕ = digitsOf (c .resolution) (c .row) (c .column) in
+    let xs : List ℕ = digitsOf (x .resolution) (x .row) (x .column) in
+    let k = rest-of ds xs (h .1) in
+    let es : List ℕ = k .0 in
+    let e : xs ≡ ds ++ es = k .1 in
+    let m : length ds ≡ c .resolution = length-digits-of (c .resolution) (c .row) (c .column) in
+    let l : length xs ≡ x .resolution = length-digits-of (x .resolution) (x .row) (x .column) in
+    let n : length es ≡ x .resolution - c .resolution = omega (arith, ap length e, length-append ds es) in
+    let b : Below 9 es = below-rest 9 ds es (rw e at (digits-of-below (x .resolution) (x .row) (x .column))) in
+    let row-x : value 3 (rows (ds ++ es)) ≡ x .row = ap (λ (y : List ℕ). value 3 (rows y)) (sym e) ∙ row-digits (x .resolution) (x .row) (x .column) (w .rowed) in
+    let column-x : value 3 (columns (ds ++ es)) ≡ x .column = ap (λ (y : List ℕ). value 3 (columns y)) (sym e) ∙ column-digits (x .resolution) (x .row) (x .column) (w .columned) in
+    record {
+      face = sym (h .0);
+      finer = omega (arith, ap length e, length-append ds es);
+      row =
+          ap₂ (λ (y z : ℕ). y / 3 ^ z) (sym row-x) (sym n)
+          ∙ map-front (λ d. d / 3) ds es (rows-below es b)
+          ∙ row-digits (c .resolution) (c .row) (c .column) (v .rowed);
+      column =
+          ap₂ (λ (y z : ℕ). y / 3 ^ z) (sym column-x) (sym n)
+          ∙ map-front (λ d. d % 3) ds es (columns-below es)
+          ∙ column-digits (c .resolution) (c .row) (c .column) (v .columned);
+    }
+
+-- ---- lists of cells and of names
+
+pub covers-covered : (qs : List Cell) (x : Cell) → Covers qs x → Covered (map nameOf qs) (nameOf x)
+covers-covered [] x h = h
+covers-covered (q ∷ qs) x (inl h) = inl (inside-prefix q x h)
+covers-covered (q ∷ qs) x (inr h) = inr (covers-covered qs x h)
+
+pub covered-covers : (qs : List Cell) (x : Cell) → Cells qs → IsCell x → Covered (map nameOf qs) (nameOf x) → Covers qs x
+covered-covers [] x c w h = h
+covered-covers (q ∷ qs) x c w (inl h) = inl (prefix-inside q x (c .0) w h)
+covered-covers (q ∷ qs) x c w (inr h) = inr (covered-covers qs x (c .1) w h)
+
+pub cells-named : (qs : List Name) → Names 6 15 qs → Cells (map cellNamed qs)
+cells-named [] n = tt
+cells-named (q ∷ qs) n = (named-cell q (n .0), cells-named qs (n .1))
+
+pub names-named : (qs : List Name) → Names 6 15 qs → map nameOf (map cellNamed qs) ≡ qs
+names-named [] n = refl
+names-named (q ∷ qs) n = ap₂ _∷_ (name-named q (n .0)) (names-named qs (n .1))
+
+pub names-of-cells : (qs : List Cell) → Cells qs → Names 6 15 (map nameOf qs)
+names-of-cells [] c = tt
+names-of-cells (q ∷ qs) c = (cell-is-named q (c .0), names-of-cells qs (c .1))
+
+pub sizes-named : (qs : List Name) → Names 6 15 qs → sizeSum (map cellNamed qs) ≡ sizes 16 qs
+unfolding sizeSum sizes cellNamed sizeOf
+sizes-named [] n = refl
+sizes-named ([] ∷ qs) n = absurd (n .0)
+sizes-named ((f ∷ ds) ∷ qs) n =
+    let e : 15 - length ds ≡ 16 - suc (length ds) = omega arith in
+    ap₂ (λ (x y : ℕ). 9 ^ x + y) e (sizes-named qs (n .1))
+
+-- ---- ground
+
+pub finest-named : (p : Name) → FinestName 6 15 p → Finest (cellNamed p) × (nameOf (cellNamed p) ≡ p)
+unfolding cellNamed
+finest-named [] h = absurd h
+finest-named (x ∷ p) h =
+    let e = digs-below 15 p (h .1) in
+    let n : IsName 6 15 (x ∷ p) = (h .0, omega (arith, e .0), e .1) in
+    (record { cell = named-cell (x ∷ p) n; finest = e .0 }, name-named (x ∷ p) n)
+
+-- cells of one ground have names of one ground
+pub ground-names : (qs ps : List Cell) → Cells qs → Cells ps → SameGround qs ps → SameNames 6 15 (map nameOf qs) (map nameOf ps)
+ground-names qs ps a b f p h =
+    let k = finest-named p h in
+    let y : Cell = cellNamed p in
+    let g = f y (k .0) in (
+      (λ c. rw (k .1) at (covers-covered ps y (g .0 (covered-covers qs y a (k .0 .cell) (rw (k .1) c))))),
+      (λ c. rw (k .1) at (covers-covered qs y (g .1 (covered-covers ps y b (k .0 .cell) (rw (k .1) c))))),
+    )
