@@ -1,3 +1,4 @@
+pub mod Built
 pub mod Demand
 pub mod Fewest
 pub mod Ground
@@ -7,3 +8,4 @@ pub mod Place
 pub mod Reading
 pub mod Report
 pub mod Rising
+pub mod Written

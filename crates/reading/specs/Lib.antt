@@ -10,3 +10,4 @@ pub mod Report
 pub mod Scan
 pub mod Text
 pub mod TextReading
+pub mod Written

@@ -1,4 +1,3 @@
-pub mod BuiltLaws
 pub mod EntryLaws
 pub mod Measure
 pub mod MeasureLaws

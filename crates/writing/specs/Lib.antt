@@ -1,4 +1,3 @@
 pub mod Internal
 pub mod Laws
-pub mod Write
 pub mod WriteEntry

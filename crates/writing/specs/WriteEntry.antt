@@ -15,7 +15,7 @@ use Rattle.code.specs.Code.{digitsOf, pathOf, cellOf, isCode, sizeOf}
 use Rattle.code.specs.Inside.{startOf, endOf}
 use Rattle.writing.specs.declared.Written.{Written}
 use Rattle.writing.specs.declared.Written.the-variants.{Length, Refused}
-use Rattle.writing.specs.Write.{writtenText}
+use Rattle.reading.specs.Written.{writtenText}
 
 -- ---- "rising codes, none inside another"
 

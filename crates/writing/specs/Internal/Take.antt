@@ -4,7 +4,7 @@ use mathlib.Core.Logic.{_⊎_}
 use mathlib.Core.List.{List, [], _∷_, _++_}
 use Prim.Native.Nat.{ℕ, _+_}
 use Rattle.reading.specs.Prefix.{Name, Prefix, Ahead, AheadAll, Names, Rise}
-use Rattle.writing.specs.Write.{tails}
+use Rattle.reading.specs.Written.{tails}
 
 -- what follows the name w in the names that begin with it
 unfoldable pub restsOf : Name → List Name → List Name

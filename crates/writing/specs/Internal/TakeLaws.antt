@@ -13,7 +13,7 @@ use Rattle.logic.specs.Laws.Order.{lt-or}
 use Rattle.ternary.specs.Digits.{Below}
 use Rattle.reading.specs.Reading.{Nodes, end, whole, listed, wholes}
 use Rattle.reading.specs.Prefix.{Name, Prefix, IsName, Names, Ahead, AheadAll, Rise}
-use Rattle.writing.specs.Write.{tails, anyEnds, nodeOf, side}
+use Rattle.reading.specs.Written.{tails, anyEnds, nodeOf, side}
 use Rattle.writing.specs.Internal.Take.{restsOf, Since, Each, Standing, Took}
 
 -- ---- names in order

@@ -11,13 +11,13 @@ use borrow.Author.Tests.{eq-eqb, ne-eqb, eqb-true, eqb-false}
 use Rattle.logic.specs.Laws.Order.{lt-or}
 use Rattle.logic.specs.Laws.Bools.{by-cond, clash, or-either, or-left, or-right}
 use Rattle.ternary.specs.Digits.{Below}
 use Rattle.reading.specs.declared.Level.{Level}
 use Rattle.reading.specs.declared.Level.the-variants.{Faces, Digits}
 use Rattle.reading.specs.Reading.{Nodes, end, whole, listed, many, room, wholes, Some, Good, names}
 use Rattle.reading.specs.Laws.Reading.{eq-or, wholes-most}
 use Rattle.reading.specs.Prefix.{Name, Prefix, Covered, Digs, FinestName, SameNames, IsName, Names}
 use Rattle.reading.specs.Laws.Ground.{In, in→covered, covered→in}
-use Rattle.writing.specs.Write.{tails, anyEnds, nodeOf, side, built}
+use Rattle.reading.specs.Written.{tails, anyEnds, nodeOf, side, built}
 
 -- ---- what follows a number in names
 

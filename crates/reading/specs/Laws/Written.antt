@@ -7,17 +7,17 @@ use lib.ListN.{length}
 use Rattle.cell.specs.declared.Cell.{Cell}
 use Rattle.code.specs.Code.{digitsOf}
 use Rattle.code.specs.Laws.Code.{length-digits-of, digits-of-below}
 use Rattle.reading.specs.declared.Level.the-variants.{Faces}
 use Rattle.reading.specs.Reading.{Nodes, end, whole, listed, Good, render, names}
 use Rattle.reading.specs.Ground.{wholeCells, Finest, Covers, SameGround, Cells}
 use Rattle.reading.specs.Text.{heading, ReadsAs}
 use Rattle.reading.specs.Prefix.{Name, nameOf, Covered, Digs, FinestName, SameNames, Names}
 use Rattle.reading.specs.Laws.Ground.{below-digs}
 use Rattle.reading.specs.Laws.Fewest.{names-good}
 use Rattle.reading.specs.Laws.Named.{covers-covered, covered-covers, cells-named, names-named, names-of-cells}
 use Rattle.reading.specs.Laws.Demand.{whole-cells, same-ground, fewest}
-use Rattle.writing.specs.Write.{tails, anyEnds, nodeOf, side, built, writtenText}
-use Rattle.writing.specs.Internal.BuiltLaws.{built-good, built-ground}
+use Rattle.reading.specs.Written.{tails, anyEnds, nodeOf, side, built, writtenText}
+use Rattle.reading.specs.Laws.Built.{built-good, built-ground}
 
 -- the nodes that are written
 abbrev pub nodesFor : List Cell → Nodes
