@@ -9,7 +9,7 @@ use Rattle.logic.specs.Refusal.{refuse, _otherwise_}
 use Rattle.logic.specs.Laws.Refusal.{stops, passes}
 use Rattle.cell.specs.declared.Arrangement.{Arrangement}
 use Rattle.cell.specs.Cell.{arrangementRefusal}
-use Rattle.cell.specs.Laws.Cell.{five}
+use Rattle.cell.specs.Laws.Cell.{five-refused}
 use Rattle.code.specs.Code.{cellOf, codeRefusal}
 use Rattle.reading.specs.Ground.{wholeCells}
 use Rattle.reading.specs.TextReading.{nodesOf, northOf, southOf}
@@ -29,7 +29,7 @@ module _ (a : Arrangement) (t : List ℕ) (code : ℕ) where
   pub not-arranged : {r : ℕ} → r ≡ arrangementRefusal a → (r ≡ 0 → ⊥) → Refused r 0 ≡ asked (askRefusal a t code) t code
   unfolding askRefusal
   not-arranged {r} e h =
-      let f : r ≡ 5 = e ∙ five a (λ z. h (e ∙ z)) in
+      let f : r ≡ 5 = e ∙ five-refused a (λ z. h (e ∙ z)) in
       refusal t code (stops _ _ (λ z. h (e ∙ z)) ∙ sym e) h (ap (λ (x : ℕ). placeWith x t) (sym f))
 
   module _ {r : ℕ} (e : r ≡ arrangementRefusal a) (z : r ≡ 0) where

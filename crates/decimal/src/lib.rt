@@ -3,7 +3,7 @@ ghost use mathlib.Core.Path.{_≡_};
 ghost use mathlib.Core.List.{_∷_, _++_};
 ghost use Prim.Native.Nat.{_+_, _≤_, _<_};
 ghost use lib.ListN.{length, take, drop};
-ghost use Rattle.decimal.specs.Decimal.{wholeIn, numberIn, fixIn, numberOf, ahead, trimmed, printed};
+ghost use Rattle.decimal.specs.Decimal.{wholeIn, numberIn, fixIn, signedNumber, ahead, trimmed, printed};
 
 // A whole number that some bytes write.
 pub enum Whole {
@@ -57,7 +57,7 @@ pub fn whole_in(text: &[u8]) -> Whole
 
 // A number with its sign. One whose size is 2^63 or more is refused.
 fn number_of(minus: bool, size: Whole) -> Number
-    ensures { λ r. ⌜ r ≡ numberOf minus size ⌝ }
+    ensures { λ r. ⌜ r ≡ signedNumber minus size ⌝ }
 {
     let Whole::Is(n) = size else {
         return Number::Not;

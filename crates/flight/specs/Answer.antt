@@ -11,7 +11,7 @@ use Rattle.code.specs.declared.Coded.{Coded}
 use Rattle.code.specs.declared.Coded.the-variants.{Code, Refused}
 use Rattle.code.specs.Code.{coded, codeOf, cellOf}
 use Rattle.name.specs.Name.{nameOf}
-use Rattle.decimal.specs.Decimal.{allDigits, wholeIn, numberOf, numberIn, fixOf, fixIn, printed}
+use Rattle.decimal.specs.Decimal.{allDecimal, wholeIn, signedNumber, numberIn, fixOf, fixIn, printed}
 use Rattle.locate.specs.Fix.{fixRefusal, fixCell}
 use Rattle.flight.specs.Flight.{fixCoded, ofLine, lineCode}
 
@@ -25,7 +25,7 @@ putAt at bytes out = take at out ++ (bytes ++ drop (at + length bytes) out)
 
 -- the first line of 01's table, `0 0` at resolution 2: Q33. A line that is no fix: 6
 a-name : answerOf (lineCode 0 0 2 (48 ∷ 32 ∷ 48 ∷ [])) ≡ 81 ∷ 51 ∷ 51 ∷ []
-unfolding answerOf lineCode ofLine fixCoded fixIn fixOf numberIn numberOf wholeIn allDigits value fixRefusal arrangementRefusal _otherwise_ fixCell coded codeOf cellOf rowIn columnIn nameOf
+unfolding answerOf lineCode ofLine fixCoded fixIn fixOf numberIn signedNumber wholeIn allDecimal value fixRefusal arrangementRefusal _otherwise_ fixCell coded codeOf cellOf rowIn columnIn nameOf
 a-name = refl
 
 a-number : answerOf (lineCode 0 0 2 []) ≡ 54 ∷ []

@@ -11,7 +11,7 @@ use Rattle.reading.specs.TextReading.{nodesOf}
 use Rattle.reader.specs.Check.{textRefusal, placeWith, answer, checkedOf}
 use Rattle.listing.specs.List.{codesOf, listed}
 use Rattle.asking.specs.Ask.{anyWithin, asked}
-use Rattle.writing.specs.WriteEntry.{written}
+use Rattle.writing.specs.Write.{written}
 use Rattle.jeguarivo.specs.Entries.{lengthAnswer}
 use Rattle.jeguarivo.specs.Texts.{checkedText, checkNumbers, listNumbers, askNumbers, writtenNumbers}
 

@@ -23,7 +23,7 @@ use Rattle.plane.specs.Plane.{squareOf, nucleusOf, verticesOf, pointRefusal, po
 use Rattle.locate.specs.Fix.{fixCell, fixRefusal}
 use Rattle.nucleus.specs.declared.Fix.{Fix}
 use Rattle.nucleus.specs.Nucleus.{groundNucleus}
-use Rattle.shape.specs.Shape.{shapeOf, numberOf, cornersOf}
+use Rattle.shape.specs.Shape.{shapeOf, shapeNumber, cornersOf}
 use Rattle.jeguarivo.specs.declared.CodeAnswer.{CodeAnswer}
 use Rattle.jeguarivo.specs.declared.CellAnswer.{CellAnswer}
 use Rattle.jeguarivo.specs.declared.LengthAnswer.{LengthAnswer}
@@ -119,7 +119,7 @@ cellSize code = record { refusal = codeRefusal code; size = orZero (codeRefusal 
 
 -- quad 0, cap 1, dart 2, skew quad 3
 unfoldable pub cellShape : ℕ → ShapeAnswer
-cellShape code = record { refusal = codeRefusal code; shape = orZero (codeRefusal code) (numberOf (shapeOf (cellOf code))) }
+cellShape code = record { refusal = codeRefusal code; shape = orZero (codeRefusal code) (shapeNumber (shapeOf (cellOf code))) }
 
 unfoldable pub cornerCount : ℕ → CountAnswer
 cornerCount code = record { refusal = codeRefusal code; count = orZero (codeRefusal code) (cornersOf (shapeOf (cellOf code))) }

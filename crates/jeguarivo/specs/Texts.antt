@@ -11,11 +11,11 @@ use Rattle.reader.specs.declared.Checked.{Checked}
 use Rattle.reader.specs.declared.Checked.the-variants as checked
 use Rattle.reader.specs.Check.{textRefusal, placeWith}
 use Rattle.listing.specs.declared.Listed.{Listed}
-use Rattle.listing.specs.List.{codesOf, listRefusal, countIn, refusalIn as listRefusalIn, placeIn as listPlaceIn}
+use Rattle.listing.specs.List.{codesOf, listingRefusal, countIn, refusalIn as listRefusalIn, placeIn as listPlaceIn}
 use Rattle.asking.specs.declared.Asked.{Asked}
 use Rattle.asking.specs.Ask.{anyWithin, askRefusal, coveredIn, refusalIn as askRefusalIn, placeIn as askPlaceIn}
 use Rattle.writing.specs.declared.Written.{Written}
-use Rattle.writing.specs.WriteEntry.{writeRefusal, textOf, refusalIn as writeRefusalIn, lengthIn as writeLengthIn}
+use Rattle.writing.specs.Write.{writeRefusal, textOf, refusalIn as writeRefusalIn, lengthIn as writeLengthIn}
 use Rattle.jeguarivo.specs.Entries.{orZero, lengthAnswer}
 use Rattle.jeguarivo.specs.declared.LengthAnswer.{LengthAnswer}
 use Rattle.jeguarivo.specs.declared.CheckAnswer.{CheckAnswer}
@@ -40,7 +40,7 @@ checkNumbers (checked.Refused refusal place) = record { refusal = refusal; place
 -- the number of codes
 unfoldable pub listedText : (t : List ℕ) (room : ℕ) → ListAnswer
 listedText t room =
-    record { refusal = listRefusal t room; place = placeWith (listRefusal t room) t; count = orZero (listRefusal t room) (length (codesOf t)) }
+    record { refusal = listingRefusal t room; place = placeWith (listingRefusal t room) t; count = orZero (listingRefusal t room) (length (codesOf t)) }
 
 abbrev pub listNumbers : Listed → ListAnswer
 listNumbers listed = record { refusal = listRefusalIn listed; place = listPlaceIn listed; count = countIn listed }

@@ -7,10 +7,10 @@ ghost use Rattle.logic.specs.Refusal.{given};
 ghost use Rattle.cell.specs.Cell.{IsCell, cellIn, found};
 ghost use Rattle.code.specs.Code.{cellOf, foundCode};
 ghost use Rattle.name.specs.Name.{codeNameRefusal, nameIn};
-ghost use Rattle.listing.specs.List.{listRefusal, codesIn};
+ghost use Rattle.listing.specs.List.{listingRefusal, codesIn};
 ghost use Rattle.jeguarivo.specs.Texts.{checkedText, listedText, askedText, writtenText};
 ghost use Rattle.jeguarivo.specs.Entries.{arrangement};
-ghost use Rattle.writing.specs.WriteEntry.{writeRefusal, textIn};
+ghost use Rattle.writing.specs.Write.{writeRefusal, textIn};
 ghost use Rattle.jeguarivo.specs.Entries.{codedAnswer, cellCode, codeCell, nameAnswer, writtenName, parentCode, childCode, cellSize, cellShape, cornerCount, cellSquare, cellNucleus, cellVertices, pointCode, neighbourCode, fixCode, groundFix, placedRefusal};
 use asking::Asked;
 use cell::Arrangement;
@@ -454,7 +454,7 @@ pub extern "C" fn jgv_coverage_check(text: &[u8]) -> CheckAnswer
 #[no_mangle]
 pub extern "C" fn jgv_coverage_list(text: &[u8], codes: &mut [u64]) -> ListAnswer
     ensures { λ r. ⌜ r ≡ listedText (now (text .entry)) (length (now (codes .entry))) ⌝ }
-    ensures { λ r. ⌜ now (codes .exit) ≡ given (listRefusal (now (text .entry)) (length (now (codes .entry)))) (codesIn (now (text .entry)) (now (codes .entry))) (now (codes .entry)) ⌝ }
+    ensures { λ r. ⌜ now (codes .exit) ≡ given (listingRefusal (now (text .entry)) (length (now (codes .entry)))) (codesIn (now (text .entry)) (now (codes .entry))) (now (codes .entry)) ⌝ }
 {
     match listing::list(text, codes) {
         Listed::Count(count) => ListAnswer {

@@ -21,8 +21,8 @@ unfolding codesOf
 codesIn t codes = codesOf t ++ drop (length (codesOf t)) codes
 
 -- 13, 10, 9: the text's. 8: "lent buffer shorter than the answer"
-unfoldable pub listRefusal : (t : List ℕ) (room : ℕ) → ℕ
-listRefusal t room = textRefusal t otherwise refuse (ltb room (length (codesOf t))) 8
+unfoldable pub listingRefusal : (t : List ℕ) (room : ℕ) → ℕ
+listingRefusal t room = textRefusal t otherwise refuse (ltb room (length (codesOf t))) 8
 
 -- how many codes were listed, or the refusal and the place
 unfoldable pub listed : (r : ℕ) (t : List ℕ) → Listed

@@ -6,7 +6,7 @@ ghost use Prim.Native.Nat.{_≤_};
 ghost use lib.ListN.{length, drop};
 ghost use Rattle.reading.specs.TextReading.{isText};
 ghost use Rattle.logic.specs.Refusal.{given};
-ghost use Rattle.listing.specs.List.{codesOf, codesIn, listRefusal, listed};
+ghost use Rattle.listing.specs.List.{codesOf, codesIn, listingRefusal, listed};
 use reader::Checked;
 use walk::Spot;
 
@@ -42,8 +42,8 @@ fn put_codes(text: &[u8], codes: &mut [u64])
 
 // The codes of any bytes' whole cells: 13, 10, 9 where they are no text, 8 where the room is shorter than the list.
 pub fn list(text: &[u8], codes: &mut [u64]) -> Listed
-    ensures { λ r. ⌜ r ≡ listed (listRefusal (now (text .entry)) (length (now (codes .entry)))) (now (text .entry)) ⌝ }
-    ensures { λ r. ⌜ now (codes .exit) ≡ given (listRefusal (now (text .entry)) (length (now (codes .entry)))) (codesIn (now (text .entry)) (now (codes .entry))) (now (codes .entry)) ⌝ }
+    ensures { λ r. ⌜ r ≡ listed (listingRefusal (now (text .entry)) (length (now (codes .entry)))) (now (text .entry)) ⌝ }
+    ensures { λ r. ⌜ now (codes .exit) ≡ given (listingRefusal (now (text .entry)) (length (now (codes .entry)))) (codesIn (now (text .entry)) (now (codes .entry))) (now (codes .entry)) ⌝ }
 {
     match reader::check(text) {
         Checked::Refused { refusal, place } => Listed::Refused { refusal, place },

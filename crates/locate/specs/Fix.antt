@@ -26,8 +26,8 @@ quarter = 900000000
 
 -- ---- "Belt, 3|z| <= 2 x 10^18"
 
-unfoldable pub inBelt : ℤ → Bool
-inBelt z = leb (3 * natAbs z) (2 * 10 ^ 18)
+unfoldable pub isBelt : ℤ → Bool
+isBelt z = leb (3 * natAbs z) (2 * 10 ^ 18)
 
 -- 2 x 10^18 - 3z
 unfoldable pub offsetOf : ℤ → ℕ
@@ -45,31 +45,31 @@ beltCell k east offset =
 
 -- ---- the caps. A point (u, v) is kept as the two multiples of h / 1,800,000,000, which are whole numbers
 
-abbrev pub Point : Type 0
-Point = ℤ × ℤ
+abbrev pub CapPoint : Type 0
+CapPoint = ℤ × ℤ
 
 -- "h = sqrt(3 (10^18 - z)) / 10^9": this is (10^9 h)^2, with |z| for z
 unfoldable pub heightOf : ℤ → ℕ
 heightOf z = 3 * (10 ^ 18 - natAbs z)
 
 -- "t = a/900,000,000 - 1/2. Start at (u, v) = (t h, -h/2)", in the south "a start of (t h, +h/2)"
-unfoldable pub startNorth : ℕ → Point
+unfoldable pub startNorth : ℕ → CapPoint
 startNorth a = (subℕ (2 * a) quarter, negℤ (pos quarter))
 
-unfoldable pub startSouth : ℕ → Point
+unfoldable pub startSouth : ℕ → CapPoint
 startSouth a = (subℕ (2 * a) quarter, pos quarter)
 
 -- "Turn .. times by (u, v) -> (-v, u)", in the south "by (u, v) -> (v, -u)"
-unfoldable pub turnedNorth : ℕ → Point → Point
+unfoldable pub turnedNorth : ℕ → CapPoint → CapPoint
 turnedNorth zero x = x
 turnedNorth (suc j) x = turnedNorth j (negℤ (x .1), x .0)
 
-unfoldable pub turnedSouth : ℕ → Point → Point
+unfoldable pub turnedSouth : ℕ → CapPoint → CapPoint
 turnedSouth zero x = x
 turnedSouth (suc j) x = turnedSouth j (x .1, negℤ (x .0))
 
 -- "For the end (p, q): column floor(m (1/2 + p)), row floor(m (1/2 - q))"
-unfoldable pub capCell : (face k t : ℕ) → Point → Cell
+unfoldable pub capCell : (face k t : ℕ) → CapPoint → Cell
 capCell face k t x =
     record { face = face; resolution = k; row = rootFloor (3 ^ k) t (negℤ (x .1)); column = rootFloor (3 ^ k) t (x .0) }
 
@@ -86,9 +86,9 @@ southCell s k east t = capCell 5 k t (turnedSouth (turnOf (east / quarter) s) (s
 -- ---- the cell, and the refusals in their order
 
 unfoldable pub fixCell : Arrangement → ℕ → ℤ → ℤ → Cell
-unfolding inBelt beltCell northCell southCell eastOf offsetOf heightOf
+unfolding isBelt beltCell northCell southCell eastOf offsetOf heightOf
 fixCell a k L z =
-    cond (inBelt z) (beltCell k (eastOf L) (offsetOf z))
+    cond (isBelt z) (beltCell k (eastOf L) (offsetOf z))
     (cond (ltZ z (pos 0)) (southCell (a .south) k (eastOf L) (heightOf z)) (northCell (a .north) k (eastOf L) (heightOf z)))
 
 -- 5: the arrangement. 2: resolution above 15. 6: L or z out of range

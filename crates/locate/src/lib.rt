@@ -9,7 +9,7 @@ ghost use Rattle.signed.specs.Sign.{withSign};
 ghost use Rattle.root.specs.Floor.{axisOf};
 ghost use Rattle.locate.specs.Fix.{quarter, inRange, offsetOf, beltCell, capCell, fixCell, fixRefusal};
 ghost use Rattle.locate.specs.Fix.{turnedNorth};
-ghost use Rattle.locate.specs.Internal.End.{Stands, endOf};
+ghost use Rattle.locate.specs.Internal.End.{Stands, turnedEnd};
 use cell::Arrangement;
 use cell::Cell;
 use cell::Found;
@@ -168,7 +168,7 @@ fn turns_of(arrangement: Arrangement, south: bool, c: u64) -> u64
 fn end_of(arrangement: Arrangement, south: bool, east: u64) -> End
     requires { ⌜ IsArrangement arrangement ⌝ }
     requires { ⌜ east < 3600000000 ⌝ }
-    ensures { λ r. ⌜ Stands (endOf arrangement south east) r ⌝ }
+    ensures { λ r. ⌜ Stands (turnedEnd arrangement south east) r ⌝ }
 {
     let v = Axis {
         minus: !south,

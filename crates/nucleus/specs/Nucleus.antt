@@ -9,7 +9,7 @@ use lib.Dec.{eqb}
 use Rattle.cell.specs.declared.Cell.{Cell}
 use Rattle.cell.specs.declared.Arrangement.{Arrangement}
 use Rattle.cell.specs.Neighbour.{byFace, belt, turnOf, rows}
-use Rattle.locate.specs.Fix.{Point, quarter, turnedNorth, turnedSouth}
+use Rattle.locate.specs.Fix.{CapPoint, quarter, turnedNorth, turnedSouth}
 use Rattle.nucleus.specs.declared.Fix.{Fix}
 
 -- ---- what it is: the rules of `Fix`, without their floors, over fractions
@@ -30,7 +30,7 @@ pub record SentToBelt (c : Cell) (e d : ℕ) (u : ℤ) (v : ℕ) : Type 0 where
 
 -- caps: h = g/f with h^2 = 3 (1 - |z|/10^18), and the turned point (p, q), in multiples of h / (2 x 900,000,000 d), has
 -- m (1/2 + p) = j + 1/2 and m (1/2 - q) = i + 1/2. One of p and q is h/2 or -h/2, so h is a fraction.
-pub record SentToCap (c : Cell) (x : Point) (d : ℕ) (u : ℤ) (v g f : ℕ) : Type 0 where
+pub record SentToCap (c : Cell) (x : CapPoint) (d : ℕ) (u : ℤ) (v g f : ℕ) : Type 0 where
   pub positive : 0 < f
   pub far : 2 * 10 ^ 18 * v < 3 * natAbs u
   pub within : natAbs u ≤ 10 ^ 18 * v
@@ -39,10 +39,10 @@ pub record SentToCap (c : Cell) (x : Point) (d : ℕ) (u : ℤ) (v g f : ℕ) : 
   pub row : pos (rows c * (d * quarter * f)) -ℤ pos (rows c * g) *ℤ x .1 ≡ pos ((2 * c .row + 1) * (d * quarter * f))
 
 -- the start (t h, -h/2) or (t h, h/2), turned as often as the rules turn it, in the same multiples
-unfoldable pub northPoint : (n e d : ℕ) → Point
+unfoldable pub northPoint : (n e d : ℕ) → CapPoint
 northPoint n e d = turnedNorth (turnOf (quotient e d) n) (subℕ (2 * remainder e d) (d * quarter), negℤ (pos (d * quarter)))
 
-unfoldable pub southPoint : (s e d : ℕ) → Point
+unfoldable pub southPoint : (s e d : ℕ) → CapPoint
 southPoint s e d = turnedSouth (turnOf (quotient e d) s) (subℕ (2 * remainder e d) (d * quarter), pos (d * quarter))
 
 -- the rules send the fractions e/d, u/v to the middle of the cell. NucleusLaws shows that they send no others there, but at a pole, where every
@@ -87,14 +87,14 @@ unfolding floorZ
 southZ m h = floorZ (subℕ (10 ^ 18 * (h * h)) (10 ^ 18 * (3 * (m * m)))) (3 * (m * m))
 
 -- the middle of a cell of a cap, from the face's centre, in units of 1/2m of its side
-unfoldable pub middleOf : (m i j : ℕ) → Point
+unfoldable pub middleOf : (m i j : ℕ) → CapPoint
 middleOf m i j = (subℕ (2 * j + 1) m, subℕ m (2 * i + 1))
 
 -- a start's triangle: (u, -h) with -h ≤ u < h in the north, (u, h) in the south; "On a seam .. the western edge .. of the eastern one"
-unfoldable pub startsNorth : Point → Bool
+unfoldable pub startsNorth : CapPoint → Bool
 startsNorth x = leZ (x .1) (x .0) && ltZ (x .0) (negℤ (x .1))
 
-unfoldable pub startsSouth : Point → Bool
+unfoldable pub startsSouth : CapPoint → Bool
 startsSouth x = leZ (negℤ (x .1)) (x .0) && ltZ (x .0) (x .1)
 
 -- the first of 0 to 3 that passes a test, or 3
@@ -102,40 +102,40 @@ unfoldable pub firstOf : (ℕ → Bool) → ℕ
 firstOf test = cond (test 0) 0 (cond (test 1) 1 (cond (test 2) 2 3))
 
 -- how often a start was turned: the turn back in one cap is the turn of the other
-unfoldable pub turnsNorth : Point → ℕ
+unfoldable pub turnsNorth : CapPoint → ℕ
 unfolding firstOf startsNorth
 turnsNorth x = firstOf (λ r. startsNorth (turnedSouth r x))
 
-unfoldable pub turnsSouth : Point → ℕ
+unfoldable pub turnsSouth : CapPoint → ℕ
 unfolding firstOf startsSouth
 turnsSouth x = firstOf (λ r. startsSouth (turnedNorth r x))
 
 -- the height of a start, and the place along it
-abbrev pub tallOf : Point → ℕ
+abbrev pub tallOf : CapPoint → ℕ
 tallOf y = natAbs (y .1)
 
-abbrev pub alongOf : Point → ℕ
+abbrev pub alongOf : CapPoint → ℕ
 alongOf y = natAbs (y .0 +ℤ pos (tallOf y))
 
 -- the centre of a cap
-unfoldable pub centred : Point → Bool
+unfoldable pub centred : CapPoint → Bool
 centred x = eqb (natAbs (x .0)) 0 && eqb (natAbs (x .1)) 0
 
 abbrev pub fix : ℤ → ℤ → Fix
 fix longitude z = record { longitude = longitude; z = z }
 
 -- "a polar nucleus gets -1,800,000,000"
-unfoldable pub northNucleus : (n m : ℕ) → Point → Fix
+unfoldable pub northNucleus : (n m : ℕ) → CapPoint → Fix
 unfolding centred turnsNorth capLongitude northZ
 northNucleus n m x =
     cond (centred x) (fix (negℤ (pos 1800000000)) (pos (10 ^ 18)))
-    (let r : ℕ = turnsNorth x in let y : Point = turnedSouth r x in fix (capLongitude n r (tallOf y) (alongOf y)) (northZ m (tallOf y)))
+    (let r : ℕ = turnsNorth x in let y : CapPoint = turnedSouth r x in fix (capLongitude n r (tallOf y) (alongOf y)) (northZ m (tallOf y)))
 
-unfoldable pub southNucleus : (s m : ℕ) → Point → Fix
+unfoldable pub southNucleus : (s m : ℕ) → CapPoint → Fix
 unfolding centred turnsSouth capLongitude southZ
 southNucleus s m x =
     cond (centred x) (fix (negℤ (pos 1800000000)) (negℤ (pos (10 ^ 18))))
-    (let r : ℕ = turnsSouth x in let y : Point = turnedNorth r x in fix (capLongitude s r (tallOf y) (alongOf y)) (southZ m (tallOf y)))
+    (let r : ℕ = turnsSouth x in let y : CapPoint = turnedNorth r x in fix (capLongitude s r (tallOf y) (alongOf y)) (southZ m (tallOf y)))
 
 unfoldable pub groundNucleus : Arrangement → Cell → Fix
 unfolding northNucleus southNucleus middleOf beltLongitude beltZ

@@ -7,7 +7,7 @@ ghost use lib.IntN.{pos, negℤ, subℕ};
 ghost use Rattle.cell.specs.Cell.{IsCell, IsArrangement};
 ghost use Rattle.locate.specs.Fix.{quarter};
 ghost use Rattle.nucleus.specs.Nucleus.{floorZ, northZ, southZ, centred, northNucleus, southNucleus, groundNucleus};
-ghost use Rattle.nucleus.specs.Internal.TriangleLaws.{middle, OffCentre, Inside, IsStart};
+ghost use Rattle.nucleus.specs.Internal.TriangleLaws.{middle, OffCentre, InFace, IsStart};
 use cell::Arrangement;
 use cell::Cell;
 use division::Quotient;
@@ -115,7 +115,7 @@ fn is_centre(m: u64, a: u64, b: u64) -> bool
 
 // The start of a middle in the north: a seam is the western edge of the eastern triangle.
 fn start_of(m: u64, a: u64, b: u64) -> Start
-    requires { ⌜ Inside m a b ⌝ }
+    requires { ⌜ InFace m a b ⌝ }
     requires { ⌜ OffCentre m a b ⌝ }
     ensures { λ r. ⌜ IsStart m a b (r .turn) (r .height) (r .along) ⌝ }
 {
@@ -166,7 +166,7 @@ fn mirrored(south: bool, m: u64, b: u64) -> u64
 // A cell of N or S, where `first` is n or s.
 fn cap_nucleus(south: bool, first: u64, up: u64, m: u64, a: u64, b: u64) -> Fix
     requires { ⌜ first ≤ 3 ⌝ }
-    requires { ⌜ Inside m a b ⌝ }
+    requires { ⌜ InFace m a b ⌝ }
     requires { ⌜ (0 < up) × (up * m ≡ 3 ^ 15) ⌝ }
     ensures { λ r. ⌜ r ≡ cond south (southNucleus first m (middle m a b)) (northNucleus first m (middle m a b)) ⌝ }
 {

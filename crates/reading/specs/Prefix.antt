@@ -1,4 +1,4 @@
--- Names as numbers, and which begin which: the computing side of cells and of lying inside. NamedLaws ties it to the grid. Assumes nothing.
+-- AreNames as numbers, and which begin which: the computing side of cells and of lying inside. NamedLaws ties it to the grid. Assumes nothing.
 use mathlib.Core.Path.{_≡_}
 use mathlib.Core.Logic.{_⊎_}
 use mathlib.Core.List.{List, [], _∷_}
@@ -13,8 +13,8 @@ abbrev pub Name : Type 0
 Name = List ℕ
 
 -- the name of a cell
-unfoldable pub nameOf : Cell → Name
-nameOf c = c .face ∷ digitsOf (c .resolution) (c .row) (c .column)
+unfoldable pub numbersOf : Cell → Name
+numbersOf c = c .face ∷ digitsOf (c .resolution) (c .row) (c .column)
 
 -- p begins with q
 abbrev pub Prefix : Name → Name → Type 0
@@ -48,9 +48,9 @@ abbrev pub IsName : (m r : ℕ) → Name → Type 0
 IsName m r [] = ⊥
 IsName m r (x ∷ q) = (x < m) × (length q ≤ r) × Below 9 q
 
-abbrev pub Names : (m r : ℕ) → List Name → Type 0
-Names m r [] = Unit {0}
-Names m r (q ∷ qs) = IsName m r q × Names m r qs
+abbrev pub AreNames : (m r : ℕ) → List Name → Type 0
+AreNames m r [] = Unit {0}
+AreNames m r (q ∷ qs) = IsName m r q × AreNames m r qs
 
 -- at the first number that differs, q has the smaller one
 abbrev pub Ahead : (q p : Name) → Type 0
@@ -63,9 +63,9 @@ AheadAll q [] = Unit {0}
 AheadAll q (p ∷ ps) = Ahead q p × AheadAll q ps
 
 -- each is ahead of all that come later
-abbrev pub Rise : List Name → Type 0
-Rise [] = Unit {0}
-Rise (q ∷ qs) = AheadAll q qs × Rise qs
+abbrev pub InOrder : List Name → Type 0
+InOrder [] = Unit {0}
+InOrder (q ∷ qs) = AheadAll q qs × InOrder qs
 
 -- the sum of sizes: a name of j numbers has 9^(k-j) finest names of k numbers
 unfoldable pub sizes : ℕ → List Name → ℕ

@@ -7,7 +7,7 @@ use lib.Dec.{eqb}
 use Rattle.cell.specs.declared.Cell.{Cell}
 use Rattle.reading.specs.declared.Level.the-variants.{Faces}
 use Rattle.reading.specs.Reading.{Nodes, end, whole, listed, wholes, render}
-use Rattle.reading.specs.Prefix.{Name, nameOf}
+use Rattle.reading.specs.Prefix.{Name, numbersOf}
 use Rattle.reading.specs.Text.{heading}
 
 -- what follows the number c in the names that begin with it
@@ -43,4 +43,4 @@ built (suc r) n qs = side (λ ts. built r 9 ts) n 0 qs
 -- the text of some cells
 unfoldable pub writtenText : (n s : ℕ) → List Cell → List ℕ
 unfolding built
-writtenText n s cells = heading n s ++ render Faces (built 15 6 (map nameOf cells))
+writtenText n s cells = heading n s ++ render Faces (built 15 6 (map numbersOf cells))

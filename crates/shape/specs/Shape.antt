@@ -41,11 +41,11 @@ unfolding capShape
 shapeOf c = cond (ltb (c .face) 1) (capShape (3 ^ c .resolution) (c .row) (c .column)) (cond (ltb (c .face) 5) Quad (capShape (3 ^ c .resolution) (c .row) (c .column)))
 
 -- the numbers of the public entries
-abbrev pub numberOf : Shape → ℕ
-numberOf Quad = 0
-numberOf Cap = 1
-numberOf Dart = 2
-numberOf SkewQuad = 3
+abbrev pub shapeNumber : Shape → ℕ
+shapeNumber Quad = 0
+shapeNumber Cap = 1
+shapeNumber Dart = 2
+shapeNumber SkewQuad = 3
 
 -- "The number of cells that touch a cell at a corner only is 3 for a dart and 4 for any other shape"
 abbrev pub cornersOf : Shape → ℕ

@@ -22,7 +22,7 @@ use Rattle.code.specs.Laws.Inside.{start-at, end-small, size-pos}
 use Rattle.reading.specs.Text.{heading}
 use Rattle.writing.specs.declared.Written.{Written}
 use Rattle.writing.specs.declared.Written.the-variants.{Length, Refused}
-use Rattle.writing.specs.WriteEntry.{allCodes, lies, ordered, listRefusal, textOf, writeRefusal, textIn, written}
+use Rattle.writing.specs.Write.{allCodes, lies, ordered, codesRefusal, textOf, writeRefusal, textIn, written}
 use Rattle.writing.specs.Laws.List.{not-lies}
 
 -- ---- the tests of the list
@@ -91,16 +91,16 @@ end-small-at c t s z =
 
 -- ---- the refusals of the list
 
-pub four : (codes : List ℕ) → allCodes codes ≡ false → 4 ≡ listRefusal codes
-unfolding listRefusal _otherwise_
+pub four : (codes : List ℕ) → allCodes codes ≡ false → 4 ≡ codesRefusal codes
+unfolding codesRefusal _otherwise_
 four codes e = sym (ap (λ (b : Bool). refuse (not b) 4 otherwise refuse (not (ordered codes)) 11) e)
 
-pub eleven : (codes : List ℕ) → allCodes codes ≡ true → ordered codes ≡ false → 11 ≡ listRefusal codes
-unfolding listRefusal _otherwise_
+pub eleven : (codes : List ℕ) → allCodes codes ≡ true → ordered codes ≡ false → 11 ≡ codesRefusal codes
+unfolding codesRefusal _otherwise_
 eleven codes e f = sym (ap₂ (λ (b o : Bool). refuse (not b) 4 otherwise refuse (not o) 11) e f)
 
-pub none : (codes : List ℕ) → allCodes codes ≡ true → ordered codes ≡ true → 0 ≡ listRefusal codes
-unfolding listRefusal _otherwise_
+pub none : (codes : List ℕ) → allCodes codes ≡ true → ordered codes ≡ true → 0 ≡ codesRefusal codes
+unfolding codesRefusal _otherwise_
 none codes e f = sym (ap₂ (λ (b o : Bool). refuse (not b) 4 otherwise refuse (not o) 11) e f)
 
 -- ---- the codes, one after the other
@@ -120,10 +120,10 @@ pub judge-starts : (codes : List ℕ) → Judged codes 0 0 0
 judge-starts codes = record { to = omega arith; coded = refl; order = inl (refl, refl); first = λ h. refl; last = λ h. absurd (omega arith) }
 
 module _ {codes : List ℕ} {i refusal end : ℕ} (v : Judged codes i refusal end) where
-  pub judge-four : i < length codes → isCode (codeAt codes i) ≡ false → 4 ≡ listRefusal codes
+  pub judge-four : i < length codes → isCode (codeAt codes i) ≡ false → 4 ≡ codesRefusal codes
   judge-four h e = four codes (v .coded ∙ codes-step codes i h ∙ ap (λ (b : Bool). b && allCodes (drop (i + 1) codes)) e)
 
-  pub judge-ends : length codes ≤ i → refusal ≡ listRefusal codes
+  pub judge-ends : length codes ≤ i → refusal ≡ codesRefusal codes
   judge-ends h =
       let a : allCodes codes ≡ true = v .coded ∙ codes-end codes i h in
       ⊎-elim (λ o. o .0 ∙ none codes a (o .1 ∙ order-end codes (i - 1) (omega arith))) (λ o. o .0 ∙ eleven codes a (o .1)) (v .order)
@@ -201,22 +201,22 @@ module _ (a : Arrangement) (codes : List ℕ) (room : ℕ) where
   first h = stops (arrangementRefusal a) _ h
 
   module _ (e : arrangementRefusal a ≡ 0) where
-    pub second : (listRefusal codes ≡ 0 → ⊥) → writeRefusal a codes room ≡ listRefusal codes
+    pub second : (codesRefusal codes ≡ 0 → ⊥) → writeRefusal a codes room ≡ codesRefusal codes
     unfolding writeRefusal rest
-    second h = passes (listRefusal codes otherwise rest) e ∙ stops (listRefusal codes) rest h
+    second h = passes (codesRefusal codes otherwise rest) e ∙ stops (codesRefusal codes) rest h
 
-    last : listRefusal codes ≡ 0 → writeRefusal a codes room ≡ rest
+    last : codesRefusal codes ≡ 0 → writeRefusal a codes room ≡ rest
     unfolding writeRefusal rest
-    last f = passes (listRefusal codes otherwise rest) e ∙ passes rest f
+    last f = passes (codesRefusal codes otherwise rest) e ∙ passes rest f
 
-    pub third : listRefusal codes ≡ 0 → 65536 < length (textOf a codes) → writeRefusal a codes room ≡ 13
+    pub third : codesRefusal codes ≡ 0 → 65536 < length (textOf a codes) → writeRefusal a codes room ≡ 13
     unfolding rest _otherwise_
     third f h = last f ∙ rw (lt-ltb 65536 (length (textOf a codes)) h) refl
 
-    pub fourth : listRefusal codes ≡ 0 → length (textOf a codes) ≤ 65536 → room < length (textOf a codes) → writeRefusal a codes room ≡ 8
+    pub fourth : codesRefusal codes ≡ 0 → length (textOf a codes) ≤ 65536 → room < length (textOf a codes) → writeRefusal a codes room ≡ 8
     unfolding rest _otherwise_
     fourth f g h = last f ∙ rw (le-ltb 65536 (length (textOf a codes)) g, lt-ltb room (length (textOf a codes)) h) refl
 
-    pub nothing : listRefusal codes ≡ 0 → length (textOf a codes) ≤ 65536 → length (textOf a codes) ≤ room → writeRefusal a codes room ≡ 0
+    pub nothing : codesRefusal codes ≡ 0 → length (textOf a codes) ≤ 65536 → length (textOf a codes) ≤ room → writeRefusal a codes room ≡ 0
     unfolding rest _otherwise_
     nothing f g h = last f ∙ rw (le-ltb 65536 (length (textOf a codes)) g, le-ltb room (length (textOf a codes)) h) refl

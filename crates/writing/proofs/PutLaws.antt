@@ -13,7 +13,7 @@ use Rattle.logic.specs.Laws.Stores.{sets-append}
 use Rattle.reading.specs.declared.Level.{Level}
 use Rattle.reading.specs.declared.Level.the-variants.{Digits}
 use Rattle.reading.specs.Reading.{Nodes, end, whole, listed, first, render, wholes}
-use Rattle.reading.specs.Prefix.{Name, nameOf, Prefix, Ahead}
+use Rattle.reading.specs.Prefix.{Name, numbersOf, Prefix, Ahead}
 use Rattle.code.specs.Code.{cellOf}
 use Rattle.writing.specs.declared.Placed.{Placed}
 use Rattle.reading.specs.Written.{anyEnds, nodeOf, side}
@@ -85,7 +85,7 @@ module _
 
     held : (c : ℕ) → nodeOf (under (suc k)) c (restsOf w (namesFrom codes at)) end ≡ listed c (side (under k) 9 0 (restsOf w (namesFrom codes at))) end
     held c =
-        let f = rests-first w (namesFrom codes at) (nameOf (cellOf (getD codes at 0))) (namesFrom codes (at + 1)) (names-at codes at h) (s .inside) in
+        let f = rests-first w (namesFrom codes at) (numbersOf (cellOf (getD codes at 0))) (namesFrom codes (at + 1)) (names-at codes at h) (s .inside) in
         let i : (wholes (nodeOf (under (suc k)) c (restsOf w (namesFrom codes at)) end) ≡ 1 → ⊥) = λ e. n (omega (arith, t .whole c end)) in
         let j : nodeOf (under (suc k)) c (restsOf w (namesFrom codes at)) end ≡ listed c (under (suc k) (restsOf w (namesFrom codes at))) end =
         rw (f .2) (node-listed (under (suc k)) c (f .0) (f .1) (rw (f .2) at i)) in

@@ -14,10 +14,10 @@ use Rattle.code.specs.Inside.{Inside, startOf, endOf}
 use Rattle.code.specs.Laws.Inside.{start-at, inside-within}
 use Rattle.reading.specs.Laws.Reading.{eq-or}
 use Rattle.reading.specs.Ground.{cellNamed}
-use Rattle.reading.specs.Prefix.{Name, nameOf, Prefix, Ahead, Rise}
+use Rattle.reading.specs.Prefix.{Name, numbersOf, Prefix, Ahead, InOrder}
 use Rattle.reading.specs.Laws.Rising.{ahead-before}
 use Rattle.reading.specs.Laws.Named.{named-cell, name-named, prefix-inside}
-use Rattle.writing.specs.WriteEntry.{allCodes}
+use Rattle.writing.specs.Write.{allCodes}
 use Rattle.writing.specs.Internal.Take.{Each, Took}
 use Rattle.writing.specs.Internal.Measure.{namesFrom, area, areaFrom, NodeAt, ListAt, NodeTakes, ListTakes}
 use Rattle.writing.specs.Internal.MeasureLaws.{code-at, names-at, area-at, start-named, end-named, node-finest, node-exact, node-list, node-nine, node-held, list-none, list-node, list-rest, list-in, all-later, list-skip, list-out}
@@ -127,14 +127,14 @@ end-at : (x : ℕ) → isCode x ≡ true → x / 16 + 9 ^ (15 - x % 16) ≡ endO
 unfolding endOf sizeOf cellOf
 end-at x t = ap (λ (y : ℕ). y + 9 ^ (15 - x % 16)) (start-at x t)
 
-rise-later : (codes : List ℕ) (at d : ℕ) → Rise (namesFrom codes at) → at + d ≤ length codes → Rise (namesFrom codes (at + d))
+rise-later : (codes : List ℕ) (at d : ℕ) → InOrder (namesFrom codes at) → at + d ≤ length codes → InOrder (namesFrom codes (at + d))
 rise-later codes at zero r h = let e : at + 0 ≡ at = omega arith in rw e r
 rise-later codes at (suc d) r h =
     let e : at + suc d ≡ at + 1 + d = omega arith in
     rw e (rise-later codes (at + 1) d ((rw (names-at codes at (omega arith)) at r) .1) (omega arith))
 
 in-turn-at :
-    (codes : List ℕ) (at i : ℕ) → allCodes codes ≡ true → Rise (namesFrom codes at) → at ≤ i → i + 1 < length codes →
+    (codes : List ℕ) (at i : ℕ) → allCodes codes ≡ true → InOrder (namesFrom codes at) → at ≤ i → i + 1 < length codes →
     getD codes i 0 / 16 + 9 ^ (15 - getD codes i 0 % 16) ≤ getD codes (i + 1) 0 / 16
 in-turn-at codes at i a r l h =
     let x : ℕ = getD codes i 0 in
@@ -142,7 +142,7 @@ in-turn-at codes at i a r l h =
     let t : isCode x ≡ true = code-at codes i a (omega arith) in
     let u : isCode y ≡ true = code-at codes (i + 1) a h in
     let e : at + (i - at) ≡ i = omega arith in
-    let q : Rise (namesFrom codes i) = rw e at (rise-later codes at (i - at) r (omega arith)) in
+    let q : InOrder (namesFrom codes i) = rw e at (rise-later codes at (i - at) r (omega arith)) in
     let b : endOf (cellOf x) ≤ startOf (cellOf y) =
     ahead-before (cellOf x) (cellOf y) (code-is-cell x t) (code-is-cell y u) ((rw (names-at codes i (omega arith), names-at codes (i + 1) h) at q) .0 .0) in
     omega (arith, end-at x t, start-at y u)
@@ -156,33 +156,33 @@ module _ (codes : List ℕ) (at : ℕ) (w : Name) (cell size k : ℕ) (s : NodeA
       omega (arith, end-named w x k (s .named) (code-at codes at (s .coded) h) (s .depth), start-named w (s .named), ap (λ (y : ℕ). y / 16) (s .code), s .sized)
 
   -- a code inside ends where the cell does or sooner
-  ends-in : (x : ℕ) → isCode x ≡ true → Prefix w (nameOf (cellOf x)) → x / 16 + 9 ^ (15 - x % 16) ≤ cell / 16 + size
+  ends-in : (x : ℕ) → isCode x ≡ true → Prefix w (numbersOf (cellOf x)) → x / 16 + 9 ^ (15 - x % 16) ≤ cell / 16 + size
   ends-in x t p =
       let i : Inside (cellNamed w) (cellOf x) = prefix-inside (cellNamed w) (cellOf x) (named-cell w (s .named)) (code-is-cell x t) (rw (name-named w (s .named)) p) in
       let j = inside-within (cellNamed w) (cellOf x) (named-cell w (s .named)) (code-is-cell x t) i in
       omega (arith, j .to, end-is, end-at x t)
 
   -- one behind begins there or later
-  starts-past : (x : ℕ) → isCode x ≡ true → Ahead w (nameOf (cellOf x)) → cell / 16 + size ≤ x / 16
+  starts-past : (x : ℕ) → isCode x ≡ true → Ahead w (numbersOf (cellOf x)) → cell / 16 + size ≤ x / 16
   starts-past x t p =
       let b : endOf (cellNamed w) ≤ startOf (cellOf x) = ahead-before (cellNamed w) (cellOf x) (named-cell w (s .named)) (code-is-cell x t) (rw (name-named w (s .named)) p) in
       omega (arith, end-is, start-at x t)
 
   module _ (next : ℕ) (l : next ≤ length codes) where
     names-length : (j : ℕ) → length (namesFrom codes j) ≡ length codes - j
-    names-length j = length-map (map cellOf (drop j codes)) nameOf ∙ length-map (drop j codes) cellOf ∙ length-drop j codes
+    names-length j = length-map (map cellOf (drop j codes)) numbersOf ∙ length-map (drop j codes) cellOf ∙ length-drop j codes
 
-    took-at : (j : ℕ) (front : List Name) (i : ℕ) → namesFrom codes i ≡ front ++ namesFrom codes next → Each (Prefix w) front → i ≤ j → j < next → Prefix w (nameOf (cellOf (getD codes j 0)))
+    took-at : (j : ℕ) (front : List Name) (i : ℕ) → namesFrom codes i ≡ front ++ namesFrom codes next → Each (Prefix w) front → i ≤ j → j < next → Prefix w (numbersOf (cellOf (getD codes j 0)))
     took-at j [] i e p a b = absurd (omega (arith, ap length e, names-length i, names-length next))
     took-at j (q ∷ front) i e p a b =
-        let f : nameOf (cellOf (getD codes i 0)) ∷ namesFrom codes (i + 1) ≡ q ∷ (front ++ namesFrom codes next) = sym (names-at codes i (omega arith)) ∙ e in
-        let g : nameOf (cellOf (getD codes i 0)) ≡ q = cc in
+        let f : numbersOf (cellOf (getD codes i 0)) ∷ namesFrom codes (i + 1) ≡ q ∷ (front ++ namesFrom codes next) = sym (names-at codes i (omega arith)) ∙ e in
+        let g : numbersOf (cellOf (getD codes i 0)) ≡ q = cc in
         let g₂ : namesFrom codes (i + 1) ≡ front ++ namesFrom codes next = cc in
         ⊎-elim (λ z. took-at j front (i + 1) g₂ (p .1) (omega arith) b)
         (λ z. let o : j ≡ i = omega arith in rw (o, g) (p .0))
         (lt-or i j)
 
-    past-at : (j i : ℕ) → Each (Ahead w) (namesFrom codes i) → j + i < length codes → Ahead w (nameOf (cellOf (getD codes (j + i) 0)))
+    past-at : (j i : ℕ) → Each (Ahead w) (namesFrom codes i) → j + i < length codes → Ahead w (numbersOf (cellOf (getD codes (j + i) 0)))
     past-at zero i p b = let z : 0 + i ≡ i = omega arith in rw z ((rw (names-at codes i (omega arith)) at p) .0)
     past-at (suc j) i p b =
         let z : suc j + i ≡ j + (i + 1) = omega arith in

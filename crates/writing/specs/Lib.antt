@@ -1,3 +1,3 @@
 pub mod Internal
 pub mod Laws
-pub mod WriteEntry
+pub mod Write

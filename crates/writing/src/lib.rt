@@ -11,7 +11,7 @@ ghost use lib.Dec.{ltb};
 ghost use Rattle.logic.specs.Refusal.{given};
 ghost use Rattle.code.specs.Code.{isCode, cellOf};
 ghost use Rattle.reading.specs.Text.{heading};
-ghost use Rattle.writing.specs.WriteEntry.{lies, listRefusal, textOf, writeRefusal, textIn, written};
+ghost use Rattle.writing.specs.Write.{lies, codesRefusal, textOf, writeRefusal, textIn, written};
 ghost use Rattle.writing.specs.Internal.EntryLaws.{LengthIs};
 use cell::Arrangement;
 
@@ -211,7 +211,7 @@ fn put_list(
 // 4 or 11, or 0 where the codes make a good list: a code that is no cell's comes before all else. A cell that starts where the one before it
 // ends, or later, comes after it and not inside.
 fn list_refusal(codes: &[u64]) -> u64
-    ensures { λ r. ⌜ r ≡ listRefusal (now (codes .entry)) ⌝ }
+    ensures { λ r. ⌜ r ≡ codesRefusal (now (codes .entry)) ⌝ }
 {
     let mut refusal: u64 = 0;
     let mut end: u64 = 0;
@@ -233,7 +233,7 @@ fn list_refusal(codes: &[u64]) -> u64
 
 // The length of the text of a good list.
 fn length_of(codes: &[u64]) -> u64
-    requires { ⌜ listRefusal (now codes) ≡ 0 ⌝ }
+    requires { ⌜ codesRefusal (now codes) ≡ 0 ⌝ }
     ensures { λ r. ⌜ LengthIs (now (codes .entry)) r ⌝ }
 {
     let taken = measure_list(codes, 0, 6, 0, 205_891_132_094_649);

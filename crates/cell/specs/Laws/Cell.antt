@@ -50,9 +50,9 @@ pub column-small : {c : Cell} → IsCell c → c .column < 14348907
 column-small v = lt-of-lt-of-le (v .columned) (power-le {j = 15} (v .fine))
 
 -- a bad arrangement is refused with 5
-pub five : (a : Arrangement) → (arrangementRefusal a ≡ 0 → ⊥) → arrangementRefusal a ≡ 5
+pub five-refused : (a : Arrangement) → (arrangementRefusal a ≡ 0 → ⊥) → arrangementRefusal a ≡ 5
 unfolding arrangementRefusal _otherwise_
-five a h = go (ltb 3 (a .north)) (ltb 3 (a .south)) h
+five-refused a h = go (ltb 3 (a .north)) (ltb 3 (a .south)) h
   where
     go : (s t : Bool) → (refuse s 5 otherwise refuse t 5 ≡ 0 → ⊥) → refuse s 5 otherwise refuse t 5 ≡ 5
     go true t h = refl

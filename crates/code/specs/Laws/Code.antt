@@ -208,9 +208,9 @@ pub code-stops : (code : ℕ) → isCode code ≡ false → codeRefusal code ≡
 unfolding codeRefusal
 code-stops code e = ap (λ (t : Bool). refuse (not t) 4) e
 
-pub four : (code : ℕ) → (codeRefusal code ≡ 0 → ⊥) → codeRefusal code ≡ 4
+pub four-refused : (code : ℕ) → (codeRefusal code ≡ 0 → ⊥) → codeRefusal code ≡ 4
 unfolding codeRefusal
-four code h = go (isCode code) h
+four-refused code h = go (isCode code) h
   where
     go : (t : Bool) → (refuse (not t) 4 ≡ 0 → ⊥) → refuse (not t) 4 ≡ 4
     go true h = absurd (h refl)

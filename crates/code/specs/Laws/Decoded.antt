@@ -10,7 +10,7 @@ use Rattle.cell.specs.Laws.Found.{found-at, found-refused}
 use Rattle.code.specs.declared.Split.{Split}
 use Rattle.code.specs.declared.Split.the-variants as split-as
 use Rattle.code.specs.Code.{cellOf, pathIn, codeRefusal, split}
-use Rattle.code.specs.Laws.Code.{a-code, four, code-is-cell}
+use Rattle.code.specs.Laws.Code.{a-code, four-refused, code-is-cell}
 
 pub record Decoded (code : ℕ) (x : Cell) : Type 0 where
   pub allowed : codeRefusal code ≡ 0
@@ -23,7 +23,7 @@ decoded code {x = x} e h =
     record { allowed = p .0; is = p .1; cell = subst IsCell (sym (p .1)) (code-is-cell code (a-code code (p .0))) }
 
 pub undecoded : (code : ℕ) {f : Found} {q : ℕ} → f ≡ found (codeRefusal code) (cellOf code) → f ≡ Refused q → codeRefusal code ≡ 4
-undecoded code {q = q} e h = four code (found-refused (codeRefusal code) (cellOf code) q (sym h ∙ e) .1)
+undecoded code {q = q} e h = four-refused code (found-refused (codeRefusal code) (cellOf code) q (sym h ∙ e) .1)
 
 pub record Parted (code f k p : ℕ) : Type 0 where
   pub allowed : codeRefusal code ≡ 0
@@ -42,7 +42,7 @@ parted code {f = f} {k = k} {p = p} e h = go (codeRefusal code) refl (sym h ∙ 
 
 pub unparted : (code : ℕ) {s : Split} {q : ℕ} → s ≡ split (codeRefusal code) code → s ≡ split-as.Refused q → codeRefusal code ≡ 4
 unfolding split
-unparted code {q = q} e h = four code (λ z. go (codeRefusal code) z (sym h ∙ e))
+unparted code {q = q} e h = four-refused code (λ z. go (codeRefusal code) z (sym h ∙ e))
   where
     go : (r : ℕ) → r ≡ 0 → split-as.Refused q ≡ split r code → ⊥
     go zero z g = let n : _≡_ {A = ℕ} 0 1 = cc in omega arith

@@ -13,28 +13,28 @@ use Rattle.logic.specs.Laws.Bools.{and-left, and-right, by-cond}
 use Rattle.ternary.specs.Digits.{value}
 use Rattle.ternary.specs.Laws.Digits.{value-snoc}
 use Rattle.signed.specs.Sign.{withSign}
-use Rattle.decimal.specs.Decimal.{isDigit, allDigits, written, wholeIn, numberOf, numberIn, ahead, behind, trimmed, fixOf, fixIn, printedFrom, printed, printedNumber}
+use Rattle.decimal.specs.Decimal.{isDecimal, allDecimal, decimalValue, wholeIn, signedNumber, numberIn, ahead, behind, trimmed, fixOf, fixIn, printedFrom, printed, printedNumber}
 use Rattle.decimal.specs.declared.Whole.the-variants as Wholes
 use Rattle.decimal.specs.declared.Number.the-variants as Numbers
 use Rattle.decimal.specs.declared.FixLine.the-variants as Lines
 
 -- a number that a fix may be made of: its size is below 2^63
-abbrev pub Fits : ℤ → Type 0
-Fits (pos n) = n < 2 ^ 63
-Fits (negsuc n) = suc n < 2 ^ 63
+abbrev pub FitsSigned : ℤ → Type 0
+FitsSigned (pos n) = n < 2 ^ 63
+FitsSigned (negsuc n) = suc n < 2 ^ 63
 
 -- ---- what is printed: digits, as many as there are powers of ten, whose number it is
 
-digit-snoc : (bs : List ℕ) (d : ℕ) → allDigits bs ≡ true → d < 10 → allDigits (bs ++ ((48 + d) ∷ [])) ≡ true
-unfolding allDigits
+digit-snoc : (bs : List ℕ) (d : ℕ) → allDecimal bs ≡ true → d < 10 → allDecimal (bs ++ ((48 + d) ∷ [])) ≡ true
+unfolding allDecimal
 digit-snoc [] d e h = simp (le-leb 48 (48 + d) (omega arith), le-leb (48 + d) 57 (omega arith))
-digit-snoc (b ∷ bs) d e h = ap₂ _&&_ (and-left (isDigit b) (allDigits bs) e) (digit-snoc bs d (and-right (isDigit b) (allDigits bs) e) h)
+digit-snoc (b ∷ bs) d e h = ap₂ _&&_ (and-left (isDecimal b) (allDecimal bs) e) (digit-snoc bs d (and-right (isDecimal b) (allDecimal bs) e) h)
 
-digits-from : (k x : ℕ) → allDigits (printedFrom k x) ≡ true
-unfolding allDigits
+digits-from : (k x : ℕ) → allDecimal (printedFrom k x) ≡ true
+unfolding allDecimal
 digits-from zero x = refl
 digits-from (suc k) x =
-    by-cond (λ (l : List ℕ). allDigits l ≡ true) (ltb x 10)
+    by-cond (λ (l : List ℕ). allDecimal l ≡ true) (ltb x 10)
     (λ t. digit-snoc [] x refl (ltb-true x 10 t))
     (λ t. digit-snoc (printedFrom k (x / 10)) (x % 10) (digits-from k (x / 10)) (omega arith))
 
@@ -61,16 +61,16 @@ short-from (suc k) j x p h =
     (λ t. omega arith)
     (λ t. short-more j x (printedFrom k (x / 10)) h (ltb-false x 10 t) (λ i. short-from k i (x / 10)))
 
-written-snoc : (bs : List ℕ) (d : ℕ) → written (bs ++ ((48 + d) ∷ [])) ≡ written bs * 10 + d
+written-snoc : (bs : List ℕ) (d : ℕ) → decimalValue (bs ++ ((48 + d) ∷ [])) ≡ decimalValue bs * 10 + d
 written-snoc bs d =
     let n : 48 + d - 48 ≡ d = omega arith in
-    ap (value 10) (map-append (λ (b : ℕ). b - 48) bs ((48 + d) ∷ [])) ∙ value-snoc 10 (map (λ (b : ℕ). b - 48) bs) (48 + d - 48) ∙ ap (λ (y : ℕ). written bs * 10 + y) n
+    ap (value 10) (map-append (λ (b : ℕ). b - 48) bs ((48 + d) ∷ [])) ∙ value-snoc 10 (map (λ (b : ℕ). b - 48) bs) (48 + d - 48) ∙ ap (λ (y : ℕ). decimalValue bs * 10 + y) n
 
-written-from : (k x : ℕ) → x < 10 ^ k → written (printedFrom k x) ≡ x
+written-from : (k x : ℕ) → x < 10 ^ k → decimalValue (printedFrom k x) ≡ x
 unfolding value
 written-from zero x h = omega arith
 written-from (suc k) x h =
-    by-cond (λ (l : List ℕ). written l ≡ x) (ltb x 10)
+    by-cond (λ (l : List ℕ). decimalValue l ≡ x) (ltb x 10)
     (λ t. written-snoc [] x ∙ omega arith)
     (λ t.
     let e = written-from k (x / 10) (omega (arith, pow-suc 10 k)) in
@@ -78,7 +78,7 @@ written-from (suc k) x h =
     omega arith)
 
 module _ (x : ℕ) where
-  pub printed-digits : allDigits (printed x) ≡ true
+  pub printed-digits : allDecimal (printed x) ≡ true
   unfolding printed
   printed-digits = digits-from 20 x
 
@@ -90,7 +90,7 @@ module _ (x : ℕ) where
   unfolding printed
   printed-short j = short-from 20 j x
 
-  pub printed-written : x < 10 ^ 20 → written (printed x) ≡ x
+  pub printed-written : x < 10 ^ 20 → decimalValue (printed x) ≡ x
   unfolding printed
   printed-written h = written-from 20 x h
 
@@ -107,12 +107,12 @@ abbrev pub Free : ℕ → List ℕ → Type 0
 Free stop [] = Unit {0}
 Free stop (b ∷ bs) = (b ≡ stop → ⊥) × Free stop bs
 
-free-digits : (stop : ℕ) (bs : List ℕ) → stop < 48 → allDigits bs ≡ true → Free stop bs
-unfolding allDigits
+free-digits : (stop : ℕ) (bs : List ℕ) → stop < 48 → allDecimal bs ≡ true → Free stop bs
+unfolding allDecimal
 free-digits stop [] h e = tt
 free-digits stop (b ∷ bs) h e =
-    let l = leb-true 48 b (and-left (leb 48 b) (leb b 57) (and-left (isDigit b) (allDigits bs) e)) in
-    (λ q. omega arith, free-digits stop bs h (and-right (isDigit b) (allDigits bs) e))
+    let l = leb-true 48 b (and-left (leb 48 b) (leb b 57) (and-left (isDecimal b) (allDecimal bs) e)) in
+    (λ q. omega arith, free-digits stop bs h (and-right (isDecimal b) (allDecimal bs) e))
 
 free-append : (stop : ℕ) (bs cs : List ℕ) → Free stop bs → Free stop cs → Free stop (bs ++ cs)
 free-append stop [] cs f g = g
@@ -145,27 +145,27 @@ trimmed-return (b ∷ c ∷ bs) = ap (λ (l : List ℕ). b ∷ l) (trimmed-retur
 -- ---- numbers and fixes
 
 -- with no minus sign
-number-plain : (bs : List ℕ) → Free 45 bs → numberIn bs ≡ numberOf false (wholeIn bs)
-unfolding numberIn numberOf wholeIn
+number-plain : (bs : List ℕ) → Free 45 bs → numberIn bs ≡ signedNumber false (wholeIn bs)
+unfolding numberIn signedNumber wholeIn
 number-plain [] f = refl
 number-plain (b ∷ bs) f = simp (ne-eqb b 45 (f .0))
 
-number-of : (b : Bool) (n : ℕ) → n < 2 ^ 63 → numberOf b (Wholes.Is n) ≡ Numbers.Is (withSign b n)
-unfolding numberOf
+number-of : (b : Bool) (n : ℕ) → n < 2 ^ 63 → signedNumber b (Wholes.Is n) ≡ Numbers.Is (withSign b n)
+unfolding signedNumber
 number-of b n h = simp (lt-ltb n (2 ^ 63) h)
 
-number-minus : (bs : List ℕ) → numberIn (45 ∷ bs) ≡ numberOf true (wholeIn bs)
+number-minus : (bs : List ℕ) → numberIn (45 ∷ bs) ≡ signedNumber true (wholeIn bs)
 unfolding numberIn
 number-minus bs = refl
 
-pub number-printed : (x : ℤ) → Fits x → numberIn (printedNumber x) ≡ Numbers.Is x
+pub number-printed : (x : ℤ) → FitsSigned x → numberIn (printedNumber x) ≡ Numbers.Is x
 unfolding printedNumber
 number-printed (pos n) h =
-    number-plain (printed n) (free-digits 45 (printed n) (omega arith) (printed-digits n)) ∙ ap (numberOf false) (whole-printed n (omega arith)) ∙ number-of false n h
-number-printed (negsuc n) h = number-minus (printed (suc n)) ∙ ap (numberOf true) (whole-printed (suc n) (omega arith)) ∙ number-of true (suc n) h
+    number-plain (printed n) (free-digits 45 (printed n) (omega arith) (printed-digits n)) ∙ ap (signedNumber false) (whole-printed n (omega arith)) ∙ number-of false n h
+number-printed (negsuc n) h = number-minus (printed (suc n)) ∙ ap (signedNumber true) (whole-printed (suc n) (omega arith)) ∙ number-of true (suc n) h
 
 -- a line that is this once its return is off
-fix-trimmed : (longitude z : ℤ) (line : List ℕ) → Fits longitude → Fits z → trimmed line ≡ printedNumber longitude ++ (32 ∷ printedNumber z) → fixIn line ≡ Lines.Fix longitude z
+fix-trimmed : (longitude z : ℤ) (line : List ℕ) → FitsSigned longitude → FitsSigned z → trimmed line ≡ printedNumber longitude ++ (32 ∷ printedNumber z) → fixIn line ≡ Lines.Fix longitude z
 unfolding fixIn fixOf
 fix-trimmed longitude z line h k e =
     let f = free-number 32 longitude (omega arith) in
@@ -174,13 +174,13 @@ fix-trimmed longitude z line h k e =
     ap₂ fixOf (ap numberIn a ∙ number-printed longitude h) (ap numberIn b ∙ number-printed z k)
 
 -- a line made of two printed numbers is that fix
-pub fix-printed : (longitude z : ℤ) → Fits longitude → Fits z → fixIn (printedNumber longitude ++ (32 ∷ printedNumber z)) ≡ Lines.Fix longitude z
+pub fix-printed : (longitude z : ℤ) → FitsSigned longitude → FitsSigned z → fixIn (printedNumber longitude ++ (32 ∷ printedNumber z)) ≡ Lines.Fix longitude z
 fix-printed longitude z h k =
     let f = free-append 13 (printedNumber longitude) (32 ∷ printedNumber z) (free-number 13 longitude (omega arith)) (λ q. omega arith, free-number 13 z (omega arith)) in
     fix-trimmed longitude z (printedNumber longitude ++ (32 ∷ printedNumber z)) h k (trimmed-free (printedNumber longitude ++ (32 ∷ printedNumber z)) f)
 
 -- and so it is with a carriage return at its end
-pub fix-returned : (longitude z : ℤ) → Fits longitude → Fits z → fixIn (printedNumber longitude ++ (32 ∷ (printedNumber z ++ (13 ∷ [])))) ≡ Lines.Fix longitude z
+pub fix-returned : (longitude z : ℤ) → FitsSigned longitude → FitsSigned z → fixIn (printedNumber longitude ++ (32 ∷ (printedNumber z ++ (13 ∷ [])))) ≡ Lines.Fix longitude z
 fix-returned longitude z h k =
     let line = printedNumber longitude ++ (32 ∷ printedNumber z) in
     ap fixIn (sym (append-assoc (printedNumber longitude) (32 ∷ printedNumber z) (13 ∷ []))) ∙ fix-trimmed longitude z (line ++ (13 ∷ [])) h k (trimmed-return line)

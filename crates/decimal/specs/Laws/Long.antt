@@ -10,7 +10,7 @@ use lib.ListN.{length, take}
 use borrow.Author.Tests.{lt-leb}
 use Rattle.logic.specs.Laws.Bools.{by-cond}
 use Rattle.logic.specs.Laws.Order.{lt-or}
-use Rattle.decimal.specs.Decimal.{allDigits, wholeIn, numberOf, numberIn, ahead, behind, trimmed, fixOf, fixIn}
+use Rattle.decimal.specs.Decimal.{allDecimal, wholeIn, signedNumber, numberIn, ahead, behind, trimmed, fixOf, fixIn}
 use Rattle.decimal.specs.declared.Whole.{Whole}
 use Rattle.decimal.specs.declared.Whole.the-variants as Wholes
 use Rattle.decimal.specs.declared.Number.{Number}
@@ -26,11 +26,11 @@ unfolding wholeIn
 whole-long bs h = rw (lt-leb (length bs) 19 (omega arith), and-false (leb 1 (length bs))) refl
 
 number-long : (bs : List ℕ) → 21 ≤ length bs → numberIn bs ≡ Numbers.Not
-unfolding numberIn numberOf
+unfolding numberIn signedNumber
 number-long [] h = refl
 number-long (b ∷ bs) h =
-    by-cond (λ (x : Number). x ≡ Numbers.Not) (eqb b 45) (λ _. ap (numberOf true) (whole-long bs (omega arith)))
-    (λ _. ap (numberOf false) (whole-long (b ∷ bs) (omega arith)))
+    by-cond (λ (x : Number). x ≡ Numbers.Not) (eqb b 45) (λ _. ap (signedNumber true) (whole-long bs (omega arith)))
+    (λ _. ap (signedNumber false) (whole-long (b ∷ bs) (omega arith)))
 
 parts-length : (stop : ℕ) (bs : List ℕ) → length bs ≤ length (ahead stop bs) + length (behind stop bs) + 1
 parts-length stop [] = omega arith

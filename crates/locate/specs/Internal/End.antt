@@ -6,16 +6,16 @@ use Rattle.cell.specs.declared.Arrangement.{Arrangement}
 use Rattle.cell.specs.Neighbour.{turnOf}
 use Rattle.root.specs.Floor.{axisOf}
 use Rattle.locate.specs.declared.End.{End}
-use Rattle.locate.specs.Fix.{Point, quarter, startNorth, startSouth, turnedNorth, turnedSouth}
+use Rattle.locate.specs.Fix.{CapPoint, quarter, startNorth, startSouth, turnedNorth, turnedSouth}
 
 -- the point of a cap, turned: that of `southCell` or of `northCell`
-abbrev pub endOf : Arrangement → (south : Bool) (east : ℕ) → Point
-endOf a south east =
+abbrev pub turnedEnd : Arrangement → (south : Bool) (east : ℕ) → CapPoint
+turnedEnd a south east =
     cond south (turnedSouth (turnOf (east / quarter) (a .south)) (startSouth (east % quarter)))
     (turnedNorth (turnOf (east / quarter) (a .north)) (startNorth (east % quarter)))
 
 -- the numbers are those of the point, and small enough for a floor
-pub record Stands (x : Point) (r : End) : Type 0 where
+pub record Stands (x : CapPoint) (r : End) : Type 0 where
   pub first : axisOf (r .p) ≡ x .0
   pub second : axisOf (r .q) ≡ x .1
   pub first-small : r .p .size ≤ quarter

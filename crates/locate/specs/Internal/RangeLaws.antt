@@ -9,7 +9,7 @@ use borrow.Author.Tests.{leb-true, leb-false, ltb-true, le-leb, lt-leb}
 use Rattle.logic.specs.Laws.Bools.{and-left, and-right}
 use Rattle.signed.specs.Sign.{negative, withSign}
 use Rattle.signed.specs.Laws.Sign.{sub-at, size-between, minus-plain, sign-and-size}
-use Rattle.locate.specs.Fix.{inRange, eastOf, inBelt, offsetOf, heightOf}
+use Rattle.locate.specs.Fix.{inRange, eastOf, isBelt, offsetOf, heightOf}
 
 east-below : (L : ℤ) → leZ (negℤ (pos 1800000000)) L ≡ true → ltZ L (pos 1800000000) ≡ true → eastOf L < 3600000000
 unfolding eastOf
@@ -36,12 +36,12 @@ module _ (L z : ℤ) (r : inRange L z ≡ true) where
 
 -- ---- the belt: 2 x 10^18 - 3z, by z's sign and size
 
-pub in-belt : (z : ℤ) → inBelt z ≡ true → 3 * natAbs z ≤ 2 * 10 ^ 18
-unfolding inBelt
+pub in-belt : (z : ℤ) → isBelt z ≡ true → 3 * natAbs z ≤ 2 * 10 ^ 18
+unfolding isBelt
 in-belt z t = leb-true (3 * natAbs z) (2 * 10 ^ 18) t
 
-pub belt-at : (z : ℤ) → 3 * natAbs z ≤ 2 * 10 ^ 18 → inBelt z ≡ true
-unfolding inBelt
+pub belt-at : (z : ℤ) → 3 * natAbs z ≤ 2 * 10 ^ 18 → isBelt z ≡ true
+unfolding isBelt
 belt-at z h = le-leb (3 * natAbs z) (2 * 10 ^ 18) h
 
 pub offset-south : (y : ℕ) → 2 * 10 ^ 18 + 3 * y ≡ offsetOf (withSign true y)
@@ -58,19 +58,19 @@ offset-below : (b : Bool) (y : ℕ) → 3 * y ≤ 2 * 10 ^ 18 → offsetOf (with
 offset-below true y h = rw (← offset-south y) (omega arith)
 offset-below false y h = rw (← offset-north y h) (omega arith)
 
-pub offset-small : (z : ℤ) → inBelt z ≡ true → offsetOf z < 4 * 10 ^ 18
+pub offset-small : (z : ℤ) → isBelt z ≡ true → offsetOf z < 4 * 10 ^ 18
 offset-small z t = rw (sign-and-size z) at (offset-below (negative z) (natAbs z) (in-belt z t))
 
 -- ---- the caps: (10^9 h)^2 is below 10^18
 
-pub outside : (z : ℤ) → inBelt z ≡ false → 2 * 10 ^ 18 < 3 * natAbs z
-unfolding inBelt
+pub outside : (z : ℤ) → isBelt z ≡ false → 2 * 10 ^ 18 < 3 * natAbs z
+unfolding isBelt
 outside z t = leb-false (3 * natAbs z) (2 * 10 ^ 18) t
 
-pub cap-at : (z : ℤ) → 2 * 10 ^ 18 < 3 * natAbs z → inBelt z ≡ false
-unfolding inBelt
+pub cap-at : (z : ℤ) → 2 * 10 ^ 18 < 3 * natAbs z → isBelt z ≡ false
+unfolding isBelt
 cap-at z h = lt-leb (3 * natAbs z) (2 * 10 ^ 18) h
 
-pub height-small : (z : ℤ) → inBelt z ≡ false → heightOf z < 10 ^ 18
+pub height-small : (z : ℤ) → isBelt z ≡ false → heightOf z < 10 ^ 18
 unfolding heightOf
 height-small z t = let h = outside z t in omega arith

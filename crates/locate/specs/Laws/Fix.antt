@@ -21,10 +21,10 @@ use Rattle.cell.specs.Neighbour.{turnOf}
 use Rattle.root.specs.Floor.{square, atMost, rootFloor}
 use Rattle.root.specs.Laws.Square.{plus-under, plus-not, minus-is, minus-over}
 use Rattle.root.specs.Laws.Floor.{floor-one, floor-below, floor-third'}
-use Rattle.locate.specs.Fix.{Point, quarter, inRange, inBelt, eastOf, offsetOf, heightOf, startNorth, startSouth, turnedNorth, turnedSouth, beltCell, capCell, northCell, southCell, fixCell, fixRefusal}
+use Rattle.locate.specs.Fix.{CapPoint, quarter, inRange, isBelt, eastOf, offsetOf, heightOf, startNorth, startSouth, turnedNorth, turnedSouth, beltCell, capCell, northCell, southCell, fixCell, fixRefusal}
 use Rattle.locate.specs.Laws.Part.{part-lt, part-third}
 use Rattle.locate.specs.Internal.RangeLaws.{east-small, offset-small, height-small}
-use Rattle.locate.specs.Laws.Turn.{Within, opposite-le, north-within, south-within, start-north, start-south}
+use Rattle.locate.specs.Laws.Turn.{Spanned, opposite-le, north-within, south-within, start-north, start-south}
 
 -- ---- the three places
 
@@ -35,25 +35,25 @@ module _ (a : Arrangement) (k : ℕ) (L z : ℤ) where
   abbrev inSouth : Cell
   inSouth = southCell (a .south) k (eastOf L) (heightOf z)
 
-  pub fix-belt : inBelt z ≡ true → fixCell a k L z ≡ beltCell k (eastOf L) (offsetOf z)
+  pub fix-belt : isBelt z ≡ true → fixCell a k L z ≡ beltCell k (eastOf L) (offsetOf z)
   unfolding fixCell
   fix-belt e = ap (λ (t : Bool). cond t (beltCell k (eastOf L) (offsetOf z)) (cond (ltZ z (pos 0)) inSouth inNorth)) e
 
-  outside-belt : inBelt z ≡ false → fixCell a k L z ≡ cond (ltZ z (pos 0)) inSouth inNorth
+  outside-belt : isBelt z ≡ false → fixCell a k L z ≡ cond (ltZ z (pos 0)) inSouth inNorth
   unfolding fixCell
   outside-belt e = ap (λ (t : Bool). cond t (beltCell k (eastOf L) (offsetOf z)) (cond (ltZ z (pos 0)) inSouth inNorth)) e
 
-  pub fix-south : inBelt z ≡ false → ltZ z (pos 0) ≡ true → fixCell a k L z ≡ inSouth
+  pub fix-south : isBelt z ≡ false → ltZ z (pos 0) ≡ true → fixCell a k L z ≡ inSouth
   fix-south e f = outside-belt e ∙ ap (λ (t : Bool). cond t inSouth inNorth) f
 
-  pub fix-north : inBelt z ≡ false → ltZ z (pos 0) ≡ false → fixCell a k L z ≡ inNorth
+  pub fix-north : isBelt z ≡ false → ltZ z (pos 0) ≡ false → fixCell a k L z ≡ inNorth
   fix-north e f = outside-belt e ∙ ap (λ (t : Bool). cond t inSouth inNorth) f
 
 -- the points that the caps' floors are taken of
-north-point : (n east : ℕ) → Within quarter (turnedNorth (turnOf (east / quarter) n) (startNorth (east % quarter)))
+north-point : (n east : ℕ) → Spanned quarter (turnedNorth (turnOf (east / quarter) n) (startNorth (east % quarter)))
 north-point n east = north-within (turnOf (east / quarter) n) (startNorth (east % quarter)) (start-north (east % quarter) (omega arith))
 
-south-point : (s east : ℕ) → Within quarter (turnedSouth (turnOf (east / quarter) s) (startSouth (east % quarter)))
+south-point : (s east : ℕ) → Spanned quarter (turnedSouth (turnOf (east / quarter) s) (startSouth (east % quarter)))
 south-point s east = south-within (turnOf (east / quarter) s) (startSouth (east % quarter)) (start-south (east % quarter) (omega arith))
 
 -- ---- the answer is a cell
@@ -68,7 +68,7 @@ belt-is-cell k east offset h l o =
       columned = rw mul-comm (part-lt (3 ^ k) (east % quarter) quarter (omega arith) (power-pos k));
     }
 
-cap-is-cell : (face k t : ℕ) (x : Point) → face ≤ 5 → k ≤ 15 → t < 10 ^ 18 → Within quarter x → IsCell (capCell face k t x)
+cap-is-cell : (face k t : ℕ) (x : CapPoint) → face ≤ 5 → k ≤ 15 → t < 10 ^ 18 → Spanned quarter x → IsCell (capCell face k t x)
 unfolding capCell
 cap-is-cell face k t x f h l w =
     record {
@@ -81,7 +81,7 @@ cap-is-cell face k t x f h l w =
 pub fix-is-cell : {a : Arrangement} {k : ℕ} (L z : ℤ) → IsArrangement a → k ≤ 15 → inRange L z ≡ true → IsCell (fixCell a k L z)
 unfolding fixCell
 fix-is-cell {a} {k} L z v h r =
-    by-cond IsCell (inBelt z)
+    by-cond IsCell (isBelt z)
     (λ e. belt-is-cell k (eastOf L) (offsetOf z) h (east-small L z r) (offset-small z e))
     (λ e.
     by-cond IsCell (ltZ z (pos 0))
@@ -117,7 +117,7 @@ belt-parent k east offset =
     ap (λ (x : ℕ). x / quarter / 3) (mul-comm a (3 ^ (k + 1))) ∙ third-power k a quarter ∙ ap (λ (x : ℕ). x / quarter) (mul-comm (3 ^ k) a) in
     λ i. record { face = 1 + east / quarter; resolution = j i; row = r i; column = c i }
 
-cap-parent : (face k t : ℕ) (x : Point) → t < 10 ^ 18 → Within quarter x → parentOf (capCell face (k + 1) t x) ≡ capCell face k t x
+cap-parent : (face k t : ℕ) (x : CapPoint) → t < 10 ^ 18 → Spanned quarter x → parentOf (capCell face (k + 1) t x) ≡ capCell face k t x
 unfolding parentOf capCell
 cap-parent face k t x h w =
     let j : k + 1 - 1 ≡ k = omega arith in
@@ -131,9 +131,9 @@ cap-parent face k t x h w =
 
 pub parent-agrees : (a : Arrangement) (k : ℕ) (L z : ℤ) → parentOf (fixCell a (k + 1) L z) ≡ fixCell a k L z
 unfolding northCell southCell
-parent-agrees a k L z = go (inBelt z) (ltZ z (pos 0)) refl refl
+parent-agrees a k L z = go (isBelt z) (ltZ z (pos 0)) refl refl
   where
-    go : (s t : Bool) → inBelt z ≡ s → ltZ z (pos 0) ≡ t → parentOf (fixCell a (k + 1) L z) ≡ fixCell a k L z
+    go : (s t : Bool) → isBelt z ≡ s → ltZ z (pos 0) ≡ t → parentOf (fixCell a (k + 1) L z) ≡ fixCell a k L z
     go true t e f = ap parentOf (fix-belt a (k + 1) L z e) ∙ belt-parent k (eastOf L) (offsetOf z) ∙ sym (fix-belt a k L z e)
     go false true e f =
         ap parentOf (fix-south a (k + 1) L z e f)
@@ -204,17 +204,17 @@ level m w (negsuc g) e =
 unfoldable pub middleCell : (face k : ℕ) → Cell
 middleCell face k = record { face = face; resolution = k; row = 3 ^ k / 2; column = 3 ^ k / 2 }
 
-middle : (face k : ℕ) (x : Point) → capCell face k 0 x ≡ middleCell face k
+middle : (face k : ℕ) (x : CapPoint) → capCell face k 0 x ≡ middleCell face k
 unfolding capCell middleCell
 middle face k x =
     λ i. record { face = face; resolution = k; row = level (3 ^ k) (3 ^ k / 2) (negℤ (x .1)) (half k) i; column = level (3 ^ k) (3 ^ k / 2) (x .0) (half k) i }
 
 pub pole-north : (a : Arrangement) (k : ℕ) (L : ℤ) → fixCell a k L (pos (10 ^ 18)) ≡ middleCell 0 k
-unfolding northCell heightOf inBelt
+unfolding northCell heightOf isBelt
 pole-north a k L = fix-north a k L (pos (10 ^ 18)) refl refl ∙ middle 0 k (turnedNorth (turnOf (eastOf L / quarter) (a .north)) (startNorth (eastOf L % quarter)))
 
 pub pole-south : (a : Arrangement) (k : ℕ) (L : ℤ) → fixCell a k L (negℤ (pos (10 ^ 18))) ≡ middleCell 5 k
-unfolding southCell heightOf inBelt
+unfolding southCell heightOf isBelt
 pole-south a k L = fix-south a k L (negℤ (pos (10 ^ 18))) refl refl ∙ middle 5 k (turnedSouth (turnOf (eastOf L / quarter) (a .south)) (startSouth (eastOf L % quarter)))
 
 pub pole : (a : Arrangement) (k : ℕ) (L L' z : ℤ) → natAbs z ≡ 10 ^ 18 → fixCell a k L z ≡ fixCell a k L' z

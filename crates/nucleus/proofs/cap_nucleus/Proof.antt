@@ -7,21 +7,21 @@ use native.Mathlib.Omega.{arith}
 use lib.IntN.{pos, negℤ}
 use borrow.Author.Needs.{needs}
 use Rattle.signed.specs.Laws.Sign.{back-as}
-use Rattle.locate.specs.Fix.{Point}
+use Rattle.locate.specs.Fix.{CapPoint}
 use Rattle.nucleus.specs.Nucleus.{fix, centred, capLongitude, northZ, southZ, northNucleus, southNucleus}
-use Rattle.nucleus.specs.Internal.TriangleLaws.{middle, Inside, OffCentre, IsStart}
+use Rattle.nucleus.specs.Internal.TriangleLaws.{middle, InFace, OffCentre, IsStart}
 use Rattle.nucleus.specs.Internal.StartLaws.{off-centre, north-is, south-is, north-pole, south-pole}
 use Rattle.nucleus.proofs.Laws.{finer-cap}
 use Rattle.nucleus.proofs.cap_nucleus.Statement.{statement}
 use Rattle.nucleus.proofs.cap_nucleus.Tie as tie
 
 -- the pole of either cap
-polar : (b : Bool) (n m : ℕ) (x : Point) → centred x ≡ true → cond b (southNucleus n m x) (northNucleus n m x) ≡ fix (negℤ (pos 1800000000)) (cond b (negℤ (pos (10 ^ 18))) (pos (10 ^ 18)))
+polar : (b : Bool) (n m : ℕ) (x : CapPoint) → centred x ≡ true → cond b (southNucleus n m x) (northNucleus n m x) ≡ fix (negℤ (pos 1800000000)) (cond b (negℤ (pos (10 ^ 18))) (pos (10 ^ 18)))
 polar true n m x e = south-pole n m x e
 polar false n m x e = north-pole n m x e
 
 -- the middle that has the start lies in the face too, and off its centre
-started : (south : Bool) (m a b : ℕ) → Inside m a b → OffCentre m a b → Inside m a (cond south (2 * m - b) b) × OffCentre m a (cond south (2 * m - b) b)
+started : (south : Bool) (m a b : ℕ) → InFace m a b → OffCentre m a b → InFace m a (cond south (2 * m - b) b) × OffCentre m a (cond south (2 * m - b) b)
 started true m a b p o = (record { small = p .small; left = p .left; right = p .right; top = omega (arith, p); bottom = omega (arith, p) }, λ e f. o e (omega (arith, p)))
 started false m a b p o = (p, o)
 

@@ -19,7 +19,7 @@ use Rattle.cell.specs.Laws.Cell.{row-small, column-small}
 use Rattle.locate.specs.Fix.{quarter}
 use Rattle.nucleus.specs.declared.Fix.{Fix}
 use Rattle.nucleus.specs.Nucleus.{fix, beltLongitude, beltZ, northNucleus, southNucleus, groundNucleus}
-use Rattle.nucleus.specs.Internal.TriangleLaws.{middle, Inside}
+use Rattle.nucleus.specs.Internal.TriangleLaws.{middle, InFace}
 use Rattle.nucleus.specs.Internal.PlaceLaws.{on-north, on-belt, on-south}
 use Rattle.nucleus.proofs.Laws.{up-times, finer-along, finer-z, finer-lt}
 use Rattle.nucleus.proofs.ground_nucleus.Statement.{statement}
@@ -77,7 +77,7 @@ module _ (c : tie.After-power2) where
   side : m ≡ rows cell
   side = c .before .before .power .ensures
 
-  inside : Inside m a b
+  inside : InFace m a b
   inside =
       let e = side in
       let v = start .pre .1 in

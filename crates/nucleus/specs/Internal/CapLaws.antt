@@ -15,7 +15,7 @@ use Rattle.cell.specs.declared.Arrangement.{Arrangement}
 use Rattle.cell.specs.Cell.{IsCell}
 use Rattle.cell.specs.Neighbour.{rows, turnOf}
 use Rattle.cell.specs.Laws.Turns.{turn-of-face}
-use Rattle.locate.specs.Fix.{Point, quarter, inRange, heightOf, startNorth, startSouth, turnedNorth, turnedSouth, capCell, northCell, southCell}
+use Rattle.locate.specs.Fix.{CapPoint, quarter, inRange, heightOf, startNorth, startSouth, turnedNorth, turnedSouth, capCell, northCell, southCell}
 use Rattle.locate.specs.Laws.Fix.{fix-north, fix-south, middleCell, pole-north, pole-south}
 use Rattle.nucleus.specs.Nucleus.{floorZ, capLongitude, northZ, southZ}
 use Rattle.nucleus.specs.Internal.FlooredLaws.{floor-at, floor-below, floor-plus, floor-minus}
@@ -129,7 +129,7 @@ module _ (m h : ℕ) (hm : m ≤ 14348907) (h0 : 0 < h) (hh : h < m) where
 -- ---- the cell again
 
 -- the column and the row, from a point near the middle
-cap-cell : {c : Cell} (w h : ℕ) (x y : Point) → IsCell c → h < rows c → Tall (rows c) h w → Near h (x .0) (y .0) → Near h (x .1) (y .1)
+cap-cell : {c : Cell} (w h : ℕ) (x y : CapPoint) → IsCell c → h < rows c → Tall (rows c) h w → Near h (x .0) (y .0) → Near h (x .1) (y .1)
     → y ≡ middle (rows c) (2 * c .column + 1) (2 * c .row + 1) → capCell (c .face) (c .resolution) (3 * (1000000000000000000 - w)) x ≡ c
 unfolding capCell
 cap-cell {c} w h x y v hh t p q e =
@@ -140,8 +140,8 @@ cap-cell {c} w h x y v hh t p q e =
     record {
       face = c .face;
       resolution = c .resolution;
-      row = hit m h k hm hh (t .low) (t .high) (negℤ (x .1)) (negℤ (y .1)) (c .row) (near-neg q) (ap (λ (z : Point). negℤ (z .1)) e ∙ sub-neg m (2 * c .row + 1)) i;
-      column = hit m h k hm hh (t .low) (t .high) (x .0) (y .0) (c .column) p (ap (λ (z : Point). z .0) e) i;
+      row = hit m h k hm hh (t .low) (t .high) (negℤ (x .1)) (negℤ (y .1)) (c .row) (near-neg q) (ap (λ (z : CapPoint). negℤ (z .1)) e ∙ sub-neg m (2 * c .row + 1)) i;
+      column = hit m h k hm hh (t .low) (t .high) (x .0) (y .0) (c .column) p (ap (λ (z : CapPoint). z .0) e) i;
     }
 
 pub north-again : (a : Arrangement) {c : Cell} (r h e : ℕ) → a .north ≤ 3 → IsCell c → c .face ≡ 0

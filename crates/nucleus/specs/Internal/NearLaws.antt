@@ -14,7 +14,7 @@ use Rattle.division.specs.Laws.Division.{low, high}
 use Rattle.root.specs.Floor.{square, rootFloor}
 use Rattle.root.specs.Laws.Square.{square-le, square-mul, plus-under, plus-square, plus-not, minus-is, minus-over, minus-not}
 use Rattle.root.specs.Laws.Floor.{plus-exact, minus-exact}
-use Rattle.locate.specs.Fix.{Point, quarter, turnedNorth, turnedSouth}
+use Rattle.locate.specs.Fix.{CapPoint, quarter, turnedNorth, turnedSouth}
 
 -- a square of a product, sorted
 regroup : (m g t : ℕ) → square (m * g) * t ≡ square g * (m * m * t)
@@ -120,12 +120,12 @@ near-neg n =
     }
 
 -- turning keeps what is near near
-pub near-north : (h r : ℕ) (a b : Point) → Near h (a .0) (b .0) → Near h (a .1) (b .1) → Near h (turnedNorth r a .0) (turnedNorth r b .0) × Near h (turnedNorth r a .1) (turnedNorth r b .1)
+pub near-north : (h r : ℕ) (a b : CapPoint) → Near h (a .0) (b .0) → Near h (a .1) (b .1) → Near h (turnedNorth r a .0) (turnedNorth r b .0) × Near h (turnedNorth r a .1) (turnedNorth r b .1)
 unfolding turnedNorth
 near-north h zero a b p q = (p, q)
 near-north h (suc r) a b p q = near-north h r (negℤ (a .1), a .0) (negℤ (b .1), b .0) (near-neg q) p
 
-pub near-south : (h r : ℕ) (a b : Point) → Near h (a .0) (b .0) → Near h (a .1) (b .1) → Near h (turnedSouth r a .0) (turnedSouth r b .0) × Near h (turnedSouth r a .1) (turnedSouth r b .1)
+pub near-south : (h r : ℕ) (a b : CapPoint) → Near h (a .0) (b .0) → Near h (a .1) (b .1) → Near h (turnedSouth r a .0) (turnedSouth r b .0) × Near h (turnedSouth r a .1) (turnedSouth r b .1)
 unfolding turnedSouth
 near-south h zero a b p q = (p, q)
 near-south h (suc r) a b p q = near-south h r (a .1, negℤ (a .0)) (b .1, negℤ (b .0)) q (near-neg p)

@@ -14,7 +14,7 @@ use Rattle.signed.specs.Laws.Times.{sub-cross, sub-times, times-neg, pos-more, 
 use Rattle.cell.specs.declared.Cell.{Cell}
 use Rattle.cell.specs.Neighbour.{belt, rows, turnOf}
 use Rattle.cell.specs.Laws.Turns.{face-of-turn}
-use Rattle.locate.specs.Fix.{Point, quarter, turnedNorth, turnedSouth}
+use Rattle.locate.specs.Fix.{CapPoint, quarter, turnedNorth, turnedSouth}
 use Rattle.nucleus.specs.Nucleus.{quotient, remainder, SentToBelt, SentToCap, northPoint, southPoint}
 use Rattle.nucleus.specs.Internal.TriangleLaws.{middle, IsStart}
 use Rattle.nucleus.specs.Internal.StartLaws.{mirror, mirror-south}
@@ -40,7 +40,7 @@ along m k s b x e =
     let f = sub-cross (m * k + q) p (b * k) 0 (sym (pos-less (m * k) p q) ∙ ap (λ (z : ℤ). pos (m * k) -ℤ z) (sym (w .2)) ∙ e ∙ pos-sub (b * k)) in
     w .2 ∙ sub-same p q (k * m) (k * b) (omega (arith, mul-comm m k, mul-comm b k)) ∙ sym (sub-times k m b)
 
-point-is : {c : Cell} {x : Point} {d : ℕ} {u : ℤ} {v g f : ℕ} → SentToCap c x d u v g f → times (rows c * g) x ≡ times (d * quarter * f) (middle (rows c) (2 * c .column + 1) (2 * c .row + 1))
+point-is : {c : Cell} {x : CapPoint} {d : ℕ} {u : ℤ} {v g f : ℕ} → SentToCap c x d u v g f → times (rows c * g) x ≡ times (d * quarter * f) (middle (rows c) (2 * c .column + 1) (2 * c .row + 1))
 point-is {c} {x} {d} {u} {v} {g} {f} s =
     λ i.
     (across (rows c) (d * quarter * f) (rows c * g) (2 * c .column + 1) (x .0) (s .column) i, along (rows c) (d * quarter * f) (rows c * g) (2 * c .row + 1) (x .1) (s .row) i)
@@ -56,7 +56,7 @@ mirrored m a b k l t s d h e =
     ∙ over l (middle m a b)
     ∙ ap (times l) (λ i. (subℕ a m, (sub-neg m b ∙ sub-same b m m (2 * m - b) (omega arith)) i))
   where
-    over : (n : ℕ) (x : Point) → mirror (times n x) ≡ times n (mirror x)
+    over : (n : ℕ) (x : CapPoint) → mirror (times n x) ≡ times n (mirror x)
     over n x = λ i. (pos n *ℤ x .0, times-neg n (x .1) i)
 
 -- ---- the fractions
@@ -167,7 +167,7 @@ sides m h w v e =
     omega arith
 
 -- of a point that is seen in the north: the longitude and |z| of a cell that is not the centre
-module _ {c : Cell} {u : ℤ} {x : Point} {n e d v g f : ℕ} (a b r h o : ℕ) (hn : n ≤ 3) (d0 : 0 < d) (l : e < 4 * (d * quarter)) (s : SentToCap c x d u v g f)
+module _ {c : Cell} {u : ℤ} {x : CapPoint} {n e d v g f : ℕ} (a b r h o : ℕ) (hn : n ≤ 3) (d0 : 0 < d) (l : e < 4 * (d * quarter)) (s : SentToCap c x d u v g f)
     (w : IsStart (rows c) a b r h o)
     (at : times (rows c * g) (turnedNorth (turnOf (quotient e d) n) (subℕ (2 * remainder e d) (d * quarter), negℤ (pos (d * quarter)))) ≡ times (d * quarter * f) (middle (rows c) a b)) where
   seen-east : e * h ≡ capEast n r h o * d
@@ -188,7 +188,7 @@ module _ {c : Cell} {u : ℤ} {x : Point} {n e d v g f : ℕ} (a b r h o : ℕ) 
       (omega (arith, s .within)) (s .height))
 
 -- and at the centre
-seen-flat : {c : Cell} {u : ℤ} {x : Point} {d v g f : ℕ} → SentToCap c x d u v g f → g ≡ 0 → natAbs u ≡ 1000000000000000000 * v
+seen-flat : {c : Cell} {u : ℤ} {x : CapPoint} {d v g f : ℕ} → SentToCap c x d u v g f → g ≡ 0 → natAbs u ≡ 1000000000000000000 * v
 seen-flat {c} {u} {x} {d} {v} {g} {f} s z =
     let y : ℕ = 1000000000000000000 * v in
     let e : 3 * (y - natAbs u) * (f * f) ≡ 0 = sym (s .height) ∙ ap (λ (k : ℕ). k * k * y) z ∙ zero-mul y in

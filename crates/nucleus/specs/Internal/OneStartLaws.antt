@@ -10,7 +10,7 @@ use Rattle.logic.specs.Choice.{four}
 use Rattle.signed.specs.Laws.Sign.{pos-sub, neg-sub, sub-same, sub-neg}
 use Rattle.signed.specs.Laws.Times.{sub-cross, sub-times, times-neg}
 use Rattle.cell.specs.Laws.Turns.{four-cases}
-use Rattle.locate.specs.Fix.{Point, quarter, turnedNorth}
+use Rattle.locate.specs.Fix.{CapPoint, quarter, turnedNorth}
 use Rattle.nucleus.specs.Internal.TriangleLaws.{middle, IsStart}
 use Rattle.nucleus.specs.Internal.SentLaws.{times, times-north, nothing}
 
@@ -53,7 +53,7 @@ module _ (h e h′ e′ : ℕ) (h0 : 0 < h) (le : e < 2 * h) (l0 : 0 < h′) (le
   unfolding Same
   starts-once r s hr hs x =
       let y = sym (placed h e r hr) ∙ x ∙ placed h′ e′ s hs in
-      same r s hr hs (sub-cross _ _ _ _ (ap (λ (z : Point). z .0) y)) (sub-cross _ _ _ _ (ap (λ (z : Point). z .1) y))
+      same r s hr hs (sub-cross _ _ _ _ (ap (λ (z : CapPoint). z .0) y)) (sub-cross _ _ _ _ (ap (λ (z : CapPoint). z .1) y))
 
 -- at the centre a start has no height
 no-height : (h e r : ℕ) → r < 4 → turnedNorth r (subℕ e h, negℤ (pos h)) ≡ (pos 0, pos 0) → h ≡ 0
@@ -61,7 +61,7 @@ no-height h e r l x =
     let y = sym (placed h e r l) ∙ x in
     four-cases (λ (r : ℕ). (four r e h h 0 + 0 ≡ 0 + four r h 0 e h) → (four r 0 e h h + 0 ≡ 0 + four r h h 0 e) → h ≡ 0)
     (λ p q. omega arith) (λ p q. omega arith) (λ p q. omega arith) (λ p q. omega arith) r l
-    (sub-cross (four r e h h 0) (four r h 0 e h) 0 0 (ap (λ (z : Point). z .0) y)) (sub-cross (four r 0 e h h) (four r h h 0 e) 0 0 (ap (λ (z : Point). z .1) y))
+    (sub-cross (four r e h h 0) (four r h 0 e h) 0 0 (ap (λ (z : CapPoint). z .0) y)) (sub-cross (four r 0 e h h) (four r h h 0 e) 0 0 (ap (λ (z : CapPoint). z .1) y))
 
 -- so many times
 times-start : (k h e r : ℕ) → times k (turnedNorth r (subℕ e h, negℤ (pos h))) ≡ turnedNorth r (subℕ (k * e) (k * h), negℤ (pos (k * h)))
@@ -106,7 +106,7 @@ module _ (m a b d g f x t : ℕ) (m0 : 0 < m) (d0 : 0 < d) (f0 : 0 < f) (ht : t 
         ⊎-elim (λ p. p)
         (λ p.
         let z : g ≡ 0 = omega arith in
-        let y : Point = turnedNorth t (subℕ (2 * x) (d * quarter), negℤ (pos (d * quarter))) in
+        let y : CapPoint = turnedNorth t (subℕ (2 * x) (d * quarter), negℤ (pos (d * quarter))) in
         let w : times (m * g) y ≡ (pos 0, pos 0) = ap (λ (n : ℕ). times (m * n) y) z ∙ (λ i. (nothing m (y .0) i, nothing m (y .1) i)) in
         let n = no-height (scale * h) (scale * e) r (s .few) (sym ended ∙ sym sent ∙ w) in
         absurd (omega (arith, scale-pos)))

@@ -8,7 +8,7 @@ use lib.Signed.{leZ}
 use borrow.Author.Tests.{lt-ltb, le-leb, lt-leb}
 use Rattle.signed.specs.Laws.Sign.{sub-size, sub-more, sub-le-right, sub-lt-right}
 use Rattle.signed.specs.Laws.Times.{sub-times, pos-less}
-use Rattle.locate.specs.Fix.{inRange, eastOf, inBelt, offsetOf}
+use Rattle.locate.specs.Fix.{inRange, eastOf, isBelt, offsetOf}
 
 -- ---- the longitude
 
@@ -27,12 +27,12 @@ in-range x z l h =
 
 -- ---- z
 
-pub in-belt-is : (z : ℤ) → 3 * natAbs z ≤ 2000000000000000000 → inBelt z ≡ true
-unfolding inBelt
+pub in-belt-is : (z : ℤ) → 3 * natAbs z ≤ 2000000000000000000 → isBelt z ≡ true
+unfolding isBelt
 in-belt-is z h = le-leb (3 * natAbs z) 2000000000000000000 h
 
-pub outside-is : (z : ℤ) → 2000000000000000000 < 3 * natAbs z → inBelt z ≡ false
-unfolding inBelt
+pub outside-is : (z : ℤ) → 2000000000000000000 < 3 * natAbs z → isBelt z ≡ false
+unfolding isBelt
 outside-is z h = lt-leb (3 * natAbs z) 2000000000000000000 h
 
 -- 2 x 10^18 - 3z

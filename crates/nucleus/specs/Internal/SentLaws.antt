@@ -16,7 +16,7 @@ use Rattle.cell.specs.declared.Cell.{Cell}
 use Rattle.cell.specs.Cell.{IsCell}
 use Rattle.cell.specs.Neighbour.{belt, rows, turnOf}
 use Rattle.cell.specs.Laws.Turns.{turn-of-face}
-use Rattle.locate.specs.Fix.{Point, quarter, turnedNorth, turnedSouth}
+use Rattle.locate.specs.Fix.{CapPoint, quarter, turnedNorth, turnedSouth}
 use Rattle.nucleus.specs.Nucleus.{quotient, remainder, SentToBelt, SentToCap, northPoint, southPoint}
 use Rattle.nucleus.specs.Internal.TriangleLaws.{middle, IsStart}
 use Rattle.nucleus.specs.Internal.CapLaws.{room}
@@ -96,15 +96,15 @@ module _ {c : Cell} (b : ℕ) (v : IsCell c) (hb : b < 4) (hf : c .face ≡ belt
 
 -- ---- a point so many times
 
-abbrev pub times : ℕ → Point → Point
+abbrev pub times : ℕ → CapPoint → CapPoint
 times k x = (pos k *ℤ x .0, pos k *ℤ x .1)
 
-pub times-north : (k r : ℕ) (x : Point) → turnedNorth r (times k x) ≡ times k (turnedNorth r x)
+pub times-north : (k r : ℕ) (x : CapPoint) → turnedNorth r (times k x) ≡ times k (turnedNorth r x)
 unfolding turnedNorth
 times-north k zero x = refl
 times-north k (suc r) x = ap (turnedNorth r) (λ i. (times-neg k (x .1) i, pos k *ℤ x .0)) ∙ times-north k r (negℤ (x .1), x .0)
 
-pub times-south : (k r : ℕ) (x : Point) → turnedSouth r (times k x) ≡ times k (turnedSouth r x)
+pub times-south : (k r : ℕ) (x : CapPoint) → turnedSouth r (times k x) ≡ times k (turnedSouth r x)
 unfolding turnedSouth
 times-south k zero x = refl
 times-south k (suc r) x = ap (turnedSouth r) (λ i. (pos k *ℤ x .1, times-neg k (x .0) i)) ∙ times-south k r (x .1, negℤ (x .0))
@@ -121,7 +121,7 @@ column-even m h a =
 height-even : (m h : ℕ) → h * h * (1000000000000000000 * (3 * (m * m))) ≡ 3 * (1000000000000000000 * (h * h)) * (m * m)
 height-even m h = simp (mul-assoc, mul-comm, mul-left-comm)
 
-module _ {c : Cell} (h : ℕ) (x : Point) (u : ℤ) (v : IsCell c) (h0 : 0 < h) (hh : h < rows c)
+module _ {c : Cell} (h : ℕ) (x : CapPoint) (u : ℤ) (v : IsCell c) (h0 : 0 < h) (hh : h < rows c)
     (at : x ≡ times quarter (middle (rows c) (2 * c .column + 1) (2 * c .row + 1)))
     (size : natAbs u ≡ 1000000000000000000 * (3 * (rows c * rows c)) - 1000000000000000000 * (h * h)) where
   sent-cap : SentToCap c x h u (3 * (rows c * rows c)) h (rows c)
@@ -139,14 +139,14 @@ module _ {c : Cell} (h : ℕ) (x : Point) (u : ℤ) (v : IsCell c) (h0 : 0 < h) 
             height-even m h
             ∙ ap (λ (y : ℕ). 3 * y * (m * m)) (omega arith);
         column =
-            ap (λ (y : Point). pos w +ℤ pos (m * h) *ℤ y .0) at
+            ap (λ (y : CapPoint). pos w +ℤ pos (m * h) *ℤ y .0) at
             ∙ ap (λ (y : ℤ). pos w +ℤ pos (m * h) *ℤ y) (sub-times quarter j m)
             ∙ ap (λ (y : ℤ). pos w +ℤ y) (sub-times (m * h) (quarter * j) (quarter * m))
             ∙ pos-more w (m * h * (quarter * j)) (m * h * (quarter * m))
             ∙ sub-same (w + m * h * (quarter * j)) (m * h * (quarter * m)) (j * (h * quarter * m)) 0 (column-even m h j)
             ∙ sym (pos-sub (j * (h * quarter * m)));
         row =
-            ap (λ (y : Point). pos w -ℤ pos (m * h) *ℤ y .1) at
+            ap (λ (y : CapPoint). pos w -ℤ pos (m * h) *ℤ y .1) at
             ∙ ap (λ (y : ℤ). pos w -ℤ pos (m * h) *ℤ y) (sub-times quarter m i)
             ∙ ap (λ (y : ℤ). pos w -ℤ y) (sub-times (m * h) (quarter * m) (quarter * i))
             ∙ pos-less w (m * h * (quarter * m)) (m * h * (quarter * i))
@@ -227,7 +227,7 @@ pub nothing : (m : ℕ) (y : ℤ) → pos (m * 0) *ℤ y ≡ pos 0
 nothing m y = ap (λ (k : ℕ). pos k *ℤ y) (mul-zero m) ∙ zero-*ℤ y
 
 pub sent-pole :
-    (c : Cell) (x : Point) (u : ℤ) → natAbs u ≡ 1000000000000000000 → 2 * c .row + 1 ≡ rows c → 2 * c .column + 1 ≡ rows c →
+    (c : Cell) (x : CapPoint) (u : ℤ) → natAbs u ≡ 1000000000000000000 → 2 * c .row + 1 ≡ rows c → 2 * c .column + 1 ≡ rows c →
     SentToCap c x 1 u 1 0 1
 sent-pole c x u at i j =
     let m : ℕ = rows c in

@@ -9,7 +9,7 @@ use lib.Dec.{eqb}
 use borrow.Author.Tests.{eq-eqb, ne-eqb, eqb-true, eqb-false}
 use Rattle.logic.specs.Laws.Bools.{clash, not-both}
 use Rattle.signed.specs.Laws.Sign.{sub-same, sub-neg, sub-size, sub-more}
-use Rattle.locate.specs.Fix.{Point, turnedNorth, turnedSouth}
+use Rattle.locate.specs.Fix.{CapPoint, turnedNorth, turnedSouth}
 use Rattle.locate.specs.Laws.Turn.{opposite-size}
 use Rattle.nucleus.specs.declared.Fix.{Fix}
 use Rattle.nucleus.specs.Nucleus.{startsNorth, startsSouth, firstOf, turnsNorth, turnsSouth, tallOf, alongOf, centred, fix, capLongitude, northZ, southZ, northNucleus, southNucleus}
@@ -17,42 +17,42 @@ use Rattle.nucleus.specs.Internal.TriangleLaws.{middle, OffCentre, IsSta
 
 -- ---- turns undo each other
 
-abbrev stepNorth : Point → Point
+abbrev stepNorth : CapPoint → CapPoint
 stepNorth x = (negℤ (x .1), x .0)
 
-abbrev stepSouth : Point → Point
+abbrev stepSouth : CapPoint → CapPoint
 stepSouth x = (x .1, negℤ (x .0))
 
-past-north : (r : ℕ) (x : Point) → stepSouth (turnedNorth r x) ≡ turnedNorth r (stepSouth x)
+past-north : (r : ℕ) (x : CapPoint) → stepSouth (turnedNorth r x) ≡ turnedNorth r (stepSouth x)
 unfolding turnedNorth
 past-north zero x = refl
 past-north (suc r) x = past-north r (stepNorth x) ∙ ap (turnedNorth r) (λ i. (sym (negℤ-negℤ (x .0)) i, negℤ-negℤ (x .1) i))
 
-pub turned-back : (r : ℕ) (x : Point) → turnedSouth r (turnedNorth r x) ≡ x
+pub turned-back : (r : ℕ) (x : CapPoint) → turnedSouth r (turnedNorth r x) ≡ x
 unfolding turnedNorth turnedSouth
 turned-back zero x = refl
 turned-back (suc r) x = ap (turnedSouth r) (past-north r (stepNorth x)) ∙ turned-back r (stepSouth (stepNorth x)) ∙ (λ i. (x .0, negℤ-negℤ (x .1) i))
 
 -- ---- the mirror
 
-abbrev pub mirror : Point → Point
+abbrev pub mirror : CapPoint → CapPoint
 mirror x = (x .0, negℤ (x .1))
 
-mirror-north : (r : ℕ) (x : Point) → mirror (turnedNorth r x) ≡ turnedSouth r (mirror x)
+mirror-north : (r : ℕ) (x : CapPoint) → mirror (turnedNorth r x) ≡ turnedSouth r (mirror x)
 unfolding turnedNorth turnedSouth
 mirror-north zero x = refl
 mirror-north (suc r) x = mirror-north r (stepNorth x)
 
-pub mirror-south : (r : ℕ) (x : Point) → mirror (turnedSouth r x) ≡ turnedNorth r (mirror x)
+pub mirror-south : (r : ℕ) (x : CapPoint) → mirror (turnedSouth r x) ≡ turnedNorth r (mirror x)
 unfolding turnedNorth turnedSouth
 mirror-south zero x = refl
 mirror-south (suc r) x = mirror-south r (stepSouth x) ∙ ap (turnedNorth r) (λ i. (sym (negℤ-negℤ (x .1)) i, negℤ-negℤ (x .0) i))
 
-starts-mirror : (x : Point) → startsSouth (mirror x) ≡ startsNorth x
+starts-mirror : (x : CapPoint) → startsSouth (mirror x) ≡ startsNorth x
 unfolding startsNorth startsSouth
 starts-mirror x = ap (λ (v : ℤ). leZ v (x .0) && ltZ (x .0) (negℤ (x .1))) (negℤ-negℤ (x .1))
 
-turns-mirror : (x : Point) → turnsSouth (mirror x) ≡ turnsNorth x
+turns-mirror : (x : CapPoint) → turnsSouth (mirror x) ≡ turnsNorth x
 unfolding turnsNorth turnsSouth
 turns-mirror x = λ i. firstOf (λ r. (ap startsSouth (sym (mirror-south r x)) ∙ starts-mirror (turnedSouth r x)) i)
 
@@ -100,7 +100,7 @@ module _ (m a b r h e : ℕ) (s : IsStart m a b r h e) where
       ∙ ap (λ (t : ℕ). fix (capLongitude n r t (natAbs (subℕ e h +ℤ pos t))) (northZ m t)) (opposite-size (pos h))
       ∙ ap (λ (t : ℕ). fix (capLongitude n r h t) (northZ m h)) (along-is e h)
     where
-      at : ℕ → Point → Fix
+      at : ℕ → CapPoint → Fix
       at t y = fix (capLongitude n t (tallOf y) (alongOf y)) (northZ m (tallOf y))
 
 -- the south: the start of the mirrored middle
@@ -133,14 +133,14 @@ module _ (m a b r h e : ℕ) (l : b ≤ 2 * m) (s : IsStart m a (2 * m - b) r h 
       ∙ ap (at r) south-back
       ∙ ap (λ (t : ℕ). fix (capLongitude n r h t) (southZ m h)) (along-is e h)
     where
-      at : ℕ → Point → Fix
+      at : ℕ → CapPoint → Fix
       at t y = fix (capLongitude n t (tallOf y) (alongOf y)) (southZ m (tallOf y))
 
 -- the poles
-pub north-pole : (n m : ℕ) (x : Point) → centred x ≡ true → northNucleus n m x ≡ fix (negℤ (pos 1800000000)) (pos (10 ^ 18))
+pub north-pole : (n m : ℕ) (x : CapPoint) → centred x ≡ true → northNucleus n m x ≡ fix (negℤ (pos 1800000000)) (pos (10 ^ 18))
 unfolding northNucleus
 north-pole n m x e = rw e
 
-pub south-pole : (n m : ℕ) (x : Point) → centred x ≡ true → southNucleus n m x ≡ fix (negℤ (pos 1800000000)) (negℤ (pos (10 ^ 18)))
+pub south-pole : (n m : ℕ) (x : CapPoint) → centred x ≡ true → southNucleus n m x ≡ fix (negℤ (pos 1800000000)) (negℤ (pos (10 ^ 18)))
 unfolding southNucleus
 south-pole n m x e = rw e

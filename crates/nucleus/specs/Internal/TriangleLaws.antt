@@ -11,7 +11,7 @@ use lib.Dec.{leb, ltb}
 use borrow.Author.Tests.{le-leb, lt-leb, lt-ltb, le-ltb}
 use Rattle.logic.specs.Laws.Order.{lt-or, three-ways}
 use Rattle.signed.specs.Laws.Sign.{pos-sub, neg-sub, sub-same, sub-neg, sub-le, sub-lt}
-use Rattle.locate.specs.Fix.{Point, turnedNorth, turnedSouth}
+use Rattle.locate.specs.Fix.{CapPoint, turnedNorth, turnedSouth}
 use Rattle.nucleus.specs.Nucleus.{startsNorth, turnsNorth}
 
 -- ---- a start's triangle, for differences of whole numbers
@@ -36,7 +36,7 @@ starts-high p q s t h = starts-is p q s t ∙ no (leb (s + q) (p + t)) (le-ltb (
 -- ---- the middle, turned back
 
 module _ (m a b : ℕ) where
-  abbrev pub middle : Point
+  abbrev pub middle : CapPoint
   middle = (subℕ a m, subℕ m b)
 
   once : turnedSouth 1 middle ≡ (subℕ m b, subℕ m a)
@@ -67,7 +67,7 @@ module _ (m a b : ℕ) where
 -- ---- the start of a middle that is not the centre
 
 -- a middle lies inside the face
-pub record Inside (m a b : ℕ) : Type 0 where
+pub record InFace (m a b : ℕ) : Type 0 where
   pub small : m < 2 ^ 24
   pub left : 0 < a
   pub right : a < 2 * m

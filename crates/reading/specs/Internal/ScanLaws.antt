@@ -17,13 +17,13 @@ use Rattle.reading.specs.Reading.{Nodes, end, whole, listed, first, many
 use Rattle.reading.specs.Text.{Reads}
 use Rattle.reading.specs.Laws.Reading.{eq-or, first-big, many-most, room-all, wholes-most}
 use Rattle.reading.specs.Internal.JoinLaws.{join, next, ends, render-join, next-join, ends-join, wholes-join, some-join, good-join, good-split, next-from, next-some, some-next, last-whole}
-use Rattle.reading.specs.Scan.{Frame, frame, State, at, Next, stop, on, level, opens, shuts, stands, step, after, scan, start}
+use Rattle.reading.specs.Scan.{Frame, frame, State, at, Next, stop, on, level, openList, shutList, standNode, step, goOn, scan, start}
 
 -- some body, a text without its heading, begins with p
 abbrev pub BodyBegins : Level → ℕ → List ℕ → Type 0
 BodyBegins l d p = (q : List ℕ) × (ns : Nodes) × Reads [] l d (p ++ q) ns
 
--- ---- where the scan stands in a reading
+-- ---- where the scan standNode in a reading
 
 -- the lists around: in each the nodes before, and the number of the node whose list is being read
 data Around : Type 0 where
@@ -64,7 +64,7 @@ level-frames l (into ns c o) = refl
 abbrev Open : Level → ℕ → Around → Nodes → Type 0
 Open l d o ns = wholes ns ≡ 9 → (b : Nodes) × (c : ℕ) × (ns ≡ join b (whole c end)) × (0 < room (levelOf l o) c (d - depth o))
 
--- the scan stands at s after the bytes p: in these lists, behind these nodes
+-- the scan standNode at s goOn the bytes p: in these lists, behind these nodes
 record Stands (l : Level) (d : ℕ) (p : List ℕ) (s : State) : Type 0 where
   around : Around
   nodes : Nodes
@@ -74,7 +74,7 @@ record Stands (l : Level) (d : ℕ) (p : List ℕ) (s : State) : Type 0 where
   state : s ≡ at (frames around) (next 0 nodes) (wholes nodes) (ends false nodes)
   bytes : p ≡ before l around ++ render (levelOf l around) nodes
 
--- ---- from where the scan stands, a body can be reached
+-- ---- from where the scan standNode, a body can be reached
 
 -- the nodes at hand, with all lists around closed behind them
 abbrev plug : Around → Nodes → Nodes
@@ -154,7 +154,7 @@ module _ (l : Level) (d : ℕ) where
       rw (z .bytes)
       (⊎-elim (λ e. begins-nine (z .around) (z .nodes) (z .good-around) (z .good) e (z .continues)) (λ e. begins-open (z .around) (z .nodes) (z .good-around) (z .good) e) (eq-or (wholes (z .nodes)) 9))
 
-  -- ---- where the scan goes on, it stands again
+  -- ---- where the scan goes on, it standNode again
 
   abbrev Goes : List ℕ → Next → Type 0
   Goes p stop = Unit {0}
@@ -165,8 +165,8 @@ module _ (l : Level) (d : ℕ) where
     read = (before l o ++ render (levelOf l o) ns) ++ (b ∷ [])
 
     -- at a `(`
-    goes-open : b ≡ 40 → (t : Bool) → ends false ns ≡ t → Goes read (opens l d (frames o) (next 0 ns) (wholes ns) t)
-    unfolding opens
+    goes-open : b ≡ 40 → (t : Bool) → ends false ns ≡ t → Goes read (openList l d (frames o) (next 0 ns) (wholes ns) t)
+    unfolding openList
     goes-open e false q = tt
     goes-open e true q =
         by-cond (Goes read) (eqb (room (level l (frames o)) (next 0 ns - 1) (d - length (frames o))) 0) (λ _. tt)
@@ -193,8 +193,8 @@ module _ (l : Level) (d : ℕ) where
             }
 
     -- at a letter or digit
-    goes-stands : (c : ℕ) → b ≡ first (levelOf l o) + c → next 0 ns ≤ c → c < many (levelOf l o) → Goes read (stands l d (frames o) (wholes ns) c)
-    unfolding stands
+    goes-stands : (c : ℕ) → b ≡ first (levelOf l o) + c → next 0 ns ≤ c → c < many (levelOf l o) → Goes read (standNode l d (frames o) (wholes ns) c)
+    unfolding standNode
     goes-stands c e lo hi =
         by-cond (Goes read) (eqb (wholes ns) 8)
         (λ y. by-cond (Goes read) (eqb (room (level l (frames o)) c (d - length (frames o))) 0) (λ _. tt) (λ z. go (λ n. has-room (eqb-false _ _ z))))
@@ -219,8 +219,8 @@ module _ (l : Level) (d : ℕ) where
   -- at a `)`
   goes-shut :
       (o : Around) (ns : Nodes) (b : ℕ) → GoodAround l d o → Good (levelOf l o) (d - depth o) 0 ns → b ≡ 41 →
-      Goes ((before l o ++ render (levelOf l o) ns) ++ (b ∷ [])) (shuts (frames o) (next 0 ns) (wholes ns))
-  unfolding shuts
+      Goes ((before l o ++ render (levelOf l o) ns) ++ (b ∷ [])) (shutList (frames o) (next 0 ns) (wholes ns))
+  unfolding shutList
   goes-shut top ns b g h e = tt
   goes-shut (into bs c o) ns b g h e =
       by-cond (Goes ((before l (into bs c o) ++ render Digits ns) ++ (b ∷ []))) (eqb (next 0 ns) 0) (λ _. tt)
@@ -257,7 +257,7 @@ module _ (l : Level) (d : ℕ) where
 
       go :
           first (level l (frames o)) + next 0 ns ≤ b → b < first (level l (frames o)) + many (level l (frames o)) →
-          P (stands l d (frames o) (wholes ns) (b - first (level l (frames o))))
+          P (standNode l d (frames o) (wholes ns) (b - first (level l (frames o))))
       go x y =
           let e : first (level l (frames o)) ≡ first (levelOf l o) = ap first (level-frames l o) in
           let f : many (level l (frames o)) ≡ many (levelOf l o) = ap many (level-frames l o) in
@@ -275,7 +275,7 @@ module _ (l : Level) (d : ℕ) where
       go :
           (n : Next) → Goes (p ++ (b ∷ [])) n →
           ((t : State) → Stands l d (p ++ (b ∷ [])) t → BodyBegins l d ((p ++ (b ∷ [])) ++ take (scan l d t bs) bs)) →
-          BodyBegins l d (p ++ take (after n (λ t. scan l d t bs)) (b ∷ bs))
+          BodyBegins l d (p ++ take (goOn n (λ t. scan l d t bs)) (b ∷ bs))
       go stop y f = rw append-nil (begins p s z)
       go (on t) y f = rw append-assoc at (f t y)
 
@@ -300,7 +300,7 @@ module _ (l : Level) (d : ℕ) (o : List Frame) (lo w : ℕ) (t : Bool) (rest : 
     where
       go :
           (b : Bool) → eqb w 8 ≡ b →
-          after (cond b (cond (eqb (room (level l o) c (d - length o)) 0) stop (on (at o (suc c) (suc w) true))) (on (at o (suc c) (suc w) true))) (λ s. scan l d s rest)
+          goOn (cond b (cond (eqb (room (level l o) c (d - length o)) 0) stop (on (at o (suc c) (suc w) true))) (on (at o (suc c) (suc w) true))) (λ s. scan l d s rest)
           ≡ suc (scan l d (at o (suc c) (suc w) true) rest)
       go true b = let q : 0 < room (level l o) c (d - length o) = r (eqb-true _ _ b) in rw (ne-eqb (room (level l o) c (d - length o)) 0 (omega arith))
       go false b = refl
@@ -359,7 +359,7 @@ alike l d (b ∷ u) v v′ s h = go (step l d s b) (λ t k. alike l d u v v′ t
   where
     go :
         (n : Next) → ((t : State) → length u ≤ scan l d t (u ++ v) → length u ≤ scan l d t (u ++ v′)) →
-        suc (length u) ≤ after n (λ t. scan l d t (u ++ v)) → suc (length u) ≤ after n (λ t. scan l d t (u ++ v′))
+        suc (length u) ≤ goOn n (λ t. scan l d t (u ++ v)) → suc (length u) ≤ goOn n (λ t. scan l d t (u ++ v′))
     go stop f k = absurd (omega arith)
     go (on t) f k = omega (arith, f t (omega arith))
 
@@ -368,7 +368,7 @@ unfolding scan
 scan-within l d [] s = omega arith
 scan-within l d (b ∷ t) s = go (step l d s b) (λ x. scan-within l d t x)
   where
-    go : (n : Next) → ((x : State) → scan l d x t ≤ length t) → after n (λ x. scan l d x t) ≤ suc (length t)
+    go : (n : Next) → ((x : State) → scan l d x t ≤ length t) → goOn n (λ x. scan l d x t) ≤ suc (length t)
     go stop f = omega arith
     go (on x) f = omega (arith, f x)
 

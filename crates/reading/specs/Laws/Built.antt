@@ -15,7 +15,7 @@ use Rattle.reading.specs.declared.Level.{Level}
 use Rattle.reading.specs.declared.Level.the-variants.{Faces, Digits}
 use Rattle.reading.specs.Reading.{Nodes, end, whole, listed, many, room, wholes, Some, Good, names}
 use Rattle.reading.specs.Laws.Reading.{eq-or, wholes-most}
-use Rattle.reading.specs.Prefix.{Name, Prefix, Covered, Digs, FinestName, SameNames, IsName, Names}
+use Rattle.reading.specs.Prefix.{Name, Prefix, Covered, Digs, FinestName, SameNames, IsName, AreNames}
 use Rattle.reading.specs.Laws.Ground.{In, in→covered, covered→in}
 use Rattle.reading.specs.Written.{tails, anyEnds, nodeOf, side, built}
 
@@ -26,7 +26,7 @@ abbrev Rests : ℕ → List Name → Type 0
 Rests r [] = Unit {0}
 Rests r (q ∷ qs) = (length q ≤ r) × Below 9 q × Rests r qs
 
-tails-rests : (m r c : ℕ) (qs : List Name) → Names m r qs → Rests r (tails c qs)
+tails-rests : (m r c : ℕ) (qs : List Name) → AreNames m r qs → Rests r (tails c qs)
 unfolding tails
 tails-rests m r c [] n = tt
 tails-rests m r c ([] ∷ qs) n = absurd (n .0)
@@ -34,7 +34,7 @@ tails-rests m r c ((b ∷ q) ∷ qs) n =
     by-cond (Rests r) (eqb b c) (λ e. (n .0 .1, n .0 .2, tails-rests m r c qs (n .1))) (λ e. tails-rests m r c qs (n .1))
 
 -- where none ends here, they are names again
-rests-names : (r : ℕ) (ts : List Name) → Rests (suc r) ts → anyEnds ts ≡ false → Names 9 r ts
+rests-names : (r : ℕ) (ts : List Name) → Rests (suc r) ts → anyEnds ts ≡ false → AreNames 9 r ts
 unfolding anyEnds
 rests-names r [] h e = tt
 rests-names r ([] ∷ ts) h e = clash e
@@ -48,7 +48,7 @@ none-left (b ∷ t) ts h = absurd (omega (arith, h .0))
 
 -- ---- what names cover, number by number
 
-covered-tails : (m r x : ℕ) (qs : List Name) (p : Name) → Names m r qs → Covered qs (x ∷ p) → Covered (tails x qs) p
+covered-tails : (m r x : ℕ) (qs : List Name) (p : Name) → AreNames m r qs → Covered qs (x ∷ p) → Covered (tails x qs) p
 unfolding tails
 covered-tails m r x [] p n h = absurd h
 covered-tails m r x ([] ∷ qs) p n h = absurd (n .0)
@@ -97,7 +97,7 @@ node-good l r c lo below (t ∷ ts) rest w f n a b g h =
     (a, b, rw (w c r) (k .0), k .1, eqb-false _ _ v, rw (w c r) (k .2), h))
 
 side-good :
-    (l : Level) (r m n c lo : ℕ) (below : List Name → Nodes) (qs : List Name) → ((c d : ℕ) → room l c d ≡ d) → Makes r below → Names m r qs →
+    (l : Level) (r m n c lo : ℕ) (below : List Name → Nodes) (qs : List Name) → ((c d : ℕ) → room l c d ≡ d) → Makes r below → AreNames m r qs →
     n + c ≤ many l → lo ≤ c → Good l r lo (side below n c qs)
 unfolding side
 side-good l r m zero c lo below qs w f k a b = tt
@@ -128,7 +128,7 @@ side-some below (suc n) c x qs h a b =
     le-ne : (c x : ℕ) → c ≤ x → (c ≡ x → ⊥) → suc c ≤ x
     le-ne c x a k = ⊎-elim (λ h. h) (λ h. absurd (k (omega arith))) (lt-or c x)
 
-first-more : (m r : ℕ) (qs : List Name) → More qs → Names m r qs → (x : ℕ) × (x < m) × More (tails x qs)
+first-more : (m r : ℕ) (qs : List Name) → More qs → AreNames m r qs → (x : ℕ) × (x < m) × More (tails x qs)
 unfolding tails
 first-more m r [] h n = absurd h
 first-more m r ([] ∷ qs) h n = absurd (n .0)
@@ -148,7 +148,7 @@ under-makes : (r : ℕ) → Makes r (under r)
 under-makes zero [] m h e = absurd m
 under-makes zero (t ∷ ts) m h e = clash (sym (none-left t ts h) ∙ e)
 under-makes (suc r) ts m h e =
-    let n : Names 9 r ts = rests-names r ts h e in
+    let n : AreNames 9 r ts = rests-names r ts h e in
     let k = first-more 9 r ts m n in
     let u : suc r - 1 ≡ r = omega arith in (
       omega arith,
@@ -157,10 +157,10 @@ under-makes (suc r) ts m h e =
     )
 
 -- at a level whose nodes all have the same room: the faces, or the digits
-pub built-good-at : (l : Level) (r m : ℕ) (qs : List Name) → ((c d : ℕ) → room l c d ≡ d) → m ≤ many l → Names m r qs → Good l r 0 (built r m qs)
+pub built-good-at : (l : Level) (r m : ℕ) (qs : List Name) → ((c d : ℕ) → room l c d ≡ d) → m ≤ many l → AreNames m r qs → Good l r 0 (built r m qs)
 built-good-at l r m qs w a n = rw (built-side r m qs) (side-good l r m m 0 0 (under r) qs w (under-makes r) n (omega arith) (omega arith))
 
-pub built-good : (qs : List Name) → Names 6 15 qs → Good Faces 15 0 (built 15 6 qs)
+pub built-good : (qs : List Name) → AreNames 6 15 qs → Good Faces 15 0 (built 15 6 qs)
 built-good qs n = built-good-at Faces 15 6 qs (λ c d. refl) (omega arith) n
 
 -- ---- they cover what the names cover
@@ -220,7 +220,7 @@ abbrev Agrees : ℕ → (List Name → Nodes) → Type 0
 Agrees r below = (ts : List Name) (p : Name) → Rests r ts → Digs r p → (Covered ts p → Holds below ts p) × (Holds below ts p → Covered ts p)
 
 side-agrees :
-    (r m : ℕ) (below : List Name → Nodes) → Agrees r below → (qs : List Name) → Names m r qs → (x : ℕ) (p : Name) → x < m → Digs r p →
+    (r m : ℕ) (below : List Name → Nodes) → Agrees r below → (qs : List Name) → AreNames m r qs → (x : ℕ) (p : Name) → x < m → Digs r p →
     (Covered qs (x ∷ p) → In (side below m 0 qs) x p) × (In (side below m 0 qs) x p → Covered qs (x ∷ p))
 side-agrees r m below f qs n x p a d =
     let k = f (tails x qs) p (tails-rests m r x qs n) d in (
@@ -237,11 +237,11 @@ under-agrees (suc r) (t ∷ ts) (y ∷ p) h d = go (anyEnds (t ∷ ts)) refl (λ
   where
     go :
         (b : Bool) → anyEnds (t ∷ ts) ≡ b →
-        (Names 9 r (t ∷ ts) → (Covered (t ∷ ts) (y ∷ p) → In (side (under r) 9 0 (t ∷ ts)) y p) × (In (side (under r) 9 0 (t ∷ ts)) y p → Covered (t ∷ ts) (y ∷ p))) →
+        (AreNames 9 r (t ∷ ts) → (Covered (t ∷ ts) (y ∷ p) → In (side (under r) 9 0 (t ∷ ts)) y p) × (In (side (under r) 9 0 (t ∷ ts)) y p → Covered (t ∷ ts) (y ∷ p))) →
         (Covered (t ∷ ts) (y ∷ p) → Holds (under (suc r)) (t ∷ ts) (y ∷ p)) × (Holds (under (suc r)) (t ∷ ts) (y ∷ p) → Covered (t ∷ ts) (y ∷ p))
     go true e i = ((λ k. inl (ap (λ (b : Bool). b || eqb (wholes (built r 9 (t ∷ ts))) 9) e)), (λ k. ends-cover (t ∷ ts) (y ∷ p) e))
     go false e i =
-        let n : Names 9 r (t ∷ ts) = rests-names r (t ∷ ts) h e in
+        let n : AreNames 9 r (t ∷ ts) = rests-names r (t ∷ ts) h e in
         let g : Good Digits r 0 (built r 9 (t ∷ ts)) = built-good-at Digits r 9 (t ∷ ts) (λ c d. refl) (omega arith) n in (
           (λ k. inr (in→covered (built r 9 (t ∷ ts)) y p (rw (built-side r 9 (t ∷ ts)) (i n .0 k)))),
           (λ k.
@@ -256,7 +256,7 @@ under-agrees (suc r) (t ∷ ts) (y ∷ p) h d = go (anyEnds (t ∷ ts)) refl (λ
               k))),
         )
 
-pub built-names : (r m : ℕ) (qs : List Name) → Names m r qs → SameNames m r qs (names (built r m qs))
+pub built-names : (r m : ℕ) (qs : List Name) → AreNames m r qs → SameNames m r qs (names (built r m qs))
 built-names r m qs n [] f = absurd f
 built-names r m qs n (x ∷ p) f =
     let k = side-agrees r m (under r) (under-agrees r) qs n x p (f .0) (f .1) in (
@@ -265,5 +265,5 @@ built-names r m qs n (x ∷ p) f =
     )
 
 -- what begins with a name begins with a name of the nodes, and back
-pub built-ground : (qs : List Name) → Names 6 15 qs → SameNames 6 15 qs (names (built 15 6 qs))
+pub built-ground : (qs : List Name) → AreNames 6 15 qs → SameNames 6 15 qs (names (built 15 6 qs))
 built-ground qs n = built-names 15 6 qs n

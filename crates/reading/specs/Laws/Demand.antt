@@ -16,7 +16,7 @@ use Rattle.reading.specs.Text.{heading, Reads, ReadsAs}
 use Rattle.reading.specs.Report.{count, area}
 use Rattle.reading.specs.Laws.Report.{count-names, area-sizes}
 use Rattle.reading.specs.Laws.Parse.{render-one}
-use Rattle.reading.specs.Prefix.{nameOf, Covered, SameNames, Names, Rise}
+use Rattle.reading.specs.Prefix.{numbersOf, Covered, SameNames, AreNames, InOrder}
 use Rattle.reading.specs.Laws.Ground.{covered-whole, same-names}
 use Rattle.reading.specs.Laws.Rising.{names-rise, rise-rising, rise-apart}
 use Rattle.reading.specs.Laws.Fewest.{names-good, fewest-names, covered-wider}
@@ -51,34 +51,34 @@ one-reading-as {n} {s} {n′} {s′} {t} {a} {b} r q =
 module _ {h : List ℕ} {l : Level} {d : ℕ} {t : List ℕ} {ns : Nodes} (f : OfFaces l) (m : d ≤ 15) (r : Reads h l d t ns) where
   -- ---- the whole cells have the names that stand in the reading
 
-  faces-names : Names 6 15 (names ns)
+  faces-names : AreNames 6 15 (names ns)
   faces-names = rw (six l f) at (names-good ns l d 0 15 (r .good) m)
 
   good-cells : Cells (wholeCells ns)
   unfolding wholeCells
   good-cells = cells-named (names ns) faces-names
 
-  whole-names : map nameOf (wholeCells ns) ≡ names ns
+  whole-names : map numbersOf (wholeCells ns) ≡ names ns
   unfolding wholeCells
   whole-names = names-named (names ns) faces-names
 
-  named-whole : (x : Cell) → IsCell x → Covered (names ns) (nameOf x) → Covers (wholeCells ns) x
+  named-whole : (x : Cell) → IsCell x → Covered (names ns) (numbersOf x) → Covers (wholeCells ns) x
   named-whole x v h = covered-covers (wholeCells ns) x good-cells v (rw whole-names h)
 
-  whole-named : (x : Cell) → Covers (wholeCells ns) x → Covered (names ns) (nameOf x)
+  whole-named : (x : Cell) → Covers (wholeCells ns) x → Covered (names ns) (numbersOf x)
   whole-named x h = rw whole-names at (covers-covered (wholeCells ns) x h)
 
   -- ---- the whole cells are cells, their codes rise strictly in the order they stand, and none lies inside another
 
   pub whole-cells : Cells (wholeCells ns) × Rising (wholeCells ns) × Apart (wholeCells ns)
   whole-cells =
-      let k : Rise (map nameOf (wholeCells ns)) = rw whole-names (names-rise ns l d 0 (r .good)) in
+      let k : InOrder (map numbersOf (wholeCells ns)) = rw whole-names (names-rise ns l d 0 (r .good)) in
       (good-cells, rise-rising (wholeCells ns) good-cells k, rise-apart (wholeCells ns) good-cells k)
 
   -- ---- "the number of whole cells and the sum of sizes that the reader reports are those of that reading"
 
   pub count-whole : count ns ≡ length (wholeCells ns)
-  count-whole = count-names ns ∙ sym (ap length whole-names) ∙ length-map (wholeCells ns) nameOf
+  count-whole = count-names ns ∙ sym (ap length whole-names) ∙ length-map (wholeCells ns) numbersOf
 
   pub area-whole : area (9 ^ 15) ns ≡ sizeSum (wholeCells ns)
   unfolding wholeCells
@@ -89,7 +89,7 @@ module _ {h : List ℕ} {l : Level} {d : ℕ} {t : List ℕ} {ns : Nodes} (f : O
   pub one-cell : (x : Cell) → IsCell x → ((y : Cell) → Finest y → Inside x y → Covers (wholeCells ns) y) → Covers (wholeCells ns) x
   one-cell x v c =
       named-whole x v
-      (covered-whole ns l d 15 6 (nameOf x) (r .good) m (cell-is-named x v)
+      (covered-whole ns l d 15 6 (numbersOf x) (r .good) m (cell-is-named x v)
       (λ p u w.
       let k = finest-named p u in
       let i : Inside x (cellNamed p) = prefix-inside x (cellNamed p) v (k .0 .cell) (rw (k .1) w) in
@@ -97,16 +97,16 @@ module _ {h : List ℕ} {l : Level} {d : ℕ} {t : List ℕ} {ns : Nodes} (f : O
 
   pub all-covered : (x : Cell) → Covers (wholeCells ns) x → (y : Cell) → Finest y → Inside x y → Covers (wholeCells ns) y
   all-covered x c y k i =
-      named-whole y (k .cell) (covered-wider (names ns) (nameOf x) (nameOf y) (whole-named x c) (inside-prefix x y i))
+      named-whole y (k .cell) (covered-wider (names ns) (numbersOf x) (numbersOf y) (whole-named x c) (inside-prefix x y i))
 
   -- ---- "Every list of cells that covers exactly an accepted text's ground has at least as many cells"
 
   pub fewest : (qs : List Cell) → Cells qs → SameGround qs (wholeCells ns) → length (wholeCells ns) ≤ length qs
   fewest qs c g =
-      let k : SameNames 6 15 (map nameOf qs) (names ns) = rw whole-names at (ground-names qs (wholeCells ns) c good-cells g) in
-      let n : length (names ns) ≤ length (map nameOf qs) =
-      fewest-names ns l d 15 (map nameOf qs) (r .good) m (rw (six l f) (names-of-cells qs c)) (rw (six l f) k) in
-      omega (arith, length-map qs nameOf, length-map (wholeCells ns) nameOf, ap length whole-names)
+      let k : SameNames 6 15 (map numbersOf qs) (names ns) = rw whole-names at (ground-names qs (wholeCells ns) c good-cells g) in
+      let n : length (names ns) ≤ length (map numbersOf qs) =
+      fewest-names ns l d 15 (map numbersOf qs) (r .good) m (rw (six l f) (names-of-cells qs c)) (rw (six l f) k) in
+      omega (arith, length-map qs numbersOf, length-map (wholeCells ns) numbersOf, ap length whole-names)
 
 -- ---- "Any two accepted texts with the same .. heading cover the same finest cells exactly when they are the same bytes."
 

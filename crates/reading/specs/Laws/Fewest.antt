@@ -9,7 +9,7 @@ use Rattle.reading.specs.declared.Level.{Level}
 use Rattle.reading.specs.declared.Level.the-variants.{Digits}
 use Rattle.reading.specs.Reading.{Nodes, end, whole, listed, many, room, Good, names}
 use Rattle.reading.specs.Laws.Reading.{room-le}
-use Rattle.reading.specs.Prefix.{Name, Prefix, Covered, SameNames, IsName, Names, Ahead, AheadAll, Rise}
+use Rattle.reading.specs.Prefix.{Name, Prefix, Covered, SameNames, IsName, AreNames, Ahead, AheadAll, InOrder}
 use Rattle.reading.specs.Laws.Ground.{below-digs, extend, covered-whole}
 use Rattle.reading.specs.Laws.Rising.{names-rise}
 
@@ -70,22 +70,22 @@ ahead-all-disjoint q [] p f h k = k
 ahead-all-disjoint q (w ∷ ws) p f h (inl k) = ahead-disjoint q w p (f .0) h k
 ahead-all-disjoint q (w ∷ ws) p f h (inr k) = ahead-all-disjoint q ws p (f .1) h k
 
-rise-disjoint : (ws : List Name) → Rise ws → Disjoint ws
+rise-disjoint : (ws : List Name) → InOrder ws → Disjoint ws
 rise-disjoint [] r = tt
 rise-disjoint (w ∷ ws) r = ((λ p h k. ahead-all-disjoint w ws p (r .0) h k), rise-disjoint ws (r .1))
 
 -- ---- the names of a reading are names
 
-names-map : (c m r : ℕ) (a : List Name) → c < m → Names 9 r a → Names m (suc r) (map (λ (q : Name). c ∷ q) a)
+names-map : (c m r : ℕ) (a : List Name) → c < m → AreNames 9 r a → AreNames m (suc r) (map (λ (q : Name). c ∷ q) a)
 names-map c m r [] h n = tt
 names-map c m r ([] ∷ a) h n = absurd (n .0)
 names-map c m r ((y ∷ q) ∷ a) h n = ((h, omega (arith, n .0 .1), (n .0 .0, n .0 .2)), names-map c m r a h (n .1))
 
-names-append : (m r : ℕ) (a b : List Name) → Names m r a → Names m r b → Names m r (a ++ b)
+names-append : (m r : ℕ) (a b : List Name) → AreNames m r a → AreNames m r b → AreNames m r (a ++ b)
 names-append m r [] b g h = h
 names-append m r (q ∷ a) b g h = (g .0, names-append m r a b (g .1) h)
 
-pub names-good : (ns : Nodes) (l : Level) (d lo r : ℕ) → Good l d lo ns → d ≤ r → Names (many l) r (names ns)
+pub names-good : (ns : Nodes) (l : Level) (d lo r : ℕ) → Good l d lo ns → d ≤ r → AreNames (many l) r (names ns)
 names-good end l d lo r g h = tt
 names-good (whole c ns) l d lo r g h = ((g .1, omega arith, tt), names-good ns l d (suc c) r (g .2) h)
 names-good (listed c is ns) l d lo zero g h = absurd (omega (arith, room-le l c d))
@@ -110,7 +110,7 @@ covered-mem [] p h = absurd h
 covered-mem (v ∷ vs) p (inl h) = (v, inl refl, h)
 covered-mem (v ∷ vs) p (inr h) = let k = covered-mem vs p h in (k .0, inr (k .1), k .2)
 
-mem-name : (m r : ℕ) (vs : List Name) (w : Name) → Names m r vs → Mem w vs → IsName m r w
+mem-name : (m r : ℕ) (vs : List Name) (w : Name) → AreNames m r vs → Mem w vs → IsName m r w
 mem-name m r [] w n i = absurd i
 mem-name m r (v ∷ vs) w n (inl e) = rw (← e) (n .0)
 mem-name m r (v ∷ vs) w n (inr i) = mem-name m r vs w (n .1) i
@@ -145,7 +145,7 @@ pin (v ∷ vs) w q p a (inr m) (inr h) i j = pin vs w q p (a .1) m h i j
 
 -- ---- every list of names that covers exactly what the reading covers has at least as many
 
-module _ (ns : Nodes) (l : Level) (d r : ℕ) (qs : List Name) (g : Good l d 0 ns) (h : d ≤ r) (n : Names (many l) r qs) (f : SameNames (many l) r qs (names ns)) where
+module _ (ns : Nodes) (l : Level) (d r : ℕ) (qs : List Name) (g : Good l d 0 ns) (h : d ≤ r) (n : AreNames (many l) r qs) (f : SameNames (many l) r qs (names ns)) where
   disjoint : Disjoint (names ns)
   disjoint = rise-disjoint (names ns) (names-rise ns l d 0 g)
 

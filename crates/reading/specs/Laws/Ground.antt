@@ -177,12 +177,12 @@ some-in (listed c is ns) l d lo (suc r) g h s =
     (c, w .0 ∷ w .1, g .1, (w .2, w .3), inl (refl, in→covered is (w .0) (w .1) (w .4)))
 
 -- what nodes cover of the finest names, others cover too
-abbrev Within : Level → ℕ → Nodes → Nodes → Type 0
-Within l r a b = (x : ℕ) (p : Name) → x < many l → Digs r p → In a x p → In b x p
+abbrev NoMore : Level → ℕ → Nodes → Nodes → Type 0
+NoMore l r a b = (x : ℕ) (p : Name) → x < many l → Digs r p → In a x p → In b x p
 
 -- what nodes of a later reading cover begins no earlier
 lead :
-    (a b : Nodes) (l : Level) (d c lo r : ℕ) → Good l d c a → (g : Good l d lo b) (h : d ≤ r) (s : Some b) → Within l r b a →
+    (a b : Nodes) (l : Level) (d c lo r : ℕ) → Good l d c a → (g : Good l d lo b) (h : d ≤ r) (s : Some b) → NoMore l r b a →
     c ≤ some-in b l d lo r g h s .0
 lead a b l d c lo r k g h s f =
     let w = some-in b l d lo r g h s in from a l d c (w .0) (w .1) k (f (w .0) (w .1) (w .2) (w .3) (w .4))
@@ -190,13 +190,13 @@ lead a b l d c lo r k g h s f =
 -- the same holds from a later number on
 later :
     (l : Level) (d r c : ℕ) (a b a′ b′ : Nodes) → Good l d (suc c) a′ → ((x : ℕ) (p : Name) → In a′ x p → In a x p) →
-    ((x : ℕ) (p : Name) → In b x p → (c ≡ x) ⊎ In b′ x p) → Within l r a b → Within l r a′ b′
+    ((x : ℕ) (p : Name) → In b x p → (c ≡ x) ⊎ In b′ x p) → NoMore l r a b → NoMore l r a′ b′
 later l d r c a b a′ b′ g i j f x p u v w = ⊎-elim (λ e. absurd (omega (arith, from a′ l d (suc c) x p g w))) (λ k. k) (j x p (f x p u v (i x p w)))
 
 -- a whole node and one with a list do not cover the same
 not-both :
     (l : Level) (d lo r c c′ : ℕ) (a is b : Nodes) → Good l d lo (whole c a) → Good l d lo (listed c′ is b) → d ≤ r →
-    Within l r (whole c a) (listed c′ is b) → Within l r (listed c′ is b) (whole c a) → ⊥
+    NoMore l r (whole c a) (listed c′ is b) → NoMore l r (listed c′ is b) (whole c a) → ⊥
 unfolding some-in
 not-both l d lo zero c c′ a is b ga gb h f g = absurd (omega (arith, room-le l c′ d))
 not-both l d lo (suc r) c c′ a is b ga gb h f g =
@@ -208,7 +208,7 @@ not-both l d lo (suc r) c c′ a is b ga gb h f g =
           (λ y p u v i. own-list l d is b c′ c y p (gb .6) e (f c (y ∷ p) (ga .1) (v, i) (inl refl))),
     ))
 
-same : (a b : Nodes) (l : Level) (d lo r : ℕ) → Good l d lo a → Good l d lo b → d ≤ r → Within l r a b → Within l r b a → a ≡ b
+same : (a b : Nodes) (l : Level) (d lo r : ℕ) → Good l d lo a → Good l d lo b → d ≤ r → NoMore l r a b → NoMore l r b a → a ≡ b
 unfolding some-in
 same end end l d lo r ga gb h f g = refl
 same end (whole c b) l d lo r ga gb h f g = absurd (g c (replicate r 0) (gb .1) (zeros r) (inl refl))

@@ -1,4 +1,4 @@
--- Names and cells: every name is one cell's and every cell has one name, and a name begins another exactly when the one's cell has the other's inside.
+-- AreNames and cells: every name is one cell's and every cell has one name, and a name begins another exactly when the one's cell has the other's inside.
 -- Assumes nothing.
 use mathlib.Core.Path.{_≡_, refl, sym, ap, ap₂, _∙_}
 use mathlib.Core.Logic.{inl, inr}
@@ -16,7 +16,7 @@ use Rattle.code.specs.Code.{digitsOf, sizeOf}
 use Rattle.code.specs.Laws.Code.{length-digits-of, digits-of-below}
 use Rattle.code.specs.Inside.{Inside}
 use Rattle.reading.specs.Ground.{cellNamed, Finest, Covers, SameGround, Cells, sizeSum}
-use Rattle.reading.specs.Prefix.{Name, nameOf, Prefix, Covered, FinestName, SameNames, IsName, Names, sizes}
+use Rattle.reading.specs.Prefix.{Name, numbersOf, Prefix, Covered, FinestName, SameNames, IsName, AreNames, sizes}
 use Rattle.reading.specs.Laws.Ground.{digs-below}
 
 -- ---- a digit is 3 times that of the row plus that of the column
@@ -77,13 +77,13 @@ column-digits (suc k) i j h =
     let e : value 3 (columns ds) ≡ j / 3 = column-digits k (i / 3) (j / 3) (omega (arith, pow-suc 3 k)) in
     ap (value 3) (map-append (λ (d : ℕ). d % 3) ds (d ∷ [])) ∙ value-snoc 3 (columns ds) (d % 3) ∙ omega arith
 
-pub cell-is-named : (x : Cell) → IsCell x → IsName 6 15 (nameOf x)
-unfolding nameOf
+pub cell-is-named : (x : Cell) → IsCell x → IsName 6 15 (numbersOf x)
+unfolding numbersOf
 cell-is-named x v =
     (omega (arith, v .faced), omega (arith, v .fine, length-digits-of (x .resolution) (x .row) (x .column)), digits-of-below (x .resolution) (x .row) (x .column))
 
-pub cell-named : (x : Cell) → IsCell x → cellNamed (nameOf x) ≡ x
-unfolding cellNamed nameOf
+pub cell-named : (x : Cell) → IsCell x → cellNamed (numbersOf x) ≡ x
+unfolding cellNamed numbersOf
 cell-named x v =
     λ i. record {
       face = x .face;
@@ -94,8 +94,8 @@ cell-named x v =
 
 -- ---- and no other
 
-pub name-named : (q : Name) → IsName 6 15 q → nameOf (cellNamed q) ≡ q
-unfolding cellNamed nameOf
+pub name-named : (q : Name) → IsName 6 15 q → numbersOf (cellNamed q) ≡ q
+unfolding cellNamed numbersOf
 name-named [] n = absurd n
 name-named (f ∷ ds) n =
     let k : ℕ = length ds in
@@ -109,8 +109,8 @@ name-named (f ∷ ds) n =
     value-one 3 (columns es) (columns ds) (columns-below es) (columns-below ds) (length-map es _ ∙ m ∙ sym (length-map ds _)) (column-digits k i j (column-small ds)) in
     ap (λ (x : List ℕ). f ∷ x) (both-digits es ds p q)
 
-pub only-name : {x : Cell} (q : Name) → IsName 6 15 q → cellNamed q ≡ x → q ≡ nameOf x
-only-name q n e = sym (name-named q n) ∙ ap nameOf e
+pub only-name : {x : Cell} (q : Name) → IsName 6 15 q → cellNamed q ≡ x → q ≡ numbersOf x
+only-name q n e = sym (name-named q n) ∙ ap numbersOf e
 
 -- ---- what lies inside has the name in front
 
@@ -134,8 +134,8 @@ prefix-append : (q p : Name) → Prefix q (q ++ p)
 prefix-append [] p = tt
 prefix-append (a ∷ q) p = (refl, prefix-append q p)
 
-pub inside-prefix : (c x : Cell) → Inside c x → Prefix (nameOf c) (nameOf x)
-unfolding nameOf
+pub inside-prefix : (c x : Cell) → Inside c x → Prefix (numbersOf c) (numbersOf x)
+unfolding numbersOf
 inside-prefix c x i =
     let r : ℕ = x .resolution - c .resolution in
     let k : x .resolution ≡ c .resolution + r = omega (arith, i .finer) in
@@ -180,8 +180,8 @@ module _ (f : ℕ → ℕ) (ds es : List ℕ) (b : Below 3 (map f es)) where
   map-front =
       ap₂ (λ (x : List ℕ) (n : ℕ). value 3 x / 3 ^ n) (map-append f ds es) (sym (length-map es f)) ∙ value-front (map f ds) (map f es) b
 
-pub prefix-inside : (c x : Cell) → IsCell c → IsCell x → Prefix (nameOf c) (nameOf x) → Inside c x
-unfolding nameOf
+pub prefix-inside : (c x : Cell) → IsCell c → IsCell x → Prefix (numbersOf c) (numbersOf x) → Inside c x
+unfolding numbersOf
 prefix-inside c x v w h =
     let ds : List ℕ = digitsOf (c .resolution) (c .row) (c .column) in
     let xs : List ℕ = digitsOf (x .resolution) (x .row) (x .column) in
@@ -209,29 +209,29 @@ prefix-inside c x v w h =
 
 -- ---- lists of cells and of names
 
-pub covers-covered : (qs : List Cell) (x : Cell) → Covers qs x → Covered (map nameOf qs) (nameOf x)
+pub covers-covered : (qs : List Cell) (x : Cell) → Covers qs x → Covered (map numbersOf qs) (numbersOf x)
 covers-covered [] x h = h
 covers-covered (q ∷ qs) x (inl h) = inl (inside-prefix q x h)
 covers-covered (q ∷ qs) x (inr h) = inr (covers-covered qs x h)
 
-pub covered-covers : (qs : List Cell) (x : Cell) → Cells qs → IsCell x → Covered (map nameOf qs) (nameOf x) → Covers qs x
+pub covered-covers : (qs : List Cell) (x : Cell) → Cells qs → IsCell x → Covered (map numbersOf qs) (numbersOf x) → Covers qs x
 covered-covers [] x c w h = h
 covered-covers (q ∷ qs) x c w (inl h) = inl (prefix-inside q x (c .0) w h)
 covered-covers (q ∷ qs) x c w (inr h) = inr (covered-covers qs x (c .1) w h)
 
-pub cells-named : (qs : List Name) → Names 6 15 qs → Cells (map cellNamed qs)
+pub cells-named : (qs : List Name) → AreNames 6 15 qs → Cells (map cellNamed qs)
 cells-named [] n = tt
 cells-named (q ∷ qs) n = (named-cell q (n .0), cells-named qs (n .1))
 
-pub names-named : (qs : List Name) → Names 6 15 qs → map nameOf (map cellNamed qs) ≡ qs
+pub names-named : (qs : List Name) → AreNames 6 15 qs → map numbersOf (map cellNamed qs) ≡ qs
 names-named [] n = refl
 names-named (q ∷ qs) n = ap₂ _∷_ (name-named q (n .0)) (names-named qs (n .1))
 
-pub names-of-cells : (qs : List Cell) → Cells qs → Names 6 15 (map nameOf qs)
+pub names-of-cells : (qs : List Cell) → Cells qs → AreNames 6 15 (map numbersOf qs)
 names-of-cells [] c = tt
 names-of-cells (q ∷ qs) c = (cell-is-named q (c .0), names-of-cells qs (c .1))
 
-pub sizes-named : (qs : List Name) → Names 6 15 qs → sizeSum (map cellNamed qs) ≡ sizes 16 qs
+pub sizes-named : (qs : List Name) → AreNames 6 15 qs → sizeSum (map cellNamed qs) ≡ sizes 16 qs
 unfolding sizeSum sizes cellNamed sizeOf
 sizes-named [] n = refl
 sizes-named ([] ∷ qs) n = absurd (n .0)
@@ -241,7 +241,7 @@ sizes-named ((f ∷ ds) ∷ qs) n =
 
 -- ---- ground
 
-pub finest-named : (p : Name) → FinestName 6 15 p → Finest (cellNamed p) × (nameOf (cellNamed p) ≡ p)
+pub finest-named : (p : Name) → FinestName 6 15 p → Finest (cellNamed p) × (numbersOf (cellNamed p) ≡ p)
 unfolding cellNamed
 finest-named [] h = absurd h
 finest-named (x ∷ p) h =
@@ -250,7 +250,7 @@ finest-named (x ∷ p) h =
     (record { cell = named-cell (x ∷ p) n; finest = e .0 }, name-named (x ∷ p) n)
 
 -- cells of one ground have names of one ground
-pub ground-names : (qs ps : List Cell) → Cells qs → Cells ps → SameGround qs ps → SameNames 6 15 (map nameOf qs) (map nameOf ps)
+pub ground-names : (qs ps : List Cell) → Cells qs → Cells ps → SameGround qs ps → SameNames 6 15 (map numbersOf qs) (map numbersOf ps)
 ground-names qs ps a b f p h =
     let k = finest-named p h in
     let y : Cell = cellNamed p in

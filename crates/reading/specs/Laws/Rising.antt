@@ -19,7 +19,7 @@ use Rattle.reading.specs.declared.Level.{Level}
 use Rattle.reading.specs.declared.Level.the-variants.{Digits}
 use Rattle.reading.specs.Reading.{Nodes, end, whole, listed, room, Good, names}
 use Rattle.reading.specs.Ground.{Cells, All, Rising, Apart}
-use Rattle.reading.specs.Prefix.{Name, nameOf, Ahead, AheadAll, Rise}
+use Rattle.reading.specs.Prefix.{Name, numbersOf, Ahead, AheadAll, InOrder}
 
 -- ---- the names rise
 
@@ -63,12 +63,12 @@ ahead-append : (q : Name) (a b : List Name) → AheadAll q a → AheadAll q b �
 ahead-append q [] b g h = h
 ahead-append q (p ∷ a) b g h = (g .0, ahead-append q a b (g .1) h)
 
-rise-list : (c : ℕ) (a b : List Name) → Rise a → From (suc c) b → Rise b → Rise (map (λ (q : Name). c ∷ q) a ++ b)
+rise-list : (c : ℕ) (a b : List Name) → InOrder a → From (suc c) b → InOrder b → InOrder (map (λ (q : Name). c ∷ q) a ++ b)
 rise-list c [] b g f h = h
 rise-list c (q ∷ a) b g f h =
     (ahead-append (c ∷ q) (map (λ (p : Name). c ∷ p) a) b (ahead-map c q a (g .0)) (ahead-from c q b f), rise-list c a b (g .1) f h)
 
-pub names-rise : (ns : Nodes) (l : Level) (d lo : ℕ) → Good l d lo ns → Rise (names ns)
+pub names-rise : (ns : Nodes) (l : Level) (d lo : ℕ) → Good l d lo ns → InOrder (names ns)
 names-rise end l d lo g = tt
 names-rise (whole c ns) l d lo g = (ahead-from c [] (names ns) (names-from ns l d (suc c) (g .2)), names-rise ns l d (suc c) (g .2))
 names-rise (listed c is ns) l d lo g =
@@ -124,28 +124,28 @@ ahead-rank (suc r) (x ∷ q) (y ∷ p) b h k f =
 
 -- ---- the finest cells of a cell ahead come before the other's
 
-start-rank : (c : Cell) → IsCell c → startOf c ≡ rank 16 (nameOf c)
-unfolding startOf pathOf rank nameOf
+start-rank : (c : Cell) → IsCell c → startOf c ≡ rank 16 (numbersOf c)
+unfolding startOf pathOf rank numbersOf
 start-rank c v =
     let ds = digitsOf (c .resolution) (c .row) (c .column) in
     let n : length ds ≡ c .resolution = length-digits-of (c .resolution) (c .row) (c .column) in
     ap (λ (k : ℕ). c .face * 9 ^ 15 + value 9 ds * 9 ^ (15 - k)) (sym n) ∙ sym (rank-cons 15 (c .face) ds (omega (arith, v .fine)))
 
-length-name : (c : Cell) → length (nameOf c) ≡ suc (c .resolution)
-unfolding nameOf
+length-name : (c : Cell) → length (numbersOf c) ≡ suc (c .resolution)
+unfolding numbersOf
 length-name c = ap suc (length-digits-of (c .resolution) (c .row) (c .column))
 
-name-below : (c : Cell) → IsCell c → Below 9 (nameOf c)
-unfolding nameOf
+name-below : (c : Cell) → IsCell c → Below 9 (numbersOf c)
+unfolding numbersOf
 name-below c v = (omega (arith, v .faced), digits-of-below (c .resolution) (c .row) (c .column))
 
-pub ahead-before : (c x : Cell) → IsCell c → IsCell x → Ahead (nameOf c) (nameOf x) → endOf c ≤ startOf x
+pub ahead-before : (c x : Cell) → IsCell c → IsCell x → Ahead (numbersOf c) (numbersOf x) → endOf c ≤ startOf x
 unfolding endOf sizeOf
 ahead-before c x v w f =
     let m = length-name c in
     let n = length-name x in
-    let e : 9 ^ (16 - length (nameOf c)) ≡ 9 ^ (15 - c .resolution) = ap (λ (k : ℕ). 9 ^ k) (omega arith) in
-    let k = ahead-rank 16 (nameOf c) (nameOf x) (name-below c v) (omega (arith, v .fine)) (omega (arith, w .fine)) f in
+    let e : 9 ^ (16 - length (numbersOf c)) ≡ 9 ^ (15 - c .resolution) = ap (λ (k : ℕ). 9 ^ k) (omega arith) in
+    let k = ahead-rank 16 (numbersOf c) (numbersOf x) (name-below c v) (omega (arith, v .fine)) (omega (arith, w .fine)) f in
     omega (arith, start-rank c v, start-rank x w)
 
 -- ---- cells whose names rise
@@ -162,18 +162,18 @@ module _ (c x : Cell) (v : IsCell c) (w : IsCell x) (h : endOf c ≤ startOf x) 
     (λ i. let k = inside-within x c w v i in omega (arith, size-pos c, k .from)),
   )
 
-ahead-rising : (c : Cell) (qs : List Cell) → IsCell c → Cells qs → AheadAll (nameOf c) (map nameOf qs) → All (λ (x : Cell). codeOf c < codeOf x) qs
+ahead-rising : (c : Cell) (qs : List Cell) → IsCell c → Cells qs → AheadAll (numbersOf c) (map numbersOf qs) → All (λ (x : Cell). codeOf c < codeOf x) qs
 ahead-rising c [] v k f = tt
 ahead-rising c (x ∷ qs) v k f = (code-before c x v (k .0) (ahead-before c x v (k .0) (f .0)), ahead-rising c qs v (k .1) (f .1))
 
-ahead-apart : (c : Cell) (qs : List Cell) → IsCell c → Cells qs → AheadAll (nameOf c) (map nameOf qs) → All (λ (x : Cell). (Inside c x → ⊥) × (Inside x c → ⊥)) qs
+ahead-apart : (c : Cell) (qs : List Cell) → IsCell c → Cells qs → AheadAll (numbersOf c) (map numbersOf qs) → All (λ (x : Cell). (Inside c x → ⊥) × (Inside x c → ⊥)) qs
 ahead-apart c [] v k f = tt
 ahead-apart c (x ∷ qs) v k f = (apart-before c x v (k .0) (ahead-before c x v (k .0) (f .0)), ahead-apart c qs v (k .1) (f .1))
 
-pub rise-rising : (qs : List Cell) → Cells qs → Rise (map nameOf qs) → Rising qs
+pub rise-rising : (qs : List Cell) → Cells qs → InOrder (map numbersOf qs) → Rising qs
 rise-rising [] k f = tt
 rise-rising (c ∷ qs) k f = (ahead-rising c qs (k .0) (k .1) (f .0), rise-rising qs (k .1) (f .1))
 
-pub rise-apart : (qs : List Cell) → Cells qs → Rise (map nameOf qs) → Apart qs
+pub rise-apart : (qs : List Cell) → Cells qs → InOrder (map numbersOf qs) → Apart qs
 rise-apart [] k f = tt
 rise-apart (c ∷ qs) k f = (ahead-apart c qs (k .0) (k .1) (f .0), rise-apart qs (k .1) (f .1))

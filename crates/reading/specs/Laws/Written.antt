@@ -11,7 +11,7 @@ use Rattle.reading.specs.declared.Level.the-variants.{Faces}
 use Rattle.reading.specs.Reading.{Nodes, end, whole, listed, Good, render, names}
 use Rattle.reading.specs.Ground.{wholeCells, Finest, Covers, SameGround, Cells}
 use Rattle.reading.specs.Text.{heading, ReadsAs}
-use Rattle.reading.specs.Prefix.{Name, nameOf, Covered, Digs, FinestName, SameNames, Names}
+use Rattle.reading.specs.Prefix.{Name, numbersOf, Covered, Digs, FinestName, SameNames, AreNames}
 use Rattle.reading.specs.Laws.Ground.{below-digs}
 use Rattle.reading.specs.Laws.Fewest.{names-good}
 use Rattle.reading.specs.Laws.Named.{covers-covered, covered-covers, cells-named, names-named, names-of-cells}
@@ -21,29 +21,29 @@ use Rattle.reading.specs.Laws.Built.{built-good, built-ground}
 
 -- the nodes that are written
 abbrev pub nodesFor : List Cell → Nodes
-nodesFor cells = built 15 6 (map nameOf cells)
+nodesFor cells = built 15 6 (map numbersOf cells)
 
 -- a finest cell has a finest name
-finest-name : (x : Cell) → Finest x → FinestName 6 15 (nameOf x)
-unfolding nameOf
+finest-name : (x : Cell) → Finest x → FinestName 6 15 (numbersOf x)
+unfolding numbersOf
 finest-name x f =
     let ds : List ℕ = digitsOf (x .resolution) (x .row) (x .column) in
     let e : length ds ≡ 15 = length-digits-of (x .resolution) (x .row) (x .column) ∙ f .finest in
     (omega (arith, f .cell .faced), rw e at (below-digs ds (digits-of-below (x .resolution) (x .row) (x .column))))
 
 -- cells whose names cover the same have the same ground
-pub names-ground : (qs ps : List Cell) → Cells qs → Cells ps → SameNames 6 15 (map nameOf qs) (map nameOf ps) → SameGround qs ps
+pub names-ground : (qs ps : List Cell) → Cells qs → Cells ps → SameNames 6 15 (map numbersOf qs) (map numbersOf ps) → SameGround qs ps
 names-ground qs ps a b f x v =
-    let k = f (nameOf x) (finest-name x v) in (
+    let k = f (numbersOf x) (finest-name x v) in (
       (λ h. covered-covers ps x b (v .cell) (k .0 (covers-covered qs x h))),
       (λ h. covered-covers qs x a (v .cell) (k .1 (covers-covered ps x h))),
     )
 
 module _ (cells : List Cell) (c : Cells cells) where
   good : Good Faces 15 0 (nodesFor cells)
-  good = built-good (map nameOf cells) (names-of-cells cells c)
+  good = built-good (map numbersOf cells) (names-of-cells cells c)
 
-  named : Names 6 15 (names (nodesFor cells))
+  named : AreNames 6 15 (names (nodesFor cells))
   named = names-good (nodesFor cells) Faces 15 0 15 good (omega arith)
 
   -- "gives the accepted text": it is accepted, and has the heading of (n, s)
@@ -56,7 +56,7 @@ module _ (cells : List Cell) (c : Cells cells) where
   unfolding wholeCells
   written-ground =
       names-ground cells (wholeCells (nodesFor cells)) c (cells-named (names (nodesFor cells)) named)
-      (rw (names-named (names (nodesFor cells)) named) (built-ground (map nameOf cells) (names-of-cells cells c)))
+      (rw (names-named (names (nodesFor cells)) named) (built-ground (map numbersOf cells) (names-of-cells cells c)))
 
   -- listing what was written gives the fewest cells of the ground
   pub written-fewest : (qs : List Cell) → Cells qs → SameGround qs cells → length (wholeCells (nodesFor cells)) ≤ length qs
@@ -90,13 +90,13 @@ o-p0-p8 =
     at 1 0 0 0 ∷ at 2 1 0 0 ∷ at 2 1 0 1 ∷ at 2 1 0 2 ∷ at 2 1 1 0 ∷ at 2 1 1 1 ∷ at 2 1 1 2 ∷ at 2 1 2 0 ∷ at 2 1 2 1 ∷ at 2 1 2 2 ∷ []
 
 given-nine : writtenText 0 0 o-p0-p8 ≡ 67 ∷ 86 ∷ 82 ∷ 0 ∷ 1 ∷ 48 ∷ 48 ∷ 79 ∷ 80 ∷ []
-unfolding writtenText nameOf digitsOf tails anyEnds nodeOf side
+unfolding writtenText numbersOf digitsOf tails anyEnds nodeOf side
 given-nine = refl
 
 -- ---- "P3 and P41 give the body `P(34(1))`"
 
 given-body : writtenText 0 0 (at 2 1 1 0 ∷ at 2 2 3 4 ∷ []) ≡ heading 0 0 ++ (80 ∷ 40 ∷ 51 ∷ 52 ∷ 40 ∷ 49 ∷ 41 ∷ 41 ∷ [])
-unfolding writtenText nameOf digitsOf tails anyEnds nodeOf side
+unfolding writtenText numbersOf digitsOf tails anyEnds nodeOf side
 given-body = refl
 
 -- "The empty list gives the seven bytes of the heading"; all six faces do not merge
@@ -107,5 +107,5 @@ given-none = refl
 given-faces :
     writtenText 0 0 (at 0 0 0 0 ∷ at 1 0 0 0 ∷ at 2 0 0 0 ∷ at 3 0 0 0 ∷ at 4 0 0 0 ∷ at 5 0 0 0 ∷ []) ≡
     heading 0 0 ++ (78 ∷ 79 ∷ 80 ∷ 81 ∷ 82 ∷ 83 ∷ [])
-unfolding writtenText nameOf digitsOf tails anyEnds nodeOf side
+unfolding writtenText numbersOf digitsOf tails anyEnds nodeOf side
 given-faces = refl

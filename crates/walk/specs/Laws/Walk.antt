@@ -20,7 +20,7 @@ use Rattle.reading.specs.declared.Level.the-variants.{Faces, Belt, Digits}
 use Rattle.reading.specs.Reading.{Nodes, end, whole, listed, first, many, room, render, Good, names}
 use Rattle.reading.specs.Laws.Reading.{room-le}
 use Rattle.reading.specs.Ground.{cellNamed, wholeCells}
-use Rattle.reading.specs.Prefix.{Name, nameOf, IsName, Names}
+use Rattle.reading.specs.Prefix.{Name, numbersOf, IsName, AreNames}
 use Rattle.reading.specs.Laws.Named.{name-named}
 use Rattle.reading.specs.Laws.Fewest.{names-good}
 use Rattle.reading.specs.Text.{ReadsAs}
@@ -201,7 +201,7 @@ spots-named (listed c is ns) k p =
     ∙ sym (map-append (named k p) (map (λ (q : Name). c ∷ q) (names is)) (names ns))
 
 named-cell : (q : Name) → IsName 6 15 q → named 0 0 q ≡ spotOf (cellNamed q)
-unfolding named numberOf pathOf value nameOf cellNamed
+unfolding named numberOf pathOf value numbersOf cellNamed
 named-cell [] h = absurd h
 named-cell (f ∷ ds) h =
     let x : Cell = cellNamed (f ∷ ds) in
@@ -212,7 +212,7 @@ named-cell (f ∷ ds) h =
     let i : 0 + suc (length ds) - 1 ≡ length ds = omega arith in
     ap₂ spot i (omega arith)
 
-named-cells : (qs : List Name) → Names 6 15 qs → map (named 0 0) qs ≡ map spotOf (map cellNamed qs)
+named-cells : (qs : List Name) → AreNames 6 15 qs → map (named 0 0) qs ≡ map spotOf (map cellNamed qs)
 named-cells [] h = refl
 named-cells (q ∷ qs) h = ap₂ _∷_ (named-cell q (h .0)) (named-cells qs (h .1))
 

@@ -20,12 +20,12 @@ use Rattle.reading.specs.declared.Level.the-variants.{Faces}
 use Rattle.reading.specs.Reading.{Nodes, render}
 use Rattle.reading.specs.Text.{heading}
 use Rattle.reading.specs.Ground.{cellNamed, Cells}
-use Rattle.reading.specs.Prefix.{Name, nameOf, Prefix, IsName, Names, Ahead, AheadAll, Rise}
+use Rattle.reading.specs.Prefix.{Name, numbersOf, Prefix, IsName, AreNames, Ahead, AheadAll, InOrder}
 use Rattle.reading.specs.Laws.Named.{prefix-inside, names-of-cells}
 use Rattle.reading.specs.Laws.Rising.{ahead-before}
 use Rattle.writing.specs.declared.Placed.{Placed}
 use Rattle.reading.specs.Written.{side, built, writtenText}
-use Rattle.writing.specs.WriteEntry.{allCodes, listRefusal, textOf, textIn}
+use Rattle.writing.specs.Write.{allCodes, codesRefusal, textOf, textIn}
 use Rattle.reading.specs.Laws.Built.{under, built-side}
 use Rattle.writing.specs.Laws.List.{GoodList, InTurn, good-list, in-turn, codes-cells}
 use Rattle.writing.specs.Internal.Take.{restsOf, Since, Each, Standing}
@@ -47,25 +47,25 @@ four-ways (x ∷ q) (y ∷ p) =
     (λ l. inr (inr (inr (inl l)))))
     (three-ways x y)
 
-before-ahead : (c x : Cell) → IsCell c → IsCell x → endOf c ≤ startOf x → Ahead (nameOf c) (nameOf x)
+before-ahead : (c x : Cell) → IsCell c → IsCell x → endOf c ≤ startOf x → Ahead (numbersOf c) (numbersOf x)
 unfolding endOf
 before-ahead c x v w h =
     ⊎-elim (λ i. absurd (let k = inside-within c x v w (prefix-inside c x v w i) in omega (arith, size-pos x, k .to)))
     (⊎-elim (λ i. absurd (let k = inside-within x c w v (prefix-inside x c w v i) in omega (arith, size-pos c, k .from)))
     (⊎-elim (λ a. a) (λ a. absurd (let k = ahead-before x c w v a in omega (arith, size-pos c, size-pos x)))))
-    (four-ways (nameOf c) (nameOf x))
+    (four-ways (numbersOf c) (numbersOf x))
 
-before-all : (c : Cell) (xs : List Cell) → IsCell c → Cells xs → InTurn (c ∷ xs) → AheadAll (nameOf c) (map nameOf xs)
+before-all : (c : Cell) (xs : List Cell) → IsCell c → Cells xs → InTurn (c ∷ xs) → AheadAll (numbersOf c) (map numbersOf xs)
 before-all c [] v k t = tt
 before-all c (x ∷ xs) v k t = (before-ahead c x v (k .0) (t .0 .0), before-all c xs v (k .1) (t .0 .1, t .1 .1))
 
-in-turn-rise : (xs : List Cell) → Cells xs → InTurn xs → Rise (map nameOf xs)
+in-turn-rise : (xs : List Cell) → Cells xs → InTurn xs → InOrder (map numbersOf xs)
 in-turn-rise [] k t = tt
 in-turn-rise (c ∷ cs) k t = (before-all c cs (k .0) (k .1) t, in-turn-rise cs (k .1) (t .1))
 
 -- ---- the six faces
 
-since-faces : (qs : List Name) → Names 6 15 qs → Each (Since (0 ∷ [])) qs
+since-faces : (qs : List Name) → AreNames 6 15 qs → Each (Since (0 ∷ [])) qs
 since-faces [] n = tt
 since-faces ([] ∷ qs) n = absurd (n .0)
 since-faces ((x ∷ q) ∷ qs) n = (⊎-elim (λ l. inr (inl l)) (λ l. inl (omega arith, tt)) (lt-or 0 x), since-faces qs (n .1))
@@ -74,7 +74,7 @@ face-code : (b : ℕ) → codeOf (cellNamed (b ∷ [])) ≡ 0 + (b - 0) * (16 * 
 unfolding codeOf codeAt pathOf cellNamed digitsOf value
 face-code b = omega arith
 
-module _ (codes : List ℕ) (e : listRefusal codes ≡ 0) where
+module _ (codes : List ℕ) (e : codesRefusal codes ≡ 0) where
   good : GoodList codes
   good = good-list codes e
 
@@ -83,7 +83,7 @@ module _ (codes : List ℕ) (e : listRefusal codes ≡ 0) where
 
   pub top-at : ListAt codes 0 [] 0 6 0 205891132094649 15
   top-at =
-      let n : Names 6 15 (namesFrom codes 0) = names-of-cells (map cellOf codes) cells in
+      let n : AreNames 6 15 (namesFrom codes 0) = names-of-cells (map cellOf codes) cells in
       record {
         coded = good .coded;
         standing = record { named = n; rising = in-turn-rise (map cellOf codes) cells (in-turn codes e); since = since-faces (namesFrom codes 0) n };
@@ -93,9 +93,9 @@ module _ (codes : List ℕ) (e : listRefusal codes ≡ 0) where
       }
 
 -- the nodes of the faces are those that are written
-faces-nodes : (codes : List ℕ) → side (under 15) 6 0 (restsOf [] (namesFrom codes 0)) ≡ built 15 6 (map nameOf (map cellOf codes))
+faces-nodes : (codes : List ℕ) → side (under 15) 6 0 (restsOf [] (namesFrom codes 0)) ≡ built 15 6 (map numbersOf (map cellOf codes))
 unfolding restsOf
-faces-nodes codes = sym (built-side 15 6 (map nameOf (map cellOf codes)))
+faces-nodes codes = sym (built-side 15 6 (map numbersOf (map cellOf codes)))
 
 -- ---- the length, whatever n and s are
 
@@ -106,7 +106,7 @@ pub record LengthIs (codes : List ℕ) (r : ℕ) : Type 0 where
 pub top-length : (codes : List ℕ) (next bytes count : ℕ) → ListTakes codes 0 [] 0 6 15 next bytes count → (a : Arrangement) → bytes + 7 ≡ length (textOf a codes)
 unfolding textOf writtenText
 top-length codes next bytes count t a =
-    let f : length (render Faces (built 15 6 (map nameOf (map cellOf codes)))) ≡ bytes = ap (λ (ns : Nodes). length (render Faces ns)) (sym (faces-nodes codes)) ∙ t .long Faces in
+    let f : length (render Faces (built 15 6 (map numbersOf (map cellOf codes)))) ≡ bytes = ap (λ (ns : Nodes). length (render Faces ns)) (sym (faces-nodes codes)) ∙ t .long Faces in
     omega arith
 
 -- ---- the text
@@ -120,6 +120,6 @@ top-text a codes text mid later r h e u =
     let z : 0 + n ≡ n = omega arith in
     u .wrote .holds
     ∙ ap₂ (λ (ns : Nodes) (x : List ℕ). sets x 7 (render Faces ns)) (faces-nodes codes) e
-    ∙ sym (sets-append text 0 (heading (a .north) (a .south)) (render Faces (built 15 6 (map nameOf (map cellOf codes)))))
+    ∙ sym (sets-append text 0 (heading (a .north) (a .south)) (render Faces (built 15 6 (map numbersOf (map cellOf codes)))))
     ∙ sets-eq (textOf a codes) text 0 (omega arith)
     ∙ ap (λ (m : ℕ). textOf a codes ++ drop m text) z

@@ -10,16 +10,16 @@ use Rattle.code.specs.Code.{codeOf, cellOf}
 use Rattle.reading.specs.declared.Level.{Level}
 use Rattle.reading.specs.Reading.{Nodes, render, wholes as wholesIn}
 use Rattle.reading.specs.Ground.{cellNamed}
-use Rattle.reading.specs.Prefix.{Name, nameOf, Prefix, Ahead, IsName}
+use Rattle.reading.specs.Prefix.{Name, numbersOf, Prefix, Ahead, IsName}
 use Rattle.writing.specs.declared.Taken.{Taken}
 use Rattle.reading.specs.Written.{nodeOf, side}
-use Rattle.writing.specs.WriteEntry.{allCodes}
+use Rattle.writing.specs.Write.{allCodes}
 use Rattle.reading.specs.Laws.Built.{under}
 use Rattle.writing.specs.Internal.Take.{restsOf, Each, Standing, Took}
 
 -- the names of the codes from a place on
 abbrev pub namesFrom : List ℕ → ℕ → List Name
-namesFrom codes at = map nameOf (map cellOf (drop at codes))
+namesFrom codes at = map numbersOf (map cellOf (drop at codes))
 
 -- the finest cells of the codes from a place on
 unfoldable pub area : List ℕ → ℕ
@@ -41,7 +41,7 @@ pub record NodeAt (codes : List ℕ) (at : ℕ) (w : Name) (cell size k : ℕ) :
   pub code : codeOf (cellNamed w) ≡ cell
   pub sized : size ≡ 9 ^ k
   pub depth : length w + k ≡ 16
-  pub inside : Prefix w (nameOf (cellOf (getD codes at 0)))
+  pub inside : Prefix w (numbersOf (cellOf (getD codes at 0)))
 
 -- so do the cells behind w of the numbers from c on
 pub record ListAt (codes : List ℕ) (at : ℕ) (w : Name) (c left cell size k : ℕ) : Type 0 where

@@ -28,11 +28,11 @@ use Rattle.reading.specs.declared.Level.{Level}
 use Rattle.reading.specs.declared.Level.the-variants.{Digits}
 use Rattle.reading.specs.Reading.{Nodes, end, whole, listed, render, wholes}
 use Rattle.reading.specs.Ground.{cellNamed}
-use Rattle.reading.specs.Prefix.{Name, nameOf, Prefix, Ahead, IsName, Names}
+use Rattle.reading.specs.Prefix.{Name, numbersOf, Prefix, Ahead, IsName, AreNames}
 use Rattle.reading.specs.Laws.Rising.{ahead-before}
 use Rattle.reading.specs.Laws.Named.{named-cell, name-named, cell-is-named, cell-named, prefix-inside}
 use Rattle.reading.specs.Written.{nodeOf, side, built}
-use Rattle.writing.specs.WriteEntry.{allCodes}
+use Rattle.writing.specs.Write.{allCodes}
 use Rattle.reading.specs.Laws.Built.{under, built-side}
 use Rattle.writing.specs.Internal.Take.{restsOf, Since, Each, Standing, Took}
 use Rattle.writing.specs.Internal.TakeLaws.{prefix-same, prefix-both, side-in, side-out, took-none, took-join, standing-next, all-ahead, self-node, self-took, self-past, deeper, deeper-node, nine-past}
@@ -46,10 +46,10 @@ code-at [] at a h = absurd (omega arith)
 code-at (c ∷ cs) zero a h = and-left (isCode c) (allCodes cs) a
 code-at (c ∷ cs) (suc at) a h = code-at cs at (and-right (isCode c) (allCodes cs) a) (omega arith)
 
-pub names-at : (codes : List ℕ) (at : ℕ) → at < length codes → namesFrom codes at ≡ nameOf (cellOf (getD codes at 0)) ∷ namesFrom codes (at + 1)
+pub names-at : (codes : List ℕ) (at : ℕ) → at < length codes → namesFrom codes at ≡ numbersOf (cellOf (getD codes at 0)) ∷ namesFrom codes (at + 1)
 names-at codes at h =
     let e : drop at codes ≡ getD codes at 0 ∷ drop (at + 1) codes = rw (add-one, drop-cons codes at 0) in
-    ap (λ (cs : List ℕ). map nameOf (map cellOf cs)) e
+    ap (λ (cs : List ℕ). map numbersOf (map cellOf cs)) e
 
 pub area-at : (codes : List ℕ) (at : ℕ) → at < length codes → areaFrom codes at ≡ 9 ^ (15 - getD codes at 0 % 16) + areaFrom codes (at + 1)
 unfolding area
@@ -58,7 +58,7 @@ area-at codes at h =
     ap area e
 
 names-end : (codes : List ℕ) (at : ℕ) → length codes ≤ at → namesFrom codes at ≡ []
-names-end codes at h = ap (λ (cs : List ℕ). map nameOf (map cellOf cs)) (drop-of-length-le codes h)
+names-end codes at h = ap (λ (cs : List ℕ). map numbersOf (map cellOf cs)) (drop-of-length-le codes h)
 
 pub start-named : (w : Name) → IsName 6 15 w → codeOf (cellNamed w) / 16 ≡ startOf (cellNamed w)
 start-named w n = let v = named-cell w n in omega (arith, v .fine, start-code (cellNamed w) v)
@@ -72,7 +72,7 @@ unfolding cellNamed
 resolution-named [] n = absurd n
 resolution-named (x ∷ q) n = refl
 
-resolution-in : (w : Name) (x : ℕ) → IsName 6 15 w → isCode x ≡ true → w ≡ nameOf (cellOf x) → length w ≡ suc (x % 16)
+resolution-in : (w : Name) (x : ℕ) → IsName 6 15 w → isCode x ≡ true → w ≡ numbersOf (cellOf x) → length w ≡ suc (x % 16)
 unfolding cellOf
 resolution-in w x n t e =
     let f : cellNamed w ≡ cellOf x = ap cellNamed e ∙ cell-named (cellOf x) (code-is-cell x t) in
@@ -87,7 +87,7 @@ module _ (w : Name) (x k : ℕ) (n : IsName 6 15 w) (t : isCode x ≡ true) (d :
       let e : 15 - cellNamed w .resolution ≡ k = omega (arith, resolution-named w n) in
       ap (λ (j : ℕ). startOf (cellNamed w) + 9 ^ j) e
 
-  pub test-in : Since w (nameOf (cellOf x)) → x / 16 < codeOf (cellNamed w) / 16 + 9 ^ k → Prefix w (nameOf (cellOf x))
+  pub test-in : Since w (numbersOf (cellOf x)) → x / 16 < codeOf (cellNamed w) / 16 + 9 ^ k → Prefix w (numbersOf (cellOf x))
   test-in s l =
       ⊎-elim (λ h. h)
       (λ h. absurd
@@ -96,7 +96,7 @@ module _ (w : Name) (x k : ℕ) (n : IsName 6 15 w) (t : isCode x ≡ true) (d :
       omega (arith, end-named, start-at x t, start-named w n)))
       s
 
-  pub test-out : Since w (nameOf (cellOf x)) → (x / 16 < codeOf (cellNamed w) / 16 + 9 ^ k → ⊥) → Ahead w (nameOf (cellOf x))
+  pub test-out : Since w (numbersOf (cellOf x)) → (x / 16 < codeOf (cellNamed w) / 16 + 9 ^ k → ⊥) → Ahead w (numbersOf (cellOf x))
   unfolding endOf
   test-out s l =
       ⊎-elim
@@ -116,7 +116,7 @@ module _ (codes : List ℕ) (at : ℕ) (w : Name) (cell size k : ℕ) (s : NodeA
   first-code = code-at codes at (s .coded) h
 
   -- of a cell that is among the codes
-  self : w ≡ nameOf (cellOf (getD codes at 0)) → NodeTakes codes at w k (at + 1) 1 1
+  self : w ≡ numbersOf (cellOf (getD codes at 0)) → NodeTakes codes at w k (at + 1) 1 1
   self e =
       let f : namesFrom codes at ≡ w ∷ namesFrom codes (at + 1) = names-at codes at h ∙ ap (λ (q : Name). q ∷ namesFrom codes (at + 1)) (sym e) in
       let r : 15 - getD codes at 0 % 16 ≡ k = omega (arith, resolution-in w (getD codes at 0) (s .named) first-code e, s .depth) in
@@ -130,8 +130,8 @@ module _ (codes : List ℕ) (at : ℕ) (w : Name) (cell size k : ℕ) (s : NodeA
 
   pub node-finest : size < 9 → NodeTakes codes at w k (at + 1) 1 1
   node-finest l =
-      self (prefix-same w (nameOf (cellOf (getD codes at 0))) (s .inside)
-      (omega (arith, length-name (nameOf (cellOf (getD codes at 0))) (cell-is-named _ (code-is-cell (getD codes at 0) first-code)), zero-depth k (s .sized) l, s .depth)))
+      self (prefix-same w (numbersOf (cellOf (getD codes at 0))) (s .inside)
+      (omega (arith, length-name (numbersOf (cellOf (getD codes at 0))) (cell-is-named _ (code-is-cell (getD codes at 0) first-code)), zero-depth k (s .sized) l, s .depth)))
     where
       zero-depth : (j : ℕ) → size ≡ 9 ^ j → size < 9 → j ≡ 0
       zero-depth zero e l = refl
@@ -140,20 +140,20 @@ module _ (codes : List ℕ) (at : ℕ) (w : Name) (cell size k : ℕ) (s : NodeA
   pub node-exact : getD codes at 0 ≡ cell → NodeTakes codes at w k (at + 1) 1 1
   node-exact e =
       let f : cellOf (getD codes at 0) ≡ cellNamed w = ap cellOf (e ∙ sym (s .code)) ∙ cell-code (cellNamed w) (named-cell w (s .named)) in
-      self (sym (name-named w (s .named)) ∙ ap nameOf (sym f))
+      self (sym (name-named w (s .named)) ∙ ap numbersOf (sym f))
 
   -- of one that is not
-  other : (getD codes at 0 ≡ cell → ⊥) → Prefix (nameOf (cellOf (getD codes at 0))) w → ⊥
+  other : (getD codes at 0 ≡ cell → ⊥) → Prefix (numbersOf (cellOf (getD codes at 0))) w → ⊥
   other n p =
       let x : ℕ = getD codes at 0 in
-      let e : w ≡ nameOf (cellOf x) = prefix-both w (nameOf (cellOf x)) (s .inside) p in
+      let e : w ≡ numbersOf (cellOf x) = prefix-both w (numbersOf (cellOf x)) (s .inside) p in
       let f : cellNamed w ≡ cellOf x = ap cellNamed e ∙ cell-named (cellOf x) (code-is-cell x first-code) in
       n (sym (code-cell x first-code) ∙ ap codeOf (sym f) ∙ s .code)
 
 -- ---- the children of a cell, one after the other
 
-child-name : (x : Cell) (d : ℕ) → d ≤ 8 → nameOf (childOf x d) ≡ nameOf x ++ (d ∷ [])
-unfolding nameOf childOf digitsOf
+child-name : (x : Cell) (d : ℕ) → d ≤ 8 → numbersOf (childOf x d) ≡ numbersOf x ++ (d ∷ [])
+unfolding numbersOf childOf digitsOf
 child-name x d h =
     let i : (3 * x .row + d / 3) / 3 ≡ x .row = omega arith in
     let j : (3 * x .column + d % 3) / 3 ≡ x .column = omega arith in
@@ -167,13 +167,13 @@ module _ (w : Name) (k d : ℕ) (n : IsName 6 15 w) (l : length w + suc k ≡ 16
   child-named : cellNamed (w ++ (d ∷ [])) ≡ childOf (cellNamed w) d
   child-named =
       let v = child-is-cell (cellNamed w) d (named-cell w n) coarse (omega arith) in
-      let e : nameOf (childOf (cellNamed w) d) ≡ w ++ (d ∷ []) = child-name (cellNamed w) d (omega arith) ∙ ap (λ (q : Name). q ++ (d ∷ [])) (name-named w n) in
+      let e : numbersOf (childOf (cellNamed w) d) ≡ w ++ (d ∷ []) = child-name (cellNamed w) d (omega arith) ∙ ap (λ (q : Name). q ++ (d ∷ [])) (name-named w n) in
       ap cellNamed (sym e) ∙ cell-named (childOf (cellNamed w) d) v
 
   child-is-named : IsName 6 15 (w ++ (d ∷ []))
   child-is-named =
       let v = child-is-cell (cellNamed w) d (named-cell w n) coarse (omega arith) in
-      let e : nameOf (childOf (cellNamed w) d) ≡ w ++ (d ∷ []) = child-name (cellNamed w) d (omega arith) ∙ ap (λ (q : Name). q ++ (d ∷ [])) (name-named w n) in
+      let e : numbersOf (childOf (cellNamed w) d) ≡ w ++ (d ∷ []) = child-name (cellNamed w) d (omega arith) ∙ ap (λ (q : Name). q ++ (d ∷ [])) (name-named w n) in
       rw e at (cell-is-named (childOf (cellNamed w) d) v)
 
   child-code : codeOf (cellNamed (w ++ (d ∷ []))) ≡ codeOf (cellNamed w) + 1 + d * (16 * 9 ^ k)
@@ -197,7 +197,7 @@ module _
     ninth = omega (arith, s .sized, pow-suc 9 k)
 
     first : Name
-    first = nameOf (cellOf (getD codes at 0))
+    first = numbersOf (cellOf (getD codes at 0))
 
     -- the list of such a cell
     pub node-list : ListAt codes at w 0 9 (cell + 1) (size / 9) k
@@ -313,7 +313,7 @@ module _ (codes : List ℕ) (at : ℕ) (w : Name) (c left cell size k : ℕ) (s 
         depth = s .depth;
       }
 
-  since-first-code : (h : at < length codes) → Since (w ++ (c ∷ [])) (nameOf (cellOf (getD codes at 0)))
+  since-first-code : (h : at < length codes) → Since (w ++ (c ∷ [])) (numbersOf (cellOf (getD codes at 0)))
   since-first-code h = (rw (names-at codes at h) at (s .standing)) .since .0
 
   -- the first cell has the code at hand inside: its node, and then the rest
@@ -358,7 +358,7 @@ module _ (codes : List ℕ) (at : ℕ) (w : Name) (c left cell size k : ℕ) (s 
       (λ h.
       let f = names-at codes at h in
       rw f
-      (all-ahead (w ++ (c ∷ [])) (nameOf (cellOf (getD codes at 0))) (namesFrom codes (at + 1)) (rw f at (s .standing))
+      (all-ahead (w ++ (c ∷ [])) (numbersOf (cellOf (getD codes at 0))) (namesFrom codes (at + 1)) (rw f at (s .standing))
       (test-out (w ++ (c ∷ [])) (getD codes at 0) k named-first (code-at codes at (s .coded) h) depth-first (since-first-code h)
       (λ l. n h (rw (code-first, ← s .sized) at l)))))
       (λ h. rw (names-end codes at h) tt)

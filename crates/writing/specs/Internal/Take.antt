@@ -1,9 +1,9 @@
--- Names in rising order, taken in turn by the cells of a tree: the names inside a cell stand together, and those behind it come after. Assumes nothing.
+-- AreNames in rising order, taken in turn by the cells of a tree: the names inside a cell stand together, and those behind it come after. Assumes nothing.
 use mathlib.Core.Path.{_≡_}
 use mathlib.Core.Logic.{_⊎_}
 use mathlib.Core.List.{List, [], _∷_, _++_}
 use Prim.Native.Nat.{ℕ, _+_}
-use Rattle.reading.specs.Prefix.{Name, Prefix, Ahead, AheadAll, Names, Rise}
+use Rattle.reading.specs.Prefix.{Name, Prefix, Ahead, AheadAll, AreNames, InOrder}
 use Rattle.reading.specs.Written.{tails}
 
 -- what follows the name w in the names that begin with it
@@ -21,8 +21,8 @@ Each F (q ∷ qs) = F q × Each F qs
 
 -- rising names that a cell w or later ones take
 pub record Standing (w : Name) (ss : List Name) : Type 0 where
-  pub named : Names 6 15 ss
-  pub rising : Rise ss
+  pub named : AreNames 6 15 ss
+  pub rising : InOrder ss
   pub since : Each (Since w) ss
 
 -- some names at the front, all inside w, were taken

@@ -12,7 +12,7 @@ use Rattle.logic.specs.Laws.Bools.{by-cond, clash}
 use Rattle.logic.specs.Laws.Order.{lt-or}
 use Rattle.ternary.specs.Digits.{Below}
 use Rattle.reading.specs.Reading.{Nodes, end, whole, listed, wholes}
-use Rattle.reading.specs.Prefix.{Name, Prefix, IsName, Names, Ahead, AheadAll, Rise}
+use Rattle.reading.specs.Prefix.{Name, Prefix, IsName, AreNames, Ahead, AheadAll, InOrder}
 use Rattle.reading.specs.Written.{tails, anyEnds, nodeOf, side}
 use Rattle.writing.specs.Internal.Take.{restsOf, Since, Each, Standing, Took}
 
@@ -107,11 +107,11 @@ each-append : (F : Name → Type 0) (a b : List Name) → Each F a → Each F b 
 each-append F [] b e f = f
 each-append F (q ∷ a) b e f = (e .0, each-append F a b (e .1) f)
 
-names-rest : (m r : ℕ) (a b : List Name) → Names m r (a ++ b) → Names m r b
+names-rest : (m r : ℕ) (a b : List Name) → AreNames m r (a ++ b) → AreNames m r b
 names-rest m r [] b n = n
 names-rest m r (q ∷ a) b n = names-rest m r a b (n .1)
 
-rise-rest : (a b : List Name) → Rise (a ++ b) → Rise b
+rise-rest : (a b : List Name) → InOrder (a ++ b) → InOrder b
 rise-rest [] b r = r
 rise-rest (q ∷ a) b r = rise-rest a b (r .1)
 
@@ -297,7 +297,7 @@ module _ (w q : Name) (qs : List Name) (s : Standing w (q ∷ qs)) (h : Prefix w
       rw (k .2) (some-node below c (k .0) (restsOf w qs) rest (rw (k .2) at e))
 
 -- past all nine children
-pub nine-past : (w : Name) (rest : List Name) → Names 6 15 rest → Each (Since (w ++ (9 ∷ []))) rest → Each (Ahead w) rest
+pub nine-past : (w : Name) (rest : List Name) → AreNames 6 15 rest → Each (Since (w ++ (9 ∷ []))) rest → Each (Ahead w) rest
 nine-past w [] n e = tt
 nine-past w ([] ∷ rest) n e = absurd (n .0)
 nine-past w ((x ∷ q) ∷ rest) n e = (past-nine w (x ∷ q) (omega (arith, n .0 .0), n .0 .2) (e .0), nine-past w rest (n .1) (e .1))

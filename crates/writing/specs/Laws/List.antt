@@ -19,7 +19,7 @@ use Rattle.code.specs.Inside.{Inside, Within, startOf, endOf}
 use Rattle.code.specs.Laws.Inside.{start-code, size-pos, inside-within, within-inside, nested-or-apart}
 use Rattle.reading.specs.Ground.{Cells, All, Rising, Apart}
 use Rattle.reading.specs.Laws.Rising.{code-before, apart-before}
-use Rattle.writing.specs.WriteEntry.{allCodes, lies, ordered, listRefusal}
+use Rattle.writing.specs.Write.{allCodes, lies, ordered, codesRefusal}
 
 -- ---- every code is a cell's
 
@@ -155,8 +155,8 @@ pub record GoodList (codes : List ℕ) : Type 0 where
   pub rising : Rising (map cellOf codes)
   pub apart : Apart (map cellOf codes)
 
-pub good-list : (codes : List ℕ) → listRefusal codes ≡ 0 → GoodList codes
-unfolding listRefusal
+pub good-list : (codes : List ℕ) → codesRefusal codes ≡ 0 → GoodList codes
+unfolding codesRefusal
 good-list codes e =
     let k = both (refuse (not (allCodes codes)) 4) (refuse (not (ordered codes)) 11) e in
     let a : allCodes codes ≡ true = not-false (allCodes codes) (allowed 3 _ (k .0)) in
@@ -164,14 +164,14 @@ good-list codes e =
     let r = in-turn-list (map cellOf codes) (codes-cells codes a) (ordered-in-turn codes a o) in
     record { coded = a; rising = r .0; apart = r .1 }
 
-pub list-good : (codes : List ℕ) → GoodList codes → listRefusal codes ≡ 0
-unfolding listRefusal _otherwise_
+pub list-good : (codes : List ℕ) → GoodList codes → codesRefusal codes ≡ 0
+unfolding codesRefusal _otherwise_
 list-good codes g =
     ap₂ (λ (a o : Bool). refuse (not a) 4 otherwise refuse (not o) 11) (g .coded) (list-ordered codes (g .coded) (g .rising) (g .apart))
 
 -- and the finest cells of each come before those of the next
-pub in-turn : (codes : List ℕ) → listRefusal codes ≡ 0 → InTurn (map cellOf codes)
-unfolding listRefusal
+pub in-turn : (codes : List ℕ) → codesRefusal codes ≡ 0 → InTurn (map cellOf codes)
+unfolding codesRefusal
 in-turn codes e =
     let k = both (refuse (not (allCodes codes)) 4) (refuse (not (ordered codes)) 11) e in
     ordered-in-turn codes (not-false (allCodes codes) (allowed 3 _ (k .0))) (not-false (ordered codes) (allowed 10 _ (k .1)))

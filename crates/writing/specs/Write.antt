@@ -35,9 +35,9 @@ ordered (c ∷ []) = true
 ordered (c ∷ x ∷ cs) = ltb c x && (not (lies (cellOf c) (cellOf x)) && ordered (x ∷ cs))
 
 -- 4: "a code is no cell's". 11: "list not strictly rising, or one cell inside another"
-unfoldable pub listRefusal : List ℕ → ℕ
+unfoldable pub codesRefusal : List ℕ → ℕ
 unfolding allCodes ordered
-listRefusal codes = refuse (not (allCodes codes)) 4 otherwise refuse (not (ordered codes)) 11
+codesRefusal codes = refuse (not (allCodes codes)) 4 otherwise refuse (not (ordered codes)) 11
 
 -- ---- the text and what is refused
 
@@ -46,10 +46,10 @@ textOf a codes = writtenText (a .north) (a .south) (map cellOf codes)
 
 -- 5, 4, 11; "13 is judged on the text of a good list"; 8: "lent buffer shorter than the answer"
 unfoldable pub writeRefusal : Arrangement → List ℕ → (room : ℕ) → ℕ
-unfolding listRefusal textOf
+unfolding codesRefusal textOf
 writeRefusal a codes room =
     arrangementRefusal a otherwise
-    listRefusal codes otherwise
+    codesRefusal codes otherwise
     refuse (ltb 65536 (length (textOf a codes))) 13 otherwise
     refuse (ltb room (length (textOf a codes))) 8
 
@@ -76,7 +76,7 @@ lengthIn (Refused r) = 0
 -- ---- N and N0; N0 and N; N0 twice; N0 and N1; 16 is no cell's code, and "4 anywhere in the list comes before 11"
 
 lists :
-    (listRefusal (0 ∷ 1 ∷ []) ≡ 11) × (listRefusal (1 ∷ 0 ∷ []) ≡ 11) × (listRefusal (1 ∷ 1 ∷ []) ≡ 11) ×
-    (listRefusal (1 ∷ 366028679279377 ∷ []) ≡ 0) × (listRefusal (1 ∷ 0 ∷ 16 ∷ []) ≡ 4)
-unfolding listRefusal _otherwise_ isCode lies startOf endOf cellOf pathOf digitsOf value rowIn columnIn sizeOf
+    (codesRefusal (0 ∷ 1 ∷ []) ≡ 11) × (codesRefusal (1 ∷ 0 ∷ []) ≡ 11) × (codesRefusal (1 ∷ 1 ∷ []) ≡ 11) ×
+    (codesRefusal (1 ∷ 366028679279377 ∷ []) ≡ 0) × (codesRefusal (1 ∷ 0 ∷ 16 ∷ []) ≡ 4)
+unfolding codesRefusal _otherwise_ isCode lies startOf endOf cellOf pathOf digitsOf value rowIn columnIn sizeOf
 lists = (refl, refl, refl, refl, refl)
