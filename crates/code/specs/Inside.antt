@@ -1,6 +1,6 @@
 -- Which cells lie inside which, and the finest cells of a cell (01 "Faces, rows, names, codes" and "The coverage text"). Assumes nothing.
 use mathlib.Core.Path.{_≡_}
-use Prim.Native.Nat.{ℕ, _+_, _-_, _*_, _/_, _^_, _≤_, _<_}
+use Prim.Native.Nat.{ℕ, _+_, _-_, _*_, _/_, _^_, _≤_}
 use Rattle.cell.specs.declared.Cell.{Cell}
 use Rattle.code.specs.Code.{pathOf, sizeOf}
 

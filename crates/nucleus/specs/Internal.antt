@@ -9,4 +9,5 @@ pub mod PlaceLaws
 pub mod RuleLaws
 pub mod SentLaws
 pub mod StartLaws
+pub mod Triangle
 pub mod TriangleLaws

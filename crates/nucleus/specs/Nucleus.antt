@@ -1,6 +1,6 @@
 -- The ground nucleus (01 "From a fix to a cell"): "the real longitude and z that these rules, taken over real numbers, send to the nucleus, each
 -- then floored to a whole unit". Both are fractions: the longitude lies e/d units east of -1,800,000,000, and z is u/v. Assumes nothing.
-use mathlib.Core.Path.{_≡_, refl}
+use mathlib.Core.Path.{_≡_}
 use mathlib.Core.Bool.{Bool, _&&_, cond}
 use Prim.Native.Nat.{ℕ, _+_, _-_, _*_, _/_, _%_, _^_, _≤_, _<_}
 use lib.IntN.{ℤ, pos, negsuc, negℤ, natAbs, subℕ, _+ℤ_, _-ℤ_, _*ℤ_}
@@ -144,16 +144,3 @@ groundNucleus a c =
     (northNucleus (a .north) (rows c) (middleOf (rows c) (c .row) (c .column)))
     (λ b. fix (beltLongitude (rows c) b (c .column)) (beltZ (rows c) (c .row)))
     (southNucleus (a .south) (rows c) (middleOf (rows c) (c .row) (c .column)))
-
--- ---- two cells, (n, s) = (0, 0): N7, and S1, whose z is rounded away from 0
-
-plain : Arrangement
-plain = record { north = 0; south = 0 }
-
-n7 : groundNucleus plain (record { face = 0; resolution = 1; row = 2; column = 1 }) ≡ fix (negℤ (pos 1350000000)) (pos 851851851851851851)
-unfolding groundNucleus plain turnedNorth turnedSouth
-n7 = refl
-
-s1 : groundNucleus plain (record { face = 5; resolution = 1; row = 0; column = 1 }) ≡ fix (negℤ (pos 1350000000)) (negℤ (pos 851851851851851852))
-unfolding groundNucleus plain turnedNorth turnedSouth
-s1 = refl

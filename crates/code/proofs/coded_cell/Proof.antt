@@ -1,5 +1,5 @@
 -- `code::coded_cell` meets its contract. Assumes nothing.
-use mathlib.Core.Path.{_≡_, sym, ap, _∙_}
+use mathlib.Core.Path.{sym, _∙_}
 use borrow.Author.Needs.{needs}
 use Rattle.cell.specs.Laws.Cell.{is-cell}
 use Rattle.code.proofs.Laws.{refused, answered}

@@ -21,7 +21,7 @@ use Rattle.cell.specs.Neighbour.{turnOf}
 use Rattle.root.specs.Floor.{square, atMost, rootFloor}
 use Rattle.root.specs.Laws.Square.{plus-under, plus-not, minus-is, minus-over}
 use Rattle.root.specs.Laws.Floor.{floor-one, floor-below, floor-third'}
-use Rattle.locate.specs.Fix.{CapPoint, quarter, inRange, isBelt, eastOf, offsetOf, heightOf, startNorth, startSouth, turnedNorth, turnedSouth, beltCell, capCell, northCell, southCell, fixCell, fixRefusal}
+use Rattle.locate.specs.Fix.{Agree, CapPoint, quarter, inRange, isBelt, eastOf, offsetOf, heightOf, startNorth, startSouth, turnedNorth, turnedSouth, beltCell, capCell, northCell, southCell, fixCell, fixRefusal}
 use Rattle.locate.specs.Laws.Part.{part-lt, part-third}
 use Rattle.locate.specs.Internal.RangeLaws.{east-small, offset-small, height-small}
 use Rattle.locate.specs.Laws.Turn.{Spanned, opposite-le, north-within, south-within, start-north, start-south}
@@ -143,12 +143,6 @@ parent-agrees a k L z = go (isBelt z) (ltZ z (pos 0)) refl refl
         ap parentOf (fix-north a (k + 1) L z e f)
         ∙ cap-parent 0 k (heightOf z) _ (height-small z e) (north-point (a .north) (eastOf L))
         ∙ sym (fix-north a k L z e f)
-
--- so at any two resolutions: x is of c's face, and the first digits of its row and of its column are c's
-pub record Agree (c x : Cell) (j : ℕ) : Type 0 where
-  pub face : x .face ≡ c .face
-  pub row : x .row / 3 ^ j ≡ c .row
-  pub column : x .column / 3 ^ j ≡ c .column
 
 one-digit : (n j : ℕ) → n / 3 ^ (j + 1) ≡ n / 3 / 3 ^ j
 one-digit n j = ap (λ (x : ℕ). n / x) (next-power j ∙ mul-comm (3 ^ j) 3) ∙ sym (div-div-eq-div-mul n 3 (3 ^ j))

@@ -35,4 +35,4 @@ returns c =
 pub put-name-spec : {M : Type 1} → statement M
 put-name-spec =
     tie.close
-    (tie.spec put-digits-requires add-name cast-name slice-write-name same-length returns)
+    (tie.spec put-digits-requires cast-name add-name slice-write-name same-length returns)

@@ -1,14 +1,14 @@
 -- Names and codes turn into each other without loss. Assumes nothing.
 use mathlib.Core.Path.{_≡_, refl, sym, ap, ap₂, _∙_}
-use mathlib.Core.Bool.{Bool, true, false, _&&_, not}
-use Prim.Native.Nat.{ℕ, zero, suc, _+_, _-_, _*_, _^_, _≤_, _<_}
-use mathlib.Core.List.{List, [], _∷_, _++_, map}
+use mathlib.Core.Bool.{true, false, _&&_}
+use Prim.Native.Nat.{ℕ, suc, _+_, _-_, _^_, _≤_, _<_}
+use mathlib.Core.List.{List, [], _∷_, map}
 use native.Mathlib.Omega.{arith}
 use lib.Dec.{leb, ltb}
 use lib.ListN.{length, drop, getD, length-map}
 use borrow.Author.Tests.{le-leb, le-ltb, leb-true, ltb-false, not-false}
 use Rattle.logic.specs.Laws.Bools.{and-left, and-right, clash}
-use Rattle.logic.specs.Refusal.{refuse, _otherwise_}
+use Rattle.logic.specs.Refusal.{_otherwise_}
 use Rattle.logic.specs.Laws.Refusal.{both, allowed}
 use Rattle.ternary.specs.Digits.{value, digits, Below}
 use Rattle.ternary.specs.Laws.Digits.{value-below, digits-value}
@@ -16,7 +16,7 @@ use Rattle.cell.specs.declared.Cell.{Cell}
 use Rattle.cell.specs.Cell.{IsCell}
 use Rattle.code.specs.Code.{digitsOf, codeAt, codeOf, pathOf, cellOf, pathIn, isCode}
 use Rattle.code.specs.Laws.Code.{made-face, made-resolution, code-path, is-code, cell-digits, length-digits-of, digits-of-below}
-use Rattle.name.specs.Name.{digitBytes, nameOf, firstLetter, isDigit, allDigits, nameRefusal, digitsIn, nameCode}
+use Rattle.name.specs.Name.{NameForm, digitBytes, nameOf, firstLetter, isDigit, allDigits, nameRefusal, digitsIn, nameCode}
 
 pub length-name : (c : Cell) → length (nameOf c) ≡ c .resolution + 1
 unfolding nameOf
@@ -80,12 +80,7 @@ name-code c =
 
 -- ---- an accepted name is the name of its code's cell
 
-pub record Accepted (bs : List ℕ) : Type 0 where
-  pub short : length bs ≤ 16
-  pub lettered : firstLetter bs ≡ true
-  pub digital : allDigits (drop 1 bs) ≡ true
-
-pub accepted : (bs : List ℕ) → nameRefusal bs ≡ 0 → Accepted bs
+pub accepted : (bs : List ℕ) → nameRefusal bs ≡ 0 → NameForm bs
 unfolding nameRefusal
 accepted bs e =
     let p = both _ _ e in
@@ -96,7 +91,7 @@ accepted bs e =
       digital = not-false (allDigits (drop 1 bs)) (allowed 2 _ (q .1));
     }
 
-pub not-refused : (bs : List ℕ) → Accepted bs → nameRefusal bs ≡ 0
+pub not-refused : (bs : List ℕ) → NameForm bs → nameRefusal bs ≡ 0
 unfolding nameRefusal _otherwise_
 not-refused bs a = simp (le-ltb 16 (length bs) (a .short), a .lettered, a .digital)
 
@@ -106,7 +101,7 @@ unfolding firstLetter
 letter-bounds [] e = clash (sym e)
 letter-bounds (b ∷ bs) e = (omega arith, leb-true 78 b (and-left _ _ e), leb-true b 83 (and-right (leb 78 b) _ e))
 
-pub path-below : (bs : List ℕ) → Accepted bs → value 9 (digitsIn bs) < 9 ^ (length bs - 1)
+pub path-below : (bs : List ℕ) → NameForm bs → value 9 (digitsIn bs) < 9 ^ (length bs - 1)
 path-below [] a = clash (letterless (a .lettered))
   where
     letterless : firstLetter [] ≡ true → true ≡ false
@@ -115,13 +110,13 @@ path-below (b ∷ bs) a =
     let n : length (map (λ (x : ℕ). x - 48) bs) ≡ suc (length bs) - 1 = length-map bs (λ (x : ℕ). x - 48) ∙ omega arith in
     rw n at (value-below 9 (map (λ x. x - 48) bs) (digits-below-nine bs (a .digital)))
 
-pub name-code-is : (bs : List ℕ) → Accepted bs → isCode (nameCode bs) ≡ true
+pub name-code-is : (bs : List ℕ) → NameForm bs → isCode (nameCode bs) ≡ true
 unfolding nameCode
 name-code-is bs a =
     let l = letter-bounds bs (a .lettered) in
     is-code (getD bs 0 0 - 78) (length bs - 1) (value 9 (digitsIn bs)) (omega arith) (omega (arith, a .short)) (path-below bs a)
 
-pub code-name : (bs : List ℕ) → Accepted bs → nameOf (cellOf (nameCode bs)) ≡ bs
+pub code-name : (bs : List ℕ) → NameForm bs → nameOf (cellOf (nameCode bs)) ≡ bs
 unfolding nameCode
 code-name [] a = absurd (let h = letter-bounds [] (a .lettered) in omega arith)
 code-name (b ∷ bs) a =

@@ -9,7 +9,7 @@ use borrow.Author.Needs.{needs}
 use Rattle.signed.specs.Laws.Sign.{back-as}
 use Rattle.locate.specs.Fix.{CapPoint}
 use Rattle.nucleus.specs.Nucleus.{fix, centred, capLongitude, northZ, southZ, northNucleus, southNucleus}
-use Rattle.nucleus.specs.Internal.TriangleLaws.{middle, InFace, OffCentre, IsStart}
+use Rattle.nucleus.specs.Internal.Triangle.{middle, InFace, OffCentre, IsStart}
 use Rattle.nucleus.specs.Internal.StartLaws.{off-centre, north-is, south-is, north-pole, south-pole}
 use Rattle.nucleus.proofs.Laws.{finer-cap}
 use Rattle.nucleus.proofs.cap_nucleus.Statement.{statement}

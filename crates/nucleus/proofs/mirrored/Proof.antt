@@ -1,5 +1,4 @@
 -- `nucleus::mirrored` meets its contract. Assumes nothing.
-use native.Mathlib.Omega.{arith}
 use borrow.Author.Needs.{needs}
 use Rattle.nucleus.proofs.mirrored.Statement.{statement}
 use Rattle.nucleus.proofs.mirrored.Tie as tie

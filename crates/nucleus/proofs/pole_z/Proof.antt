@@ -1,5 +1,4 @@
 -- `nucleus::pole_z` meets its contract. Assumes nothing.
-use native.Mathlib.Omega.{arith}
 use borrow.Author.Needs.{needs}
 use Rattle.signed.specs.Laws.Sign.{back-as}
 use Rattle.nucleus.proofs.pole_z.Statement.{statement}

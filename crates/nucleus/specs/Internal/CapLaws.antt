@@ -21,7 +21,7 @@ use Rattle.nucleus.specs.Nucleus.{floorZ, capLongitude, northZ, southZ}
 use Rattle.nucleus.specs.Internal.FlooredLaws.{floor-at, floor-below, floor-plus, floor-minus}
 use Rattle.nucleus.specs.Internal.RuleLaws.{in-range, east-back, outside-is}
 use Rattle.nucleus.specs.Internal.BeltLaws.{Names}
-use Rattle.nucleus.specs.Internal.TriangleLaws.{middle, IsStart}
+use Rattle.nucleus.specs.Internal.Triangle.{middle, IsStart}
 use Rattle.nucleus.specs.Internal.StartLaws.{south-point}
 use Rattle.nucleus.specs.Internal.NearLaws.{Near, near-neg, near-north, near-south, hit, along-lt, near-along, near-half}
 

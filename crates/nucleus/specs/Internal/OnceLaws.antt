@@ -16,7 +16,7 @@ use Rattle.cell.specs.Neighbour.{belt, rows, turnOf}
 use Rattle.cell.specs.Laws.Turns.{face-of-turn}
 use Rattle.locate.specs.Fix.{CapPoint, quarter, turnedNorth, turnedSouth}
 use Rattle.nucleus.specs.Nucleus.{quotient, remainder, SentToBelt, SentToCap, northPoint, southPoint}
-use Rattle.nucleus.specs.Internal.TriangleLaws.{middle, IsStart}
+use Rattle.nucleus.specs.Internal.Triangle.{middle, IsStart}
 use Rattle.nucleus.specs.Internal.StartLaws.{mirror, mirror-south}
 use Rattle.nucleus.specs.Internal.SentLaws.{times, capEast, northRise, southRise}
 use Rattle.nucleus.specs.Internal.OneStartLaws.{centre-flat, one, height-is, along-is}

@@ -11,7 +11,7 @@ use Rattle.signed.specs.Laws.Sign.{pos-sub, neg-sub, sub-same, sub-neg}
 use Rattle.signed.specs.Laws.Times.{sub-cross, sub-times, times-neg}
 use Rattle.cell.specs.Laws.Turns.{four-cases}
 use Rattle.locate.specs.Fix.{CapPoint, quarter, turnedNorth}
-use Rattle.nucleus.specs.Internal.TriangleLaws.{middle, IsStart}
+use Rattle.nucleus.specs.Internal.Triangle.{middle, IsStart}
 use Rattle.nucleus.specs.Internal.SentLaws.{times, times-north, nothing}
 
 -- ---- a start, turned, lies in one triangle only

@@ -14,7 +14,8 @@ use Rattle.cell.specs.Neighbour.{byFace, belt, rows}
 use Rattle.cell.specs.Laws.Turns.{face-cases}
 use Rattle.nucleus.specs.declared.Fix.{Fix}
 use Rattle.nucleus.specs.Nucleus.{fix, capLongitude, northZ, southZ, beltLongitude, beltZ, northNucleus, southNucleus, groundNucleus}
-use Rattle.nucleus.specs.Internal.TriangleLaws.{middle, IsStart, start, centre-or}
+use Rattle.nucleus.specs.Internal.TriangleLaws.{start, centre-or}
+use Rattle.nucleus.specs.Internal.Triangle.{middle, IsStart}
 use Rattle.nucleus.specs.Internal.StartLaws.{centred-yes, north-is, south-is, north-pole, south-pole}
 
 -- one of three by a face of O to R

@@ -18,7 +18,7 @@ use Rattle.cell.specs.Neighbour.{belt, rows, turnOf}
 use Rattle.cell.specs.Laws.Turns.{turn-of-face}
 use Rattle.locate.specs.Fix.{CapPoint, quarter, turnedNorth, turnedSouth}
 use Rattle.nucleus.specs.Nucleus.{quotient, remainder, SentToBelt, SentToCap, northPoint, southPoint}
-use Rattle.nucleus.specs.Internal.TriangleLaws.{middle, IsStart}
+use Rattle.nucleus.specs.Internal.Triangle.{middle, IsStart}
 use Rattle.nucleus.specs.Internal.CapLaws.{room}
 use Rattle.nucleus.specs.Internal.StartLaws.{south-point}
 

@@ -13,7 +13,7 @@ use Rattle.locate.specs.Fix.{CapPoint, turnedNorth, turnedSouth}
 use Rattle.locate.specs.Laws.Turn.{opposite-size}
 use Rattle.nucleus.specs.declared.Fix.{Fix}
 use Rattle.nucleus.specs.Nucleus.{startsNorth, startsSouth, firstOf, turnsNorth, turnsSouth, tallOf, alongOf, centred, fix, capLongitude, northZ, southZ, northNucleus, southNucleus}
-use Rattle.nucleus.specs.Internal.TriangleLaws.{middle, OffCentre, IsStart}
+use Rattle.nucleus.specs.Internal.Triangle.{middle, OffCentre, IsStart}
 
 -- ---- turns undo each other
 

@@ -13,6 +13,7 @@ use Rattle.logic.specs.Laws.Order.{lt-or, three-ways}
 use Rattle.signed.specs.Laws.Sign.{pos-sub, neg-sub, sub-same, sub-neg, sub-le, sub-lt}
 use Rattle.locate.specs.Fix.{CapPoint, turnedNorth, turnedSouth}
 use Rattle.nucleus.specs.Nucleus.{startsNorth, turnsNorth}
+use Rattle.nucleus.specs.Internal.Triangle.{middle, InFace, OffCentre, IsStart}
 
 -- ---- a start's triangle, for differences of whole numbers
 
@@ -36,56 +37,32 @@ starts-high p q s t h = starts-is p q s t ∙ no (leb (s + q) (p + t)) (le-ltb (
 -- ---- the middle, turned back
 
 module _ (m a b : ℕ) where
-  abbrev pub middle : CapPoint
-  middle = (subℕ a m, subℕ m b)
-
-  once : turnedSouth 1 middle ≡ (subℕ m b, subℕ m a)
+  once : turnedSouth 1 (middle m a b) ≡ (subℕ m b, subℕ m a)
   unfolding turnedSouth
   once = λ i. (subℕ m b, sub-neg a m i)
 
-  twice : turnedSouth 2 middle ≡ (subℕ m a, subℕ b m)
+  twice : turnedSouth 2 (middle m a b) ≡ (subℕ m a, subℕ b m)
   unfolding turnedSouth
   twice = λ i. (sub-neg a m i, sub-neg m b i)
 
   -- the first turn that reaches a start's triangle
-  turns-0 : startsNorth middle ≡ true → turnsNorth middle ≡ 0
+  turns-0 : startsNorth (middle m a b) ≡ true → turnsNorth (middle m a b) ≡ 0
   unfolding turnsNorth turnedSouth
   turns-0 e = rw e
 
-  turns-1 : startsNorth middle ≡ false → startsNorth (subℕ m b, subℕ m a) ≡ true → turnsNorth middle ≡ 1
+  turns-1 : startsNorth (middle m a b) ≡ false → startsNorth (subℕ m b, subℕ m a) ≡ true → turnsNorth (middle m a b) ≡ 1
   unfolding turnsNorth turnedSouth
   turns-1 e f = rw (e, ap startsNorth once ∙ f)
 
-  turns-2 : startsNorth middle ≡ false → startsNorth (subℕ m b, subℕ m a) ≡ false → startsNorth (subℕ m a, subℕ b m) ≡ true → turnsNorth middle ≡ 2
+  turns-2 : startsNorth (middle m a b) ≡ false → startsNorth (subℕ m b, subℕ m a) ≡ false → startsNorth (subℕ m a, subℕ b m) ≡ true → turnsNorth (middle m a b) ≡ 2
   unfolding turnsNorth turnedSouth
   turns-2 e f g = rw (e, ap startsNorth once ∙ f, ap startsNorth twice ∙ g)
 
-  turns-3 : startsNorth middle ≡ false → startsNorth (subℕ m b, subℕ m a) ≡ false → startsNorth (subℕ m a, subℕ b m) ≡ false → turnsNorth middle ≡ 3
+  turns-3 : startsNorth (middle m a b) ≡ false → startsNorth (subℕ m b, subℕ m a) ≡ false → startsNorth (subℕ m a, subℕ b m) ≡ false → turnsNorth (middle m a b) ≡ 3
   unfolding turnsNorth turnedSouth
   turns-3 e f g = rw (e, ap startsNorth once ∙ f, ap startsNorth twice ∙ g)
 
 -- ---- the start of a middle that is not the centre
-
--- a middle lies inside the face
-pub record InFace (m a b : ℕ) : Type 0 where
-  pub small : m < 2 ^ 24
-  pub left : 0 < a
-  pub right : a < 2 * m
-  pub top : 0 < b
-  pub bottom : b < 2 * m
-
--- and not at its centre
-abbrev pub OffCentre : (m a b : ℕ) → Type 0
-OffCentre m a b = a ≡ m → b ≡ m → ⊥
-
-pub record IsStart (m a b turn height along : ℕ) : Type 0 where
-  pub apart : OffCentre m a b
-  pub few : turn < 4
-  pub tall : 0 < height
-  pub low : height < m
-  pub within : along < 2 * height
-  pub turns : turnsNorth (middle m a b) ≡ turn
-  pub point : turnedNorth turn (subℕ along height, negℤ (pos height)) ≡ middle m a b
 
 -- the two numbers of a start, each as it is or as its opposite
 module _ (e h : ℕ) where

@@ -15,7 +15,7 @@ use Rattle.cell.specs.Neighbour.{byFace, belt, rows}
 use Rattle.locate.specs.Fix.{quarter, inRange, fixCell}
 use Rattle.nucleus.specs.declared.Fix.{Fix}
 use Rattle.nucleus.specs.Nucleus.{Sent, SentToBelt, SentToCap, northPoint, southPoint, floorZ, fix, capLongitude, northZ, southZ, beltLongitude, beltZ, groundNucleus}
-use Rattle.nucleus.specs.Internal.TriangleLaws.{IsStart}
+use Rattle.nucleus.specs.Internal.Triangle.{IsStart}
 use Rattle.nucleus.specs.Internal.PlaceLaws.{by-belt, on-north-pole, on-south-pole, by-place}
 use Rattle.nucleus.specs.Internal.BeltLaws.{Names, belt-again}
 use Rattle.nucleus.specs.Internal.CapLaws.{north-again, south-again, north-pole-again, south-pole-again}

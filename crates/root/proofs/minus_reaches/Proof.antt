@@ -30,7 +30,7 @@ returns-2 : tie.Need-returns-2
 returns-2 c =
     let a = c .before .before .before .before .args in
     c .at-most .ensures ∙ ap₂ leb (c .before .before .reach .ensures) (c .before .edge .ensures)
-    ∙ minus-second (a .m) (a .t) (a .g) (a .w) (c .before .before .before .if1 .left)
+    ∙ minus-second (a .m) (a .radicand) (a .g) (a .w) (c .before .before .before .if1 .left)
 
 pub minus-reaches-spec : {M : Type 1} → statement M
 minus-reaches-spec =

@@ -33,7 +33,7 @@ returns-2 : tie.Need-returns-2
 returns-2 c =
     let a = c .before .before .before .before .args in
     c .at-most .ensures ∙ ap₂ leb (c .before .before .edge .ensures) (c .before .reach .ensures)
-    ∙ plus-second (a .m) (a .t) (a .g) (a .w) (c .before .before .before .if1 .left)
+    ∙ plus-second (a .m) (a .radicand) (a .g) (a .w) (c .before .before .before .if1 .left)
 
 pub plus-reaches-spec : {M : Type 1} → statement M
 plus-reaches-spec =

@@ -3,7 +3,7 @@
 use mathlib.Core.Bool.{Bool, cond}
 use Prim.Native.Nat.{ℕ, _+_, _-_, _*_, _/_}
 
--- With root ≤ √t < root + 1 and a part of size g, the value times 1,800,000,000,000,000,000 / m is at least the first of these and at most the second
+-- With root ≤ √radicand < root + 1 and a part of size g, the value times 1,800,000,000,000,000,000 / m is at least the first of these and at most the second
 abbrev pub lowPart : (minus : Bool) (g root : ℕ) → ℕ
 lowPart minus g root = cond minus (900000000000000000 - g * (root + 1)) (900000000000000000 + g * root)
 

@@ -23,19 +23,19 @@ square-lt {x} {y} h = lt-of-le-of-lt (mul-le-mul-left x (le-of-lt h)) (mul-lt-mu
 pub square-mul : (x y : ℕ) → square (x * y) ≡ square x * square y
 square-mul x y = mul-mul-mul-comm x y x y
 
--- x at most y r, with r r at most t: the square of x is at most y y t
-pub under-root : {x : ℕ} (y r t : ℕ) → x ≤ y * r → square r ≤ t → square x ≤ square y * t
-under-root y r t h l = le-trans (square-le h) (le-trans (le-of-eq (square-mul y r)) (mul-le-mul-left (square y) l))
+-- x at most y r, with r r at most radicand: the square of x is at most y y radicand
+pub under-root : {x : ℕ} (y r radicand : ℕ) → x ≤ y * r → square r ≤ radicand → square x ≤ square y * radicand
+under-root y r radicand h l = le-trans (square-le h) (le-trans (le-of-eq (square-mul y r)) (mul-le-mul-left (square y) l))
 
-pub under-root-lt : {x : ℕ} (y r t : ℕ) → x < y * r → square r ≤ t → square x < square y * t
-under-root-lt y r t h l = lt-of-lt-of-le (square-lt h) (le-trans (le-of-eq (square-mul y r)) (mul-le-mul-left (square y) l))
+pub under-root-lt : {x : ℕ} (y r radicand : ℕ) → x < y * r → square r ≤ radicand → square x < square y * radicand
+under-root-lt y r radicand h l = lt-of-lt-of-le (square-lt h) (le-trans (le-of-eq (square-mul y r)) (mul-le-mul-left (square y) l))
 
--- x at least y r, with r r at least t
-pub over-root : {x : ℕ} (y r t : ℕ) → y * r ≤ x → t ≤ square r → square y * t ≤ square x
-over-root y r t h l = le-trans (mul-le-mul-left (square y) l) (le-trans (le-of-eq (sym (square-mul y r))) (square-le h))
+-- x at least y r, with r r at least radicand
+pub over-root : {x : ℕ} (y r radicand : ℕ) → y * r ≤ x → radicand ≤ square r → square y * radicand ≤ square x
+over-root y r radicand h l = le-trans (mul-le-mul-left (square y) l) (le-trans (le-of-eq (sym (square-mul y r))) (square-le h))
 
-pub over-root-lt : {x : ℕ} (y r t : ℕ) → y * r < x → t ≤ square r → square y * t < square x
-over-root-lt y r t h l = lt-of-le-of-lt (mul-le-mul-left (square y) l) (lt-of-le-of-lt (le-of-eq (sym (square-mul y r))) (square-lt h))
+pub over-root-lt : {x : ℕ} (y r radicand : ℕ) → y * r < x → radicand ≤ square r → square y * radicand < square x
+over-root-lt y r radicand h l = lt-of-le-of-lt (mul-le-mul-left (square y) l) (lt-of-le-of-lt (le-of-eq (sym (square-mul y r))) (square-lt h))
 
 -- ---- the tests
 
@@ -47,52 +47,52 @@ and-no : (a b : Bool) → b ≡ false → (a && b) ≡ false
 and-no true b e = e
 and-no false b e = refl
 
-module _ (m t g : ℕ) where
-  pub plus-under : (w : ℕ) → 2 * w ≤ m → plusAt m t g w ≡ true
+module _ (m radicand g : ℕ) where
+  pub plus-under : (w : ℕ) → 2 * w ≤ m → plusAt m radicand g w ≡ true
   unfolding plusAt
   plus-under w h = rw (le-leb (2 * w) m h)
 
-  pub plus-square : (w : ℕ) → square (900000000000000000 * (2 * w - m)) ≤ square (m * g) * t → plusAt m t g w ≡ true
+  pub plus-square : (w : ℕ) → square (900000000000000000 * (2 * w - m)) ≤ square (m * g) * radicand → plusAt m radicand g w ≡ true
   unfolding plusAt
   plus-square w h = or-yes (leb (2 * w) m) _ (le-leb _ _ h)
 
-  pub plus-not : (w : ℕ) → m < 2 * w → square (m * g) * t < square (900000000000000000 * (2 * w - m)) → plusAt m t g w ≡ false
+  pub plus-not : (w : ℕ) → m < 2 * w → square (m * g) * radicand < square (900000000000000000 * (2 * w - m)) → plusAt m radicand g w ≡ false
   unfolding plusAt
   plus-not w h l = rw (lt-leb (2 * w) m h) (lt-leb _ _ l)
 
   -- above the middle the squares decide
-  pub plus-second : (w : ℕ) → m < 2 * w → leb (square (900000000000000000 * (2 * w - m))) (square (m * g) * t) ≡ plusAt m t g w
+  pub plus-second : (w : ℕ) → m < 2 * w → leb (square (900000000000000000 * (2 * w - m))) (square (m * g) * radicand) ≡ plusAt m radicand g w
   unfolding plusAt
   plus-second w h = rw (lt-leb (2 * w) m h)
 
   -- what is at most the value stays so further down
-  pub plus-down : (i j : ℕ) → i ≤ j → plusAt m t g j ≡ true → plusAt m t g i ≡ true
+  pub plus-down : (i j : ℕ) → i ≤ j → plusAt m radicand g j ≡ true → plusAt m radicand g i ≡ true
   plus-down i j h e =
       ⊎-elim
       (λ l.
-      let s : square (900000000000000000 * (2 * j - m)) ≤ square (m * g) * t = leb-true _ _ (plus-second j (omega arith) ∙ e) in
+      let s : square (900000000000000000 * (2 * j - m)) ≤ square (m * g) * radicand = leb-true _ _ (plus-second j (omega arith) ∙ e) in
       plus-square i (le-trans (square-le (mul-le-mul-left 900000000000000000 (omega arith))) s))
       (λ l. plus-under i l)
       (lt-or m (2 * i))
 
-  pub minus-is : (w : ℕ) → 2 * w ≤ m → square (m * g) * t ≤ square (900000000000000000 * (m - 2 * w)) → minusAt m t g w ≡ true
+  pub minus-is : (w : ℕ) → 2 * w ≤ m → square (m * g) * radicand ≤ square (900000000000000000 * (m - 2 * w)) → minusAt m radicand g w ≡ true
   unfolding minusAt
   minus-is w h l = rw (le-leb (2 * w) m h) (le-leb _ _ l)
 
-  pub minus-over : (w : ℕ) → m < 2 * w → minusAt m t g w ≡ false
+  pub minus-over : (w : ℕ) → m < 2 * w → minusAt m radicand g w ≡ false
   unfolding minusAt
   minus-over w h = rw (lt-leb (2 * w) m h)
 
-  pub minus-not : (w : ℕ) → square (900000000000000000 * (m - 2 * w)) < square (m * g) * t → minusAt m t g w ≡ false
+  pub minus-not : (w : ℕ) → square (900000000000000000 * (m - 2 * w)) < square (m * g) * radicand → minusAt m radicand g w ≡ false
   unfolding minusAt
   minus-not w h = and-no (leb (2 * w) m) _ (lt-leb _ _ h)
 
   -- up to the middle the squares decide
-  pub minus-second : (w : ℕ) → 2 * w ≤ m → leb (square (m * g) * t) (square (900000000000000000 * (m - 2 * w))) ≡ minusAt m t g w
+  pub minus-second : (w : ℕ) → 2 * w ≤ m → leb (square (m * g) * radicand) (square (900000000000000000 * (m - 2 * w))) ≡ minusAt m radicand g w
   unfolding minusAt
   minus-second w h = rw (le-leb (2 * w) m h)
 
-  pub minus-down : (i j : ℕ) → i ≤ j → minusAt m t g j ≡ true → minusAt m t g i ≡ true
+  pub minus-down : (i j : ℕ) → i ≤ j → minusAt m radicand g j ≡ true → minusAt m radicand g i ≡ true
   unfolding minusAt
   minus-down i j h e =
       let l : 2 * j ≤ m = leb-true (2 * j) m (and-left _ _ e) in

@@ -2,7 +2,7 @@
 use mathlib.Core.Path.{_≡_, refl, sym, ap, ap₂, _∙_}
 use Prim.Native.Nat.{ℕ, zero, suc, _+_, _-_, _*_, _/_, _%_, _^_, _≤_, _<_}
 use mathlib.Core.List.{List, [], _∷_, _++_}
-use native.Mathlib.Nat.{pow-zero, pow-suc, mul-assoc, add-mul, mod-lt, div-add-mod', div-lt-iff-lt-mul, mul-le-mul-right, suc-mul, suc-inj, mul-comm, zero-mul, zero-add, add-assoc}
+use native.Mathlib.Nat.{pow-zero, pow-suc, mul-assoc, add-mul, mod-lt, div-add-mod', div-lt-iff-lt-mul, mul-le-mul-right, suc-mul, suc-inj, mul-comm, zero-mul}
 use native.Mathlib.Omega.{arith}
 use lib.ListN.{length, length-append}
 use Rattle.ternary.specs.Digits.{value, digits, Below}

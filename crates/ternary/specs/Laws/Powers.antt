@@ -1,8 +1,8 @@
 -- Laws of powers of three and of nine. Assumes nothing.
-use mathlib.Core.Path.{_≡_, sym, ap, _∙_}
-use Prim.Native.Nat.{ℕ, suc, _+_, _-_, _*_, _^_, _≤_, _<_}
+use mathlib.Core.Path.{_≡_, refl, sym, ap, ap₂, _∙_}
+use Prim.Native.Nat.{ℕ, zero, suc, _+_, _-_, _*_, _^_, _≤_, _<_}
 use native.Mathlib.Numerals.{add-one}
-use native.Mathlib.Nat.{pow-suc, one-le-pow, zero-lt-suc, pow-le-pow-right}
+use native.Mathlib.Nat.{pow-suc, mul-assoc, mul-comm, mul-left-comm, one-le-pow, zero-lt-suc, pow-le-pow-right}
 use native.Mathlib.Omega.{arith}
 use lib.Pow.{pow-add}
 
@@ -36,4 +36,15 @@ nine-lt i j h =
     let p : 9 ^ suc i ≤ 9 ^ j = nine-le {i = suc i} {j = j} h in
     let e : 9 ^ suc i ≡ 9 ^ i * 9 = pow-suc 9 i in
     let q : 0 < 9 ^ i = nine-pos i in
+    omega arith
+
+-- 9^i is the square of 3^i
+pub nine-square : (i : ℕ) → 9 ^ i ≡ 3 ^ i * 3 ^ i
+nine-square zero = refl
+nine-square (suc i) =
+    let a : 9 ^ suc i ≡ 9 ^ i * 9 = pow-suc 9 i in
+    let b : 3 ^ suc i ≡ 3 ^ i * 3 = pow-suc 3 i in
+    let e : 3 ^ i * 3 * (3 ^ i * 3) ≡ 3 ^ i * 3 ^ i * 3 * 3 = simp (mul-assoc, mul-comm, mul-left-comm) in
+    let d : 3 ^ suc i * 3 ^ suc i ≡ 3 ^ i * 3 * (3 ^ i * 3) = ap₂ _*_ b b in
+    let f = nine-square i in
     omega arith

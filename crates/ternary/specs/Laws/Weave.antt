@@ -1,6 +1,6 @@
 -- Weaving and taking apart are inverse to each other. Assumes nothing.
 use mathlib.Core.Path.{_≡_, refl, sym, ap, ap₂, _∙_}
-use Prim.Native.Nat.{ℕ, zero, suc, _+_, _-_, _*_, _/_, _%_, _^_, _≤_, _<_}
+use Prim.Native.Nat.{ℕ, zero, suc, _+_, _-_, _*_, _/_, _%_, _^_, _<_}
 use native.Mathlib.Nat.{pow-suc, div-one, div-eq-of-lt, div-add-mod', div-div-eq-div-mul, mul-assoc, mul-comm}
 use native.Mathlib.Omega.{arith}
 use Rattle.ternary.specs.Weave.{weave, rowIn, columnIn}
