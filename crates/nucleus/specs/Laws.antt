@@ -1,1 +1,2 @@
 pub mod Nucleus
+pub mod Seam

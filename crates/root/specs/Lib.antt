@@ -1,3 +1,4 @@
+pub mod Compared
 pub mod Floor
 pub mod Internal
 pub mod Laws
