@@ -2,7 +2,7 @@
 
 use super::codes::parts;
 use super::NINE;
-use crate::answers::{Ask, Check, List};
+use jeguarivo::{Ask, Check, List};
 
 pub const LONGEST: usize = 65_536;
 pub const HEADING: usize = 7;

@@ -1,8 +1,6 @@
 //! A tour of every entry, on examples of the scope paper. The tours in C and Python print the same lines.
 //! Each line begins with the entry's name, without jgv_. The arrangement (n, s) is (0, 0) where no other is said.
 
-mod jeguarivo;
-
 use jeguarivo::*;
 
 /// The name of a cell; 16 bytes are enough for any.

@@ -11,11 +11,11 @@ fn the_proved_library_is_linked() {
 /// Each entry on random, border, bad and long inputs.
 #[cfg(proved)]
 mod entries {
+    use jeguarivo::Length;
     use second::compare::{About, Refusing, Tally};
     use second::coverage::{self, accepts, whole_cells, written, RULES};
     use second::grid::Answer;
-    use second::proved::coverage as proved;
-    use second::proved::Length;
+    use second::proved::{coverage as proved, Like};
     use second::random::{Kind, Random, KINDS};
     use second::texts::{lent, lent_mut, Given};
 
@@ -93,7 +93,7 @@ mod entries {
                 }
             },
             about_text,
-            |given| coverage::check(lent(&given.bytes)).into(),
+            |given| Like::like(coverage::check(lent(&given.bytes))),
             |given| proved::check(lent(&given.bytes)),
         );
     }
@@ -118,7 +118,12 @@ mod entries {
                 }
             },
             about_text,
-            |given| coverage::list(lent(&given.bytes), lent_mut(&mut given.codes)).into(),
+            |given| {
+                Like::like(coverage::list(
+                    lent(&given.bytes),
+                    lent_mut(&mut given.codes),
+                ))
+            },
             |given| proved::list(lent(&given.bytes), lent_mut(&mut given.codes)),
         );
     }
@@ -152,7 +157,7 @@ mod entries {
             |given| {
                 let (codes, bytes) = (lent(&given.codes), lent_mut(&mut given.bytes));
                 let answer: Answer<u64> = coverage::write(given.n, given.s, codes, bytes);
-                Length::from(answer)
+                Length::like(answer)
             },
             |given| {
                 let (codes, bytes) = (lent(&given.codes), lent_mut(&mut given.bytes));
@@ -186,7 +191,14 @@ mod entries {
                 arrangement: Some((given.n, given.s)),
                 resolution: given.code % 16,
             },
-            |given| coverage::ask(given.n, given.s, lent(&given.bytes), given.code).into(),
+            |given| {
+                Like::like(coverage::ask(
+                    given.n,
+                    given.s,
+                    lent(&given.bytes),
+                    given.code,
+                ))
+            },
             |given| proved::ask(given.n, given.s, lent(&given.bytes), given.code),
         );
     }
@@ -195,9 +207,10 @@ mod entries {
 /// Every string of some bytes up to a length, after some beginnings, checked and listed.
 #[cfg(proved)]
 mod all_short_texts {
+    use jeguarivo::{Check, List};
     use second::compare::say;
     use second::coverage::{self, HEADING};
-    use second::proved::coverage as proved;
+    use second::proved::{coverage as proved, Like};
 
     /// Compares each text, and each with so many closing brackets behind it.
     fn same_after(beginning: &[u8], alphabet: &[u8], length: usize, closing: usize) -> [u64; 2] {
@@ -222,11 +235,11 @@ mod all_short_texts {
     }
 
     fn same(text: &[u8], counts: &mut [u64; 2]) {
-        let wanted = proved::Check::from(coverage::check(text));
+        let wanted = Check::like(coverage::check(text));
         assert_eq!(proved::check(text), wanted, "{}", text.escape_ascii());
         let (mut codes, mut wanted) = ([7; 9], [7; 9]);
         let listed = proved::list(text, &mut codes);
-        let by_second = proved::List::from(coverage::list(text, &mut wanted));
+        let by_second = List::like(coverage::list(text, &mut wanted));
         assert_eq!((listed, codes), (by_second, wanted));
         counts[0] += 1;
         counts[1] += u64::from([0, 8].contains(&listed.refusal));
@@ -241,7 +254,9 @@ mod all_short_texts {
     #[test]
     fn after_a_heading_up_to_eight_bytes() {
         let counts = same_after(b"", b"O08()", 8, 0);
-        say(&format!("all bodies of five bytes (all, accepted): {counts:?}"));
+        say(&format!(
+            "all bodies of five bytes (all, accepted): {counts:?}"
+        ));
     }
 
     #[test]
@@ -267,7 +282,7 @@ mod all_short_texts {
                 for byte in 0..=255 {
                     let mut text = text[..length].to_vec();
                     text[at] = byte;
-                    let wanted = proved::Check::from(coverage::check(&text));
+                    let wanted = Check::like(coverage::check(&text));
                     assert_eq!(proved::check(&text), wanted, "{}", text.escape_ascii());
                 }
             }
@@ -278,20 +293,20 @@ mod all_short_texts {
 /// The values that 01 and the readings print, from both programs.
 #[cfg(proved)]
 mod printed {
+    use jeguarivo::{Check, Length};
     use second::coverage::{self, HEADING, LONGEST};
     use second::grid::{code_of, finest_cells};
-    use second::proved::coverage as proved;
-    use second::proved::Length;
+    use second::proved::{coverage as proved, Like};
 
     /// Both programs check a text to this refusal, place, number of cells and sum of sizes.
     fn is(text: &[u8], refusal: u64, place: u64, cells: u64, size: u64) {
-        let wanted = proved::Check {
+        let wanted = Check {
             refusal,
             place,
             cells,
             size,
         };
-        assert_eq!(proved::Check::from(coverage::check(text)), wanted);
+        assert_eq!(Check::like(coverage::check(text)), wanted);
         assert_eq!(proved::check(text), wanted, "{}", text.escape_ascii());
     }
 
@@ -374,7 +389,7 @@ mod printed {
         for codes in [&many[..], &many[1..]] {
             let (mut lent, mut wanted) = ([9; 80], [9; 80]);
             let answer = proved::write(0, 0, codes, &mut lent);
-            let by_second = Length::from(coverage::write(0, 0, codes, &mut wanted));
+            let by_second = Length::like(coverage::write(0, 0, codes, &mut wanted));
             assert_eq!((answer, lent), (by_second, wanted));
             assert_eq!(answer.refusal, 0);
         }
