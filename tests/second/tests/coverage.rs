@@ -1,6 +1,5 @@
 //! The proved coverage entries against the second program: each on more than a hundred thousand
-//! texts or lists, all short texts, and the values that 01 prints. A library that has no coverage
-//! entries doesn't link with this test.
+//! texts or lists, all short texts, and the values that 01 prints.
 
 #[cfg(not(proved))]
 #[test]
