@@ -292,7 +292,7 @@ mod all_short_texts {
 /// The values that 01 and the readings print, from both programs.
 #[cfg(proved)]
 mod printed {
-    use jeguarivo::{Check, Length};
+    use jeguarivo::{Check, Length, List};
     use second::coverage::{self, HEADING, LONGEST};
     use second::grid::{code_of, finest_cells};
     use second::proved::{coverage as proved, Like};
@@ -325,6 +325,21 @@ mod printed {
         assert_eq!(lent, [&wanted[..], &[0xEE]].concat());
     }
 
+    /// Both programs list these whole cells of a body, rising.
+    fn lists(of: &[u8], names: &[&str]) {
+        let codes: Vec<u64> = names.iter().map(|name| code_of(name.as_bytes())).collect();
+        let (mut by_second, mut by_proved) = (vec![7; codes.len()], vec![7; codes.len()]);
+        let count = codes.len() as u64;
+        assert_eq!(coverage::list(&body(of), &mut by_second), Ok(count));
+        let wanted = List {
+            refusal: 0,
+            place: 0,
+            count,
+        };
+        assert_eq!(proved::list(&body(of), &mut by_proved), wanted);
+        assert_eq!((&by_second, &by_proved), (&codes, &codes));
+    }
+
     #[test]
     fn given_whole() {
         writes(
@@ -332,9 +347,13 @@ mod printed {
             b"OP",
         );
         writes(&["P3", "P41"], b"P(34(1))");
+        lists(b"P(34(1))", &["P3", "P41"]);
+        assert_eq!(body(b"P(34(1))").len(), 15);
         is(&body(b"P(34(1))"), 0, 0, 2, 25_418_658_283_290);
         writes(&[], b"");
+        lists(b"", &[]);
         writes(&["N", "O", "P", "Q", "R", "S"], b"NOPQRS");
+        lists(b"NOPQRS", &["N", "O", "P", "Q", "R", "S"]);
         is(&body(b"NOPQRS"), 0, 0, 6, 6 * 9u64.pow(15));
     }
 
@@ -351,6 +370,13 @@ mod printed {
             9,
             8 * 9u64.pow(14) + 9u64.pow(13),
         );
+        lists(
+            b"O(012345678(0))",
+            &["O0", "O1", "O2", "O3", "O4", "O5", "O6", "O7", "O80"],
+        );
+        // "At depth 15 the last 8 can't stand", but a list may follow it at 14
+        let less_deep = [&b"O"[..], &b"(0".repeat(13), b"(012345678"].concat();
+        is(&body(&less_deep), 9, 7 + 27 + 10, 0, 0);
         let deep = [&b"O"[..], &b"(0".repeat(14)].concat();
         is(
             &body(&[&deep[..], b"(012345678"].concat()),
@@ -371,6 +397,31 @@ mod printed {
         is(b"CVX\0\x02", 9, 2, 0, 0);
         is(b"CVR\0\x0140", 9, 5, 0, 0);
         is(b"CVR\0\x0100", 0, 0, 0, 0);
+    }
+
+    /// N and N0; N0 and N; N0 twice; N0 and N1; 16 is no cell's code, and 4 comes before 11.
+    #[test]
+    fn lists_of_codes() {
+        let lists: [(&[u64], u64); 5] = [
+            (&[0, 1], 11),
+            (&[1, 0], 11),
+            (&[1, 1], 11),
+            (&[1, 366_028_679_279_377], 0),
+            (&[1, 0, 16], 4),
+        ];
+        for (codes, refusal) in lists {
+            let by_second = coverage::written(0, 0, codes);
+            assert_eq!(by_second.as_ref().err().copied().unwrap_or(0), refusal);
+            let mut lent = [0xEE; 12];
+            let answer = proved::write(0, 0, codes, &mut lent);
+            assert_eq!(
+                answer,
+                Length::like(by_second.clone().map(|text| text.len() as u64))
+            );
+            let text = by_second.unwrap_or_default();
+            let after = [&text[..], &vec![0xEE; lent.len() - text.len()]].concat();
+            assert_eq!(&lent[..], &after);
+        }
     }
 
     /// Past the length limit nothing else is looked at, and at it all is.

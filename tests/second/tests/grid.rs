@@ -339,8 +339,8 @@ mod all_coarse_cells {
 /// The values that 01 and 000 print, from both programs.
 #[cfg(proved)]
 mod printed {
-    use jeguarivo::{Code, Length};
-    use second::grid::{self, M};
+    use jeguarivo::{Cell, Code, Length, Shape, Square};
+    use second::grid::{self, code_of, M};
     use second::proved::{self, Like};
 
     /// The name that a proved code has, by the proved library.
@@ -381,6 +381,57 @@ mod printed {
         assert_eq!((past.refusal, past.size), (4, 0));
     }
 
+    /// Cells as face, resolution, row and column, with their names: the code leads to each.
+    #[test]
+    fn places() {
+        let greatest = 14_348_906;
+        let places: [(&[u8], [u64; 4]); 8] = [
+            (b"N", [0, 0, 0, 0]),
+            (b"N0", [0, 1, 0, 0]),
+            (b"N1", [0, 1, 0, 1]),
+            (b"O", [1, 0, 0, 0]),
+            (b"P3", [2, 1, 1, 0]),
+            (b"P41", [2, 2, 3, 4]),
+            (b"Q33", [3, 2, 4, 0]),
+            (b"S888888888888888", [5, 15, greatest, greatest]),
+        ];
+        for (name, [face, resolution, row, column]) in places {
+            let code = code_of(name);
+            let wanted = Cell {
+                refusal: 0,
+                face,
+                resolution,
+                row,
+                column,
+            };
+            assert_eq!(Cell::like(grid::code_cell(code)), wanted);
+            assert_eq!(proved::code_cell(code), wanted);
+            let by_second = grid::cell_code(face, resolution, row, column);
+            assert_eq!(by_second, Ok(code));
+            let found = proved::cell_code(face, resolution, row, column);
+            assert_eq!(found, Code::like(by_second));
+            assert_eq!(name_of(found).as_bytes(), name);
+        }
+    }
+
+    #[test]
+    fn refused_names() {
+        for (name, refusal) in [(&b"N9"[..], 3), (b"X", 1)] {
+            assert_eq!(grid::name_code(name), Err(refusal));
+            assert_eq!(proved::name_code(name), Code::refused(refusal));
+        }
+    }
+
+    /// 000, section 4: quad 0, cap 1, dart 2, skew quad 3.
+    #[test]
+    fn shapes() {
+        for (name, shape) in [("N", 1), ("N4", 1), ("N0", 2), ("N1", 3), ("P0", 0)] {
+            let code = code_of(name.as_bytes());
+            assert_eq!(grid::shape(code), Ok(shape), "{name}");
+            assert_eq!(proved::shape(code), Shape { refusal: 0, shape }, "{name}");
+        }
+    }
+
     /// 01, proved table, line 9.
     #[test]
     fn line_9() {
@@ -411,6 +462,23 @@ mod printed {
                 code: 0,
             };
             assert_eq!(proved::point_code(0, 0, resolution, 4 * M, 0), refused);
+        }
+    }
+
+    /// "A face side is M = 2 x 3^15 = 28,697,814 units"; the last point of the belt on the equator,
+    /// and its lowest one on the left, which the lowest row owns.
+    #[test]
+    fn last_points() {
+        assert_eq!((M, M), (28_697_814, 2 * 3i64.pow(15)));
+        let square = Square::like(grid::square(0, 0, code_of(b"O")));
+        assert_eq!((square.left, square.top, square.side), (0, M / 2, M));
+        assert_eq!(proved::square(0, 0, code_of(b"O")), square);
+        for (x, y, name) in [(4 * M - 1, 0, "R5"), (0, -M / 2, "O6")] {
+            assert_eq!(
+                grid::point_code(0, 0, 1, x, y),
+                Ok(code_of(name.as_bytes()))
+            );
+            assert_eq!(name_of(proved::point_code(0, 0, 1, x, y)), name);
         }
     }
 }

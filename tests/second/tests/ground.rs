@@ -123,7 +123,7 @@ mod nuclei {
 /// Values that 01 prints and positions a hair from an edge, from both programs.
 #[cfg(proved)]
 mod printed {
-    use jeguarivo::Code;
+    use jeguarivo::{Cell, Code, Fix};
     use second::fixes::exact_edges;
     use second::grid::code_of;
     use second::ground::{self, HALF_TURN, ONE, QUARTER};
@@ -143,7 +143,8 @@ mod printed {
     fn lines_1_to_8() {
         let (west, z) = (-1_350_000_000, 666_666_666_666_666_666);
         is(0, 0, 2, 0, 0, "Q33");
-        for longitude in [-HALF_TURN, west, -1, 0, 1, QUARTER, HALF_TURN - 1] {
+        let any = 123_456_789;
+        for longitude in [-HALF_TURN, west, -1, 0, 1, any, QUARTER, HALF_TURN - 1] {
             is(0, 0, 1, longitude, ONE, "N4");
         }
         is(0, 0, 1, west, z, "O1");
@@ -162,6 +163,42 @@ mod printed {
         is(0, 0, 1, west, z + 1, "N4");
         is(0, 0, 1, west, -z, "S1");
         is(0, 0, 1, west, -z - 1, "S4");
+    }
+
+    /// Both are floored, so that the south is no mirror of the north: z is 23/27 of 10^18.
+    #[test]
+    fn ground_nuclei() {
+        let nuclei = [
+            ("N7", 851_851_851_851_851_851),
+            ("S1", -851_851_851_851_851_852),
+        ];
+        for (name, z) in nuclei {
+            let (code, longitude) = (code_of(name.as_bytes()), -1_350_000_000);
+            assert_eq!(ground::ground_nucleus(0, 0, code), Ok((longitude, z)));
+            let wanted = Fix {
+                refusal: 0,
+                longitude,
+                z,
+            };
+            assert_eq!(proved::ground_nucleus(0, 0, code), wanted);
+        }
+    }
+
+    /// At the finest resolution, with h = 3/10 and one turn: the column is 0.65 of 3^15, and the
+    /// row half of it, both floored.
+    #[test]
+    fn a_floor_over_a_root_at_15() {
+        let (longitude, z) = (-450_000_000, 970_000_000_000_000_000);
+        let found = proved::fix_code(0, 0, 15, longitude, z);
+        assert_eq!(found, Code::like(ground::fix_code(0, 0, 15, longitude, z)));
+        let wanted = Cell {
+            refusal: 0,
+            face: 0,
+            resolution: 15,
+            row: 7_174_453,
+            column: 9_326_789,
+        };
+        assert_eq!(proved::code_cell(found.code), wanted);
     }
 
     /// "At a pole every longitude gives the same cell": all 4s.
