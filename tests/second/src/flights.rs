@@ -47,9 +47,9 @@ pub fn fix(line: &[u8]) -> Option<(i64, i64)> {
     }
 }
 
-/// The code of a line's cell; refuses 5, 2, 6, and a line that is no fix with 6.
+/// The code of a line's cell; refuses 5, 2, 6. A line that is no fix is like one out of range.
 pub fn line_code(n: u64, s: u64, resolution: u64, line: &[u8]) -> Answer<u64> {
-    let (longitude, z) = fix(line).ok_or(6u64)?;
+    let (longitude, z) = fix(line).unwrap_or((i64::MAX, i64::MAX));
     fix_code(n, s, resolution, longitude, z)
 }
 
