@@ -13,7 +13,7 @@ use Rattle.reading.specs.Scan.{scan, start}
 use Rattle.reading.specs.Heading.{least, greatest, lead}
 use Rattle.reading.specs.Laws.Heading.{lead-length, head-of}
 use Rattle.reading.specs.Place.{placeOf}
-use Rattle.reading.specs.Report.{count, area}
+use Rattle.reading.specs.Report.{count, sizeAlong}
 use Rattle.reading.specs.TextReading.{noText, asText, toEnd, readText, wasRead, isText}
 use Rattle.reading.specs.Laws.TextReading.{accepted-read}
 use Rattle.reader.specs.declared.Checked.the-variants.{Text, Refused}
@@ -72,12 +72,12 @@ module _ (n s m z : ℕ) where
     end-more (got ns (b ∷ rest)) e h = refl
 
     end-all : (p : Parse) → Read next cells sum w ≡ gotOf m z p → m ≤ next → 0 < m →
-        (ns : Nodes) × (toEnd n s p ≡ asText n s ns) × (cells ≡ count ns) × (sum ≡ area z ns)
+        (ns : Nodes) × (toEnd n s p ≡ asText n s ns) × (cells ≡ count ns) × (sum ≡ sizeAlong z ns)
     unfolding toEnd
     end-all bad e h k = let q : _≡_ {A = ℕ} 0 1 = cc in absurd (omega arith)
     end-all (got ns []) e h k =
         let e₁ : cells ≡ count ns = cc in
-        let e₂ : sum ≡ area z ns = cc in
+        let e₂ : sum ≡ sizeAlong z ns = cc in
         (ns, refl, e₁, e₂)
     end-all (got ns (b ∷ rest)) e h k = let q : next ≡ m - suc (length rest) = cc in absurd (omega arith)
 

@@ -1,6 +1,7 @@
 pub mod Built
 pub mod Demand
 pub mod Fewest
+pub mod FewestOf
 pub mod Ground
 pub mod Heading
 pub mod Named

@@ -1,3 +1,4 @@
+pub mod Fewest
 pub mod Ground
 pub mod Heading
 pub mod Internal

@@ -20,8 +20,8 @@ use Rattle.reading.specs.Heading.{least, greatest, lead}
 use Rattle.reading.specs.Laws.Heading.{lead-head}
 use Rattle.reading.specs.Place.{Longest, placeOf}
 use Rattle.reading.specs.Laws.Place.{place-longest}
-use Rattle.reading.specs.Report.{count, area}
-use Rattle.reading.specs.Laws.Demand.{count-whole, area-whole}
+use Rattle.reading.specs.Report.{count, sizeAlong}
+use Rattle.reading.specs.Laws.Demand.{count-whole, size-whole}
 use Rattle.reading.specs.TextReading.{TextRead, noText, asText, readText, wasRead, nodesOf, northOf, southOf, isText}
 use Rattle.reading.specs.Laws.TextReading.{accepted-read, read-accepted}
 use Rattle.reader.specs.declared.Checked.the-variants.{Text, Refused}
@@ -306,8 +306,8 @@ module _ (t : List ℕ) where
         ap (λ (x : ℕ). answer x t) (accepted-exactly .1 (h, (n, s, ns, r))) ∙ rw (read-accepted r)
 
     -- as the reader counts them
-    pub counted-answer : Text n s (count ns) (area (9 ^ 15) ns) ≡ checkedOf t
-    counted-answer = rw (count-whole tt (omega arith) (r .body), area-whole tt (omega arith) (r .body)) (sym accepted-answer)
+    pub counted-answer : Text n s (count ns) (sizeAlong (9 ^ 15) ns) ≡ checkedOf t
+    counted-answer = rw (count-whole tt (omega arith) (r .body), size-whole tt (omega arith) (r .body)) (sym accepted-answer)
 
 -- ---- texts by bytes
 

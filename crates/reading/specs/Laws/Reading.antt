@@ -9,7 +9,7 @@ use lib.ListN.{length}
 use lib.Dec.{eqb}
 use Rattle.reading.specs.declared.Level.{Level}
 use Rattle.reading.specs.declared.Level.the-variants.{Faces, Belt, Digits}
-use Rattle.reading.specs.Reading.{Nodes, end, whole, listed, first, many, room, wholes, render, Some, Good}
+use Rattle.reading.specs.Reading.{Nodes, end, whole, listed, first, OfFaces, many, room, wholes, render, Some, Good}
 use Rattle.reading.specs.Loose.{Loose}
 
 pub eq-or : (a b : ℕ) → (a ≡ b) ⊎ (a ≡ b → ⊥)
@@ -27,6 +27,11 @@ pub many-most : (l : Level) → many l ≤ 9
 many-most Faces = omega arith
 many-most Belt = omega arith
 many-most Digits = omega arith
+
+pub six-faces : (l : Level) → OfFaces l → many l ≡ 6
+six-faces Faces f = refl
+six-faces Belt f = refl
+six-faces Digits f = absurd f
 
 -- there is all the room, or none
 pub room-all : (l : Level) (c d : ℕ) → 0 < room l c d → room l c d ≡ d
