@@ -1,4 +1,5 @@
 pub mod Code
+pub mod Finest
 pub mod Inside
 pub mod Laws
 pub mod Number

@@ -15,8 +15,8 @@ use Rattle.reading.specs.declared.Level.the-variants.{Digits}
 use Rattle.reading.specs.Reading.{Nodes, end, whole, listed, first, many, room, wholes, render, Some}
 use Rattle.reading.specs.Parse.{Parse, bad, got, Item, wrong, bare, held, close, item, addWhole, addListed, then, parse}
 use Rattle.reading.specs.Laws.Parse.{Right, RightItem, sound, item-right, drop-rest}
-use Rattle.reading.specs.Report.{count, area}
-use Rattle.reading.specs.Laws.Report.{area-most, count-most}
+use Rattle.reading.specs.Report.{count, sizeAlong}
+use Rattle.reading.specs.Laws.Report.{size-most, count-most}
 use Rattle.reader.specs.declared.Got.{Got}
 use Rattle.reader.specs.declared.Got.the-variants.{Bad, Read}
 use Rattle.reader.specs.Internal.Got.{gotOf, itemOf}
@@ -57,14 +57,14 @@ node-bounds s at d z next n sum w (bare rest) r h e =
 node-bounds s at d z next n sum w (held is rest) r h e =
     let e₁ : next ≡ length s - length rest = cc in
     let e₂ : n ≡ count is = cc in
-    let e₃ : sum ≡ area (z / 9) is = cc in
+    let e₃ : sum ≡ sizeAlong (z / 9) is = cc in
     let k : length (drop at s) ≡ length s - at = length-drop at s in
     let k₂ : length (drop at s) ≡ 2 + (length (render Digits is) + length rest) = omega (arith, ap length (r .4), length-append (render Digits is) (41 ∷ rest)) in
     record {
       from = omega arith;
       to = omega arith;
       few = omega (arith, count-most is Digits);
-      small = omega (arith, area-most is Digits (d - 1) 0 (z / 9) (r .3) (omega arith), zero-mul (z / 9));
+      small = omega (arith, size-most is Digits (d - 1) 0 (z / 9) (r .3) (omega arith), zero-mul (z / 9));
       rest = ap (λ (j : ℕ). drop j s) e₁ ∙ drop-rest s (40 ∷ (render Digits is ++ (41 ∷ []))) rest at (r .4 ∙ ap (λ (t : List ℕ). 40 ∷ t) (sym (append-assoc (render Digits is) (41 ∷ []) rest)));
     }
 
@@ -200,7 +200,7 @@ module _ (s : List ℕ) (from d z : ℕ) where
       let k : Some ns = some-of ns (λ q. g (omega (arith, length-drop from s, ap length (r .1), length-append (render Digits ns) (b ∷ rest)))) in
       let e₃ : next + 1 ≡ length s - length rest = omega (arith, length-drop from s, ap length (r .1), length-append (render Digits ns) (b ∷ rest)) in
       let e₄ : n ≡ count ns = cc in
-      let e₅ : sum ≡ area (z / 9) ns = cc in
+      let e₅ : sum ≡ sizeAlong (z / 9) ns = cc in
       rw (close-some ns b rest k, ne-eqb (wholes ns) 9 (λ q. f (e₂ ∙ q))) (cc)
 
 -- what was read, and then what the list reader hands back of the rest
@@ -212,13 +212,13 @@ module _ (n z c : ℕ) (k : List ℕ → Parse) where
   addWhole-more : (p : Parse) → plus 1 z 1 (gotOf n z p) ≡ gotOf n z (addWhole c p)
   unfolding addWhole
   addWhole-more bad = refl
-  addWhole-more (got ns rest) = ap (λ (w : ℕ). Read (n - length rest) (1 + count ns) (z + area z ns) w) (one-add (wholes ns))
+  addWhole-more (got ns rest) = ap (λ (w : ℕ). Read (n - length rest) (1 + count ns) (z + sizeAlong z ns) w) (one-add (wholes ns))
 
-  addListed-more : (is : Nodes) (p : Parse) → plus (count is) (area (z / 9) is) 0 (gotOf n z p) ≡ gotOf n z (addListed c is p)
+  addListed-more : (is : Nodes) (p : Parse) → plus (count is) (sizeAlong (z / 9) is) 0 (gotOf n z p) ≡ gotOf n z (addListed c is p)
   unfolding addListed
   addListed-more is bad = refl
   addListed-more is (got ns rest) =
-      ap (λ (w : ℕ). Read (n - length rest) (count is + count ns) (area (z / 9) is + area z ns) w) (omega arith)
+      ap (λ (w : ℕ). Read (n - length rest) (count is + count ns) (sizeAlong (z / 9) is + sizeAlong z ns) w) (omega arith)
 
   -- the node is wrong
   then-wrong : (i : Item) → Bad ≡ itemOf n z i → Bad ≡ gotOf n z (then c k i)
@@ -239,7 +239,7 @@ module _ (n z c : ℕ) (k : List ℕ → Parse) where
       rw (e₁, e₂, e₃, f) (addWhole-more (k rest))
   then-more next m sum w (held is rest) e r f =
       let e₁ : m ≡ count is = cc in
-      let e₂ : sum ≡ area (z / 9) is = cc in
+      let e₂ : sum ≡ sizeAlong (z / 9) is = cc in
       let e₃ : w ≡ 0 = cc in
       rw (e₁, e₂, e₃, f) (addListed-more is (k rest))
 

@@ -6,7 +6,8 @@ use lib.Dec.{leb, ltb, eqb}
 use lib.ListN.{length}
 use Rattle.logic.specs.Refusal.{refuse, _otherwise_}
 use Rattle.reading.specs.Ground.{wholeCells, sizeSum}
-use Rattle.reading.specs.Place.{least, greatest, lead, placeOf}
+use Rattle.reading.specs.Heading.{least, greatest, lead}
+use Rattle.reading.specs.Place.{placeOf}
 use Rattle.reading.specs.TextReading.{nodesOf, northOf, southOf, isText}
 use Rattle.reader.specs.declared.Checked.{Checked}
 use Rattle.reader.specs.declared.Checked.the-variants.{Text, Refused}

@@ -4,7 +4,7 @@ ghost use mathlib.Core.Path.{_≡_};
 ghost use Prim.Native.Nat.{_*_, _^_, _≤_, _<_};
 ghost use lib.Dec.{eqb};
 ghost use lib.ListN.{length, getD};
-ghost use Rattle.reading.specs.Place.{least, greatest, lead};
+ghost use Rattle.reading.specs.Heading.{least, greatest, lead};
 ghost use Rattle.reader.specs.Check.{checkedOf};
 ghost use Rattle.reader.specs.Internal.Got.{NodeIs, NodesIs};
 ghost use Rattle.reader.specs.declared.Checked.the-variants.{Refused as RefusedWith};

@@ -1,6 +1,5 @@
 -- The whole cells of a reading and its ground, over the cells of the grid (01 "The coverage text"). Ground is 01's word for the finest cells that a
 -- text covers. Assumes nothing.
-use mathlib.Core.Path.{_≡_}
 use mathlib.Core.Logic.{_⊎_}
 use mathlib.Core.List.{List, [], _∷_, map}
 use Prim.Native.Nat.{ℕ, _+_, _/_, _%_, _<_}
@@ -10,6 +9,7 @@ use Rattle.cell.specs.declared.Cell.{Cell}
 use Rattle.cell.specs.Cell.{IsCell}
 use Rattle.code.specs.Code.{codeOf, sizeOf}
 use Rattle.code.specs.Inside.{Inside}
+pub use Rattle.code.specs.Finest.{Finest}
 use Rattle.reading.specs.Reading.{Nodes, names}
 
 -- the cell with this name: a face's number, and digits, each 3 times that of the row plus that of the column
@@ -21,11 +21,6 @@ cellNamed (f ∷ ds) =
 -- "These are the text's whole cells."
 unfoldable pub wholeCells : Nodes → List Cell
 wholeCells ns = map cellNamed (names ns)
-
--- "A finest cell is one of resolution 15"
-pub record Finest (x : Cell) : Type 0 where
-  pub cell : IsCell x
-  pub finest : x .resolution ≡ 15
 
 -- "It covers every finest cell inside any of them."
 abbrev pub Covers : List Cell → Cell → Type 0

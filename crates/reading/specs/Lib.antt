@@ -1,7 +1,9 @@
-pub mod Given
+pub mod Fewest
 pub mod Ground
+pub mod Heading
 pub mod Internal
 pub mod Laws
+pub mod Loose
 pub mod Parse
 pub mod Place
 pub mod Prefix

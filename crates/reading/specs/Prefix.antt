@@ -1,8 +1,8 @@
--- AreNames as numbers, and which begin which: the computing side of cells and of lying inside. NamedLaws ties it to the grid. Assumes nothing.
+-- Names as numbers, and which begin which: the computing side of cells and of lying inside. Laws/Named ties it to the grid. Assumes nothing.
 use mathlib.Core.Path.{_≡_}
 use mathlib.Core.Logic.{_⊎_}
 use mathlib.Core.List.{List, [], _∷_}
-use Prim.Native.Nat.{ℕ, zero, suc, _+_, _-_, _^_, _≤_, _<_}
+use Prim.Native.Nat.{ℕ, zero, suc, _≤_, _<_}
 use lib.ListN.{length}
 use Rattle.ternary.specs.Digits.{Below}
 use Rattle.cell.specs.declared.Cell.{Cell}
@@ -66,8 +66,3 @@ AheadAll q (p ∷ ps) = Ahead q p × AheadAll q ps
 abbrev pub InOrder : List Name → Type 0
 InOrder [] = Unit {0}
 InOrder (q ∷ qs) = AheadAll q qs × InOrder qs
-
--- the sum of sizes: a name of j numbers has 9^(k-j) finest names of k numbers
-unfoldable pub sizes : ℕ → List Name → ℕ
-sizes k [] = 0
-sizes k (q ∷ qs) = 9 ^ (k - length q) + sizes k qs

@@ -1,5 +1,5 @@
 -- The accepted text of the ground of some cells (01 "The coverage text"): "Writing takes rising codes, none inside another, and gives the accepted
--- text of the same ground." WriteLaws shows that it is accepted and of the same ground, for any cells. Assumes nothing.
+-- text of the same ground." Laws/Written shows that it is accepted and of the same ground, for any cells. Assumes nothing.
 use mathlib.Core.Bool.{Bool, true, false, _||_, cond}
 use mathlib.Core.List.{List, [], _∷_, _++_, map}
 use Prim.Native.Nat.{ℕ, zero, suc}
@@ -40,7 +40,16 @@ unfolding side
 built zero n qs = side (λ ts. end) n 0 qs
 built (suc r) n qs = side (λ ts. built r 9 ts) n 0 qs
 
+-- what is built below the numbers
+abbrev pub under : ℕ → List Name → Nodes
+under zero ts = end
+under (suc r) ts = built r 9 ts
+
+-- the nodes of some cells
+abbrev pub nodesFor : List Cell → Nodes
+nodesFor cells = built 15 6 (map numbersOf cells)
+
 -- the text of some cells
 unfoldable pub writtenText : (n s : ℕ) → List Cell → List ℕ
 unfolding built
-writtenText n s cells = heading n s ++ render Faces (built 15 6 (map numbersOf cells))
+writtenText n s cells = heading n s ++ render Faces (nodesFor cells)

@@ -16,8 +16,8 @@ use Rattle.reading.specs.Reading.{Nodes, end, whole, listed, first, render, who
 use Rattle.reading.specs.Prefix.{Name, numbersOf, Prefix, Ahead}
 use Rattle.code.specs.Code.{cellOf}
 use Rattle.writing.specs.declared.Placed.{Placed}
-use Rattle.reading.specs.Written.{anyEnds, nodeOf, side}
-use Rattle.reading.specs.Laws.Built.{under, built-side}
+use Rattle.reading.specs.Written.{anyEnds, nodeOf, side, under}
+use Rattle.reading.specs.Laws.Built.{built-side}
 use Rattle.writing.specs.Internal.Take.{restsOf, Each, Standing, Took}
 use Rattle.writing.specs.Internal.TakeLaws.{rests-first, side-in, side-out, took-none, took-join, nine-past}
 use Rattle.writing.specs.Internal.Measure.{namesFrom, NodeAt, ListAt, NodeTakes}

@@ -13,11 +13,11 @@ use Rattle.cell.specs.Cell.{IsCell}
 use Rattle.code.specs.Inside.{Inside, startOf, endOf}
 use Rattle.code.specs.Laws.Inside.{inside-within, within-inside}
 use Rattle.reading.specs.declared.Level.{Level}
-use Rattle.reading.specs.Reading.{Nodes}
+use Rattle.reading.specs.Reading.{Nodes, OfFaces}
 use Rattle.reading.specs.Ground.{wholeCells, Finest, Covers, Cells}
 use Rattle.reading.specs.Text.{Reads}
 use Rattle.reading.specs.TextReading.{nodesOf, isText}
-use Rattle.reading.specs.Laws.Demand.{OfFaces, whole-cells, one-cell, all-covered}
+use Rattle.reading.specs.Laws.Demand.{whole-cells, one-cell, all-covered}
 use Rattle.walk.specs.Laws.Walk.{text-reads}
 use Rattle.asking.specs.Ask.{within, anyWithin}
 

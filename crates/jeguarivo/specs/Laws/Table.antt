@@ -16,8 +16,9 @@ use Rattle.name.specs.Name.{nameRefusal, nameCode}
 use Rattle.reading.specs.Text.{heading}
 use Rattle.reading.specs.Parse.{parse}
 use Rattle.reading.specs.Scan.{scan}
-use Rattle.reading.specs.Place.{lead, placeOf, toEnd, readText}
-use Rattle.reading.specs.TextReading.{isText}
+use Rattle.reading.specs.Heading.{lead}
+use Rattle.reading.specs.Place.{placeOf}
+use Rattle.reading.specs.TextReading.{toEnd, readText, isText}
 use Rattle.reader.specs.Check.{textRefusal}
 use Rattle.jeguarivo.specs.Entries.{fixCode, pointCode, neighbourCode, nameAnswer, codeAnswer}
 use Rattle.jeguarivo.specs.Texts.{checkedText}

@@ -7,20 +7,20 @@ use Rattle.reading.specs.declared.Level.{Level}
 use Rattle.reading.specs.declared.Level.the-variants.{Digits}
 use Rattle.reading.specs.Reading.{wholes}
 use Rattle.reading.specs.Parse.{Parse, bad, got, Item, wrong, bare, held, item, parse}
-use Rattle.reading.specs.Report.{count, area}
+use Rattle.reading.specs.Report.{count, sizeAlong}
 use Rattle.reader.specs.declared.Got.{Got}
 use Rattle.reader.specs.declared.Got.the-variants.{Bad, Read}
 
 -- of nodes that were read, in a text of n bytes; z is the size of a cell of their level
 abbrev pub gotOf : ℕ → ℕ → Parse → Got
 gotOf n z bad = Bad
-gotOf n z (got ns rest) = Read (n - length rest) (count ns) (area z ns) (wholes ns)
+gotOf n z (got ns rest) = Read (n - length rest) (count ns) (sizeAlong z ns) (wholes ns)
 
 -- of what follows a letter or digit; z is the size of its cell
 abbrev pub itemOf : ℕ → ℕ → Item → Got
 itemOf n z wrong = Bad
 itemOf n z (bare rest) = Read (n - length rest) 1 z 1
-itemOf n z (held is rest) = Read (n - length rest) (count is) (area (z / 9) is) 0
+itemOf n z (held is rest) = Read (n - length rest) (count is) (sizeAlong (z / 9) is) 0
 
 -- the node reader hands back what the definition finds, with any n above the number of unread bytes
 pub record NodeIs (s : List ℕ) (at d z : ℕ) (r : Got) : Type 0 where

@@ -16,11 +16,14 @@ use Rattle.reading.specs.Laws.Reading.{eq-or}
 use Rattle.reading.specs.declared.Level.the-variants.{Faces}
 use Rattle.reading.specs.Ground.{wholeCells, sizeSum}
 use Rattle.reading.specs.Text.{ReadsAs, Accepted}
-use Rattle.reading.specs.Place.{Longest, least, greatest, lead, placeOf, Taken, none, taken, readText}
-use Rattle.reading.specs.Laws.Place.{lead-head, accepted-read, read-accepted, place-longest}
-use Rattle.reading.specs.Report.{count, area}
-use Rattle.reading.specs.Laws.Demand.{count-whole, area-whole}
-use Rattle.reading.specs.TextReading.{wasRead, nodesOf, northOf, southOf, isText}
+use Rattle.reading.specs.Heading.{least, greatest, lead}
+use Rattle.reading.specs.Laws.Heading.{lead-head}
+use Rattle.reading.specs.Place.{Longest, placeOf}
+use Rattle.reading.specs.Laws.Place.{place-longest}
+use Rattle.reading.specs.Report.{count, sizeAlong}
+use Rattle.reading.specs.Laws.Demand.{count-whole, size-whole}
+use Rattle.reading.specs.TextReading.{TextRead, noText, asText, readText, wasRead, nodesOf, northOf, southOf, isText}
+use Rattle.reading.specs.Laws.TextReading.{accepted-read, read-accepted}
 use Rattle.reader.specs.declared.Checked.the-variants.{Text, Refused}
 use Rattle.reader.specs.Check.{otherVersion, textRefusal, answer, checkedOf}
 
@@ -216,13 +219,13 @@ bytes-version t v =
 
 -- ---- texts of the grammar
 
-read-taken : (x : Taken) → wasRead x ≡ true → (n : ℕ) × (s : ℕ) × (ns : Nodes) × (x ≡ taken n s ns)
-read-taken none e = clash (sym e)
-read-taken (taken n s ns) e = (n, s, ns, refl)
+read-taken : (x : TextRead) → wasRead x ≡ true → (n : ℕ) × (s : ℕ) × (ns : Nodes) × (x ≡ asText n s ns)
+read-taken noText e = clash (sym e)
+read-taken (asText n s ns) e = (n, s, ns, refl)
 
-pub read-none : (x : Taken) → wasRead x ≡ false → x ≡ none
-read-none none e = refl
-read-none (taken n s ns) e = clash e
+pub read-none : (x : TextRead) → wasRead x ≡ false → x ≡ noText
+read-none noText e = refl
+read-none (asText n s ns) e = clash e
 
 module _ (t : List ℕ) where
   -- 13: "text longer than 65,536 bytes"
@@ -303,8 +306,8 @@ module _ (t : List ℕ) where
         ap (λ (x : ℕ). answer x t) (accepted-exactly .1 (h, (n, s, ns, r))) ∙ rw (read-accepted r)
 
     -- as the reader counts them
-    pub counted-answer : Text n s (count ns) (area (9 ^ 15) ns) ≡ checkedOf t
-    counted-answer = rw (count-whole tt (omega arith) (r .body), area-whole tt (omega arith) (r .body)) (sym accepted-answer)
+    pub counted-answer : Text n s (count ns) (sizeAlong (9 ^ 15) ns) ≡ checkedOf t
+    counted-answer = rw (count-whole tt (omega arith) (r .body), size-whole tt (omega arith) (r .body)) (sym accepted-answer)
 
 -- ---- texts by bytes
 

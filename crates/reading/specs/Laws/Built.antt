@@ -14,10 +14,10 @@ use Rattle.ternary.specs.Digits.{Below}
 use Rattle.reading.specs.declared.Level.{Level}
 use Rattle.reading.specs.declared.Level.the-variants.{Faces, Digits}
 use Rattle.reading.specs.Reading.{Nodes, end, whole, listed, many, room, wholes, Some, Good, names}
-use Rattle.reading.specs.Laws.Reading.{eq-or, wholes-most}
+use Rattle.reading.specs.Laws.Reading.{eq-or}
 use Rattle.reading.specs.Prefix.{Name, Prefix, Covered, Digs, FinestName, SameNames, IsName, AreNames}
-use Rattle.reading.specs.Laws.Ground.{In, in→covered, covered→in}
-use Rattle.reading.specs.Written.{tails, anyEnds, nodeOf, side, built}
+use Rattle.reading.specs.Laws.Ground.{In, in→covered, covered→in, nine-cover}
+use Rattle.reading.specs.Written.{tails, anyEnds, nodeOf, side, built, under}
 
 -- ---- what follows a number in names
 
@@ -134,11 +134,6 @@ first-more m r [] h n = absurd h
 first-more m r ([] ∷ qs) h n = absurd (n .0)
 first-more m r ((b ∷ q) ∷ qs) h n = (b, n .0 .0, rw (eq-eqb b b refl) tt)
 
--- what is built below the numbers
-abbrev pub under : ℕ → List Name → Nodes
-under zero ts = end
-under (suc r) ts = built r 9 ts
-
 pub built-side : (r n : ℕ) (qs : List Name) → built r n qs ≡ side (under r) n 0 qs
 unfolding built
 built-side zero n qs = refl
@@ -164,14 +159,6 @@ pub built-good : (qs : List Name) → AreNames 6 15 qs → Good Faces 15 0 (buil
 built-good qs n = built-good-at Faces 15 6 qs (λ c d. refl) (omega arith) n
 
 -- ---- they cover what the names cover
-
--- nine whole nodes cover all: "nine whole children are the whole cell"
-nine-cover : (ns : Nodes) (d lo x : ℕ) (p : Name) → Good Digits d lo ns → wholes ns + lo ≡ 9 → lo ≤ x → x < 9 → In ns x p
-nine-cover end d lo x p g e a b = absurd (omega arith)
-nine-cover (whole c ns) d lo x p g e a b =
-    let k : wholes ns + suc c ≤ 9 = wholes-most ns Digits d (suc c) (g .2) (g .1) in
-    ⊎-elim (λ h. inr (nine-cover ns d (suc c) x p (g .2) (omega arith) h b)) (λ h. inl (omega arith)) (lt-or c x)
-nine-cover (listed c is ns) d lo x p g e a b = absurd (omega (arith, wholes-most ns Digits d (suc c) (g .6) (g .1)))
 
 -- a node covers p, which stands behind its number
 abbrev Holds : (List Name → Nodes) → List Name → Name → Type 0

@@ -2,36 +2,27 @@
 -- heading, for faces of which each or only O to R may hold lists, and any greatest depth up to 15. Assumes nothing.
 use mathlib.Core.Path.{_≡_, refl, sym, ap, _∙_}
 use mathlib.Core.List.{List, _++_, map, append-cancel-left}
-use Prim.Native.Nat.{ℕ, _+_, _^_, _≤_}
+use Prim.Native.Nat.{ℕ, _+_, _-_, _^_, _≤_}
 use native.Mathlib.Omega.{arith}
 use lib.ListN.{length, length-map}
 use Rattle.cell.specs.declared.Cell.{Cell}
 use Rattle.cell.specs.Cell.{IsCell}
+use Rattle.code.specs.Code.{sizeOf}
 use Rattle.code.specs.Inside.{Inside}
 use Rattle.reading.specs.declared.Level.{Level}
-use Rattle.reading.specs.declared.Level.the-variants.{Faces, Belt, Digits}
-use Rattle.reading.specs.Reading.{Nodes, many, render, names}
+use Rattle.reading.specs.declared.Level.the-variants.{Faces}
+use Rattle.reading.specs.Reading.{Nodes, OfFaces, many, render, names}
+use Rattle.reading.specs.Laws.Reading.{six-faces}
 use Rattle.reading.specs.Ground.{cellNamed, wholeCells, Finest, Covers, SameGround, Cells, Rising, Apart, sizeSum}
 use Rattle.reading.specs.Text.{heading, Reads, ReadsAs}
-use Rattle.reading.specs.Report.{count, area}
-use Rattle.reading.specs.Laws.Report.{count-names, area-sizes}
+use Rattle.reading.specs.Report.{count, sizeAlong}
+use Rattle.reading.specs.Laws.Report.{count-names, along-sum}
 use Rattle.reading.specs.Laws.Parse.{render-one}
 use Rattle.reading.specs.Prefix.{numbersOf, Covered, SameNames, AreNames, InOrder}
 use Rattle.reading.specs.Laws.Ground.{covered-whole, same-names}
 use Rattle.reading.specs.Laws.Rising.{names-rise, rise-rising, rise-apart}
 use Rattle.reading.specs.Laws.Fewest.{names-good, fewest-names, covered-wider}
-use Rattle.reading.specs.Laws.Named.{cell-is-named, inside-prefix, prefix-inside, covers-covered, covered-covers, cells-named, names-named, names-of-cells, sizes-named, finest-named, ground-names}
-
--- the nodes that stand side by side in a text are its faces
-abbrev pub OfFaces : Level → Type 0
-OfFaces Faces = Unit {0}
-OfFaces Belt = Unit {0}
-OfFaces Digits = ⊥
-
-six : (l : Level) → OfFaces l → many l ≡ 6
-six Faces f = refl
-six Belt f = refl
-six Digits f = absurd f
+use Rattle.reading.specs.Laws.Named.{cell-is-named, inside-prefix, prefix-inside, covers-covered, covered-covers, cells-named, names-named, names-of-cells, finest-named, ground-names}
 
 -- ---- "Each accepted text has exactly one reading"
 
@@ -52,13 +43,13 @@ module _ {h : List ℕ} {l : Level} {d : ℕ} {t : List ℕ} {ns : Nodes} (f : O
   -- ---- the whole cells have the names that stand in the reading
 
   faces-names : AreNames 6 15 (names ns)
-  faces-names = rw (six l f) at (names-good ns l d 0 15 (r .good) m)
+  faces-names = rw (six-faces l f) at (names-good ns l d 0 15 (r .good) m)
 
-  good-cells : Cells (wholeCells ns)
+  pub good-cells : Cells (wholeCells ns)
   unfolding wholeCells
   good-cells = cells-named (names ns) faces-names
 
-  whole-names : map numbersOf (wholeCells ns) ≡ names ns
+  pub whole-names : map numbersOf (wholeCells ns) ≡ names ns
   unfolding wholeCells
   whole-names = names-named (names ns) faces-names
 
@@ -80,9 +71,9 @@ module _ {h : List ℕ} {l : Level} {d : ℕ} {t : List ℕ} {ns : Nodes} (f : O
   pub count-whole : count ns ≡ length (wholeCells ns)
   count-whole = count-names ns ∙ sym (ap length whole-names) ∙ length-map (wholeCells ns) numbersOf
 
-  pub area-whole : area (9 ^ 15) ns ≡ sizeSum (wholeCells ns)
-  unfolding wholeCells
-  area-whole = area-sizes ns l d 0 15 (r .good) m ∙ sym (sizes-named (names ns) faces-names)
+  pub size-whole : sizeAlong (9 ^ 15) ns ≡ sizeSum (wholeCells ns)
+  unfolding wholeCells cellNamed sizeOf
+  size-whole = along-sum ns l d 0 15 cellNamed (λ c q k e. ap (λ (x : ℕ). 9 ^ x) {x = 15 - length q} {y = k} (omega arith)) (r .good) m
 
   -- ---- "whether all of one cell's finest cells are covered": they are exactly when one whole cell has the cell inside
 
@@ -105,7 +96,7 @@ module _ {h : List ℕ} {l : Level} {d : ℕ} {t : List ℕ} {ns : Nodes} (f : O
   fewest qs c g =
       let k : SameNames 6 15 (map numbersOf qs) (names ns) = rw whole-names at (ground-names qs (wholeCells ns) c good-cells g) in
       let n : length (names ns) ≤ length (map numbersOf qs) =
-      fewest-names ns l d 15 (map numbersOf qs) (r .good) m (rw (six l f) (names-of-cells qs c)) (rw (six l f) k) in
+      fewest-names ns l d 15 (map numbersOf qs) (r .good) m (rw (six-faces l f) (names-of-cells qs c)) (rw (six-faces l f) k) in
       omega (arith, length-map qs numbersOf, length-map (wholeCells ns) numbersOf, ap length whole-names)
 
 -- ---- "Any two accepted texts with the same .. heading cover the same finest cells exactly when they are the same bytes."
@@ -115,7 +106,7 @@ module _ {h : List ℕ} {l : Level} {d : ℕ} {t u : List ℕ} {a b : Nodes} (f 
   same-nodes g =
       let k : SameNames 6 15 (names a) (names b) =
       rw (whole-names f m r, whole-names f m q) at (ground-names (wholeCells a) (wholeCells b) (good-cells f m r) (good-cells f m q) g) in
-      same-names a b l d 15 (r .good) (q .good) m (rw (six l f) k)
+      same-names a b l d 15 (r .good) (q .good) m (rw (six-faces l f) k)
 
   pub same-ground : (SameGround (wholeCells a) (wholeCells b) → t ≡ u) × (t ≡ u → SameGround (wholeCells a) (wholeCells b))
   same-ground = (

@@ -1,41 +1,52 @@
--- The names of a reading lie apart, and no list of names that covers the same is shorter. Assumes nothing.
-use mathlib.Core.Path.{_≡_, refl, ap, _∙_}
-use mathlib.Core.Logic.{_⊎_, inl, inr}
+-- The names of a reading lie apart; no list of names that covers the same is shorter; and one that is no longer and in rising order is the reading's.
+-- Assumes nothing.
+use mathlib.Core.Path.{_≡_, refl, sym, ap, ap₂, _∙_}
+use mathlib.Core.Logic.{_⊎_, inl, inr, ⊎-elim}
 use mathlib.Core.List.{List, [], _∷_, _++_, map}
 use Prim.Native.Nat.{ℕ, zero, suc, _-_, _≤_, _<_}
 use native.Mathlib.Omega.{arith}
-use lib.ListN.{length}
+use lib.ListN.{length, replicate}
+use Rattle.ternary.specs.Digits.{Below}
 use Rattle.reading.specs.declared.Level.{Level}
 use Rattle.reading.specs.declared.Level.the-variants.{Digits}
 use Rattle.reading.specs.Reading.{Nodes, end, whole, listed, many, room, Good, names}
 use Rattle.reading.specs.Laws.Reading.{room-le}
-use Rattle.reading.specs.Prefix.{Name, Prefix, Covered, SameNames, IsName, AreNames, Ahead, AheadAll, InOrder}
-use Rattle.reading.specs.Laws.Ground.{below-digs, extend, covered-whole}
+use Rattle.reading.specs.Prefix.{Name, Prefix, Covered, Digs, FinestName, SameNames, IsName, AreNames, Ahead, AheadAll, InOrder}
+use Rattle.reading.specs.Laws.Ground.{below-digs, zeros, extend, covered-whole}
 use Rattle.reading.specs.Laws.Rising.{names-rise}
 
--- ---- names apart, each with one of a list inside, are no more than the list
+-- ---- no name begins with two of names in rising order
 
--- no name begins with two of them
-abbrev Disjoint : List Name → Type 0
-Disjoint [] = Unit {0}
-Disjoint (w ∷ ws) = ((p : Name) → Prefix w p → Covered ws p → ⊥) × Disjoint ws
+ahead-disjoint : (q w p : Name) → Ahead q w → Prefix q p → Prefix w p → ⊥
+ahead-disjoint [] w p f h k = f
+ahead-disjoint (x ∷ q) [] p f h k = f
+ahead-disjoint (x ∷ q) (y ∷ w) [] f h k = h
+ahead-disjoint (x ∷ q) (y ∷ w) (z ∷ p) (inl l) h k = omega (arith, h .0, k .0)
+ahead-disjoint (x ∷ q) (y ∷ w) (z ∷ p) (inr f) h k = ahead-disjoint q w p (f .1) (h .1) (k .1)
+
+pub apart : (q : Name) (ws : List Name) (p : Name) → AheadAll q ws → Prefix q p → Covered ws p → ⊥
+apart q [] p f h k = k
+apart q (w ∷ ws) p f h (inl k) = ahead-disjoint q w p (f .0) h k
+apart q (w ∷ ws) p f h (inr k) = apart q ws p (f .1) h k
+
+-- ---- names in rising order, each with one of a list inside, are no more than the list
 
 -- a name of the list begins with w
-abbrev Has : Name → List Name → Type 0
+abbrev pub Has : Name → List Name → Type 0
 Has w [] = ⊥
 Has w (q ∷ qs) = Prefix w q ⊎ Has w qs
 
-abbrev Each : List Name → List Name → Type 0
+abbrev pub Each : List Name → List Name → Type 0
 Each [] qs = Unit {0}
 Each (w ∷ ws) qs = Has w qs × Each ws qs
 
 -- the list without that name
-abbrev less : (w : Name) (qs : List Name) → Has w qs → List Name
+abbrev pub less : (w : Name) (qs : List Name) → Has w qs → List Name
 less w [] h = absurd h
 less w (q ∷ qs) (inl h) = qs
 less w (q ∷ qs) (inr h) = q ∷ less w qs h
 
-less-length : (w : Name) (qs : List Name) (h : Has w qs) → length qs ≡ suc (length (less w qs h))
+pub less-length : (w : Name) (qs : List Name) (h : Has w qs) → length qs ≡ suc (length (less w qs h))
 less-length w [] h = absurd h
 less-length w (q ∷ qs) (inl h) = refl
 less-length w (q ∷ qs) (inr h) = ap suc (less-length w qs h)
@@ -47,32 +58,14 @@ kept v w (q ∷ qs) (inl h) f (inr k) = k
 kept v w (q ∷ qs) (inr h) f (inl k) = inl k
 kept v w (q ∷ qs) (inr h) f (inr k) = inr (kept v w qs h f k)
 
-each-kept : (ws : List Name) (w : Name) (qs : List Name) (h : Has w qs) → ((p : Name) → Prefix w p → Covered ws p → ⊥) → Each ws qs → Each ws (less w qs h)
+pub each-kept : (ws : List Name) (w : Name) (qs : List Name) (h : Has w qs) → ((p : Name) → Prefix w p → Covered ws p → ⊥) → Each ws qs → Each ws (less w qs h)
 each-kept [] w qs h f e = tt
 each-kept (v ∷ ws) w qs h f e = (kept v w qs h (λ p i j. f p i (inl j)) (e .0), each-kept ws w qs h (λ p i j. f p i (inr j)) (e .1))
 
-no-more : (ws qs : List Name) → Disjoint ws → Each ws qs → length ws ≤ length qs
+pub no-more : (ws qs : List Name) → InOrder ws → Each ws qs → length ws ≤ length qs
 no-more [] qs a e = omega arith
 no-more (w ∷ ws) qs a e =
-    omega (arith, less-length w qs (e .0), no-more ws (less w qs (e .0)) (a .1) (each-kept ws w qs (e .0) (a .0) (e .1)))
-
--- ---- names that rise lie apart
-
-ahead-disjoint : (q w p : Name) → Ahead q w → Prefix q p → Prefix w p → ⊥
-ahead-disjoint [] w p f h k = f
-ahead-disjoint (x ∷ q) [] p f h k = f
-ahead-disjoint (x ∷ q) (y ∷ w) [] f h k = h
-ahead-disjoint (x ∷ q) (y ∷ w) (z ∷ p) (inl l) h k = omega (arith, h .0, k .0)
-ahead-disjoint (x ∷ q) (y ∷ w) (z ∷ p) (inr f) h k = ahead-disjoint q w p (f .1) (h .1) (k .1)
-
-ahead-all-disjoint : (q : Name) (ws : List Name) (p : Name) → AheadAll q ws → Prefix q p → Covered ws p → ⊥
-ahead-all-disjoint q [] p f h k = k
-ahead-all-disjoint q (w ∷ ws) p f h (inl k) = ahead-disjoint q w p (f .0) h k
-ahead-all-disjoint q (w ∷ ws) p f h (inr k) = ahead-all-disjoint q ws p (f .1) h k
-
-rise-disjoint : (ws : List Name) → InOrder ws → Disjoint ws
-rise-disjoint [] r = tt
-rise-disjoint (w ∷ ws) r = ((λ p h k. ahead-all-disjoint w ws p (r .0) h k), rise-disjoint ws (r .1))
+    omega (arith, less-length w qs (e .0), no-more ws (less w qs (e .0)) (a .1) (each-kept ws w qs (e .0) (λ p. apart w ws p (a .0)) (e .1)))
 
 -- ---- the names of a reading are names
 
@@ -96,35 +89,35 @@ names-good (listed c is ns) l d lo (suc r) g h =
 
 -- ---- members
 
-abbrev Mem : Name → List Name → Type 0
+abbrev pub Mem : Name → List Name → Type 0
 Mem w [] = ⊥
 Mem w (v ∷ vs) = (v ≡ w) ⊎ Mem w vs
 
-mem-covered : (vs : List Name) (w p : Name) → Mem w vs → Prefix w p → Covered vs p
+pub mem-covered : (vs : List Name) (w p : Name) → Mem w vs → Prefix w p → Covered vs p
 mem-covered [] w p m i = absurd m
 mem-covered (v ∷ vs) w p (inl e) i = inl (rw e i)
 mem-covered (v ∷ vs) w p (inr m) i = inr (mem-covered vs w p m i)
 
-covered-mem : (vs : List Name) (p : Name) → Covered vs p → (q : Name) × Mem q vs × Prefix q p
+pub covered-mem : (vs : List Name) (p : Name) → Covered vs p → (q : Name) × Mem q vs × Prefix q p
 covered-mem [] p h = absurd h
 covered-mem (v ∷ vs) p (inl h) = (v, inl refl, h)
 covered-mem (v ∷ vs) p (inr h) = let k = covered-mem vs p h in (k .0, inr (k .1), k .2)
 
-mem-name : (m r : ℕ) (vs : List Name) (w : Name) → AreNames m r vs → Mem w vs → IsName m r w
+pub mem-name : (m r : ℕ) (vs : List Name) (w : Name) → AreNames m r vs → Mem w vs → IsName m r w
 mem-name m r [] w n i = absurd i
 mem-name m r (v ∷ vs) w n (inl e) = rw (← e) (n .0)
 mem-name m r (v ∷ vs) w n (inr i) = mem-name m r vs w (n .1) i
 
-mem-has : (qs : List Name) (w q : Name) → Mem q qs → Prefix w q → Has w qs
+pub mem-has : (qs : List Name) (w q : Name) → Mem q qs → Prefix w q → Has w qs
 mem-has [] w q m i = absurd m
 mem-has (v ∷ qs) w q (inl e) i = inl (rw e i)
 mem-has (v ∷ qs) w q (inr m) i = inr (mem-has qs w q m i)
 
-make-each : (ws qs : List Name) → ((w : Name) → Mem w ws → Has w qs) → Each ws qs
+pub make-each : (ws qs : List Name) → ((w : Name) → Mem w ws → Has w qs) → Each ws qs
 make-each [] qs f = tt
 make-each (w ∷ ws) qs f = (f w (inl refl), make-each ws qs (λ v m. f v (inr m)))
 
-prefix-trans : (a b c : Name) → Prefix a b → Prefix b c → Prefix a c
+pub prefix-trans : (a b c : Name) → Prefix a b → Prefix b c → Prefix a c
 prefix-trans [] b c h k = tt
 prefix-trans (x ∷ a) [] c h k = absurd h
 prefix-trans (x ∷ a) (y ∷ b) [] h k = absurd k
@@ -135,19 +128,103 @@ covered-wider [] q p h i = absurd h
 covered-wider (v ∷ vs) q p (inl h) i = inl (prefix-trans v q p h i)
 covered-wider (v ∷ vs) q p (inr h) i = inr (covered-wider vs q p h i)
 
--- of names apart, the one that p begins with is the one that q begins with, if p begins with q
-pin : (vs : List Name) (w q p : Name) → Disjoint vs → Mem w vs → Covered vs q → Prefix q p → Prefix w p → Prefix w q
+-- of names in rising order, the one that p begins with is the one that q begins with, if p begins with q
+pub pin : (vs : List Name) (w q p : Name) → InOrder vs → Mem w vs → Covered vs q → Prefix q p → Prefix w p → Prefix w q
 pin [] w q p a m h i j = absurd m
 pin (v ∷ vs) w q p a (inl e) (inl h) i j = rw (← e) h
-pin (v ∷ vs) w q p a (inl e) (inr h) i j = absurd (a .0 p (rw e j) (covered-wider vs q p h i))
-pin (v ∷ vs) w q p a (inr m) (inl h) i j = absurd (a .0 p (prefix-trans v q p h i) (mem-covered vs w p m j))
+pin (v ∷ vs) w q p a (inl e) (inr h) i j = absurd (apart v vs p (a .0) (rw e j) (covered-wider vs q p h i))
+pin (v ∷ vs) w q p a (inr m) (inl h) i j = absurd (apart v vs p (a .0) (prefix-trans v q p h i) (mem-covered vs w p m j))
 pin (v ∷ vs) w q p a (inr m) (inr h) i j = pin vs w q p (a .1) m h i j
 
--- ---- every list of names that covers exactly what the reading covers has at least as many
+-- ---- a list in rising order that is no longer than those, and covers the same, is those
+
+-- no later one is ahead of an earlier one
+abbrev pub Ordered : List Name → Type 0
+Ordered [] = Unit {0}
+Ordered (q ∷ qs) = ((p : Name) → Mem p qs → Ahead p q → ⊥) × Ordered qs
+
+has-mem : (w : Name) (qs : List Name) → Has w qs → (p : Name) × Mem p qs × Prefix w p
+has-mem w [] h = absurd h
+has-mem w (q ∷ qs) (inl h) = (q, inl refl, h)
+has-mem w (q ∷ qs) (inr h) = let k = has-mem w qs h in (k .0, inr (k .1), k .2)
+
+ahead-longer : (w v p q : Name) → Ahead w v → Prefix w p → Prefix v q → Ahead p q
+ahead-longer [] v p q f h k = absurd f
+ahead-longer (a ∷ w) [] p q f h k = absurd f
+ahead-longer (a ∷ w) (b ∷ v) [] q f h k = absurd h
+ahead-longer (a ∷ w) (b ∷ v) (c ∷ p) [] f h k = absurd k
+ahead-longer (a ∷ w) (b ∷ v) (c ∷ p) (d ∷ q) (inl f) h k = inl (omega (arith, h .0, k .0))
+ahead-longer (a ∷ w) (b ∷ v) (c ∷ p) (d ∷ q) (inr f) h k = inr (sym (h .0) ∙ f .0 ∙ k .0, ahead-longer w v p q (f .1) (h .1) (k .1))
+
+ahead-covered : (w : Name) (ws : List Name) (p q : Name) → AheadAll w ws → Prefix w p → Covered ws q → Ahead p q
+ahead-covered w [] p q f h k = absurd k
+ahead-covered w (v ∷ ws) p q f h (inl k) = ahead-longer w v p q (f .0) h k
+ahead-covered w (v ∷ ws) p q f h (inr k) = ahead-covered w ws p q (f .1) h k
+
+-- digits that begin all that others begin, and no fewer, are those
+same-digits : (r : ℕ) (w q : Name) → length q ≤ r → Below 9 w → Prefix w q → ((p : Name) → Digs r p → Prefix w p → Prefix q p) → q ≡ w
+same-digits r [] [] l b h f = refl
+same-digits zero [] (x ∷ q) l b h f = absurd (omega arith)
+same-digits (suc r) [] (x ∷ q) l b h f =
+    let i = f (0 ∷ replicate r 0) (omega arith, zeros r) tt in
+    let j = f (1 ∷ replicate r 0) (omega arith, zeros r) tt in
+    absurd (omega (arith, i .0, j .0))
+same-digits r (y ∷ w) [] l b h f = absurd h
+same-digits zero (y ∷ w) (x ∷ q) l b h f = absurd (omega arith)
+same-digits (suc r) (y ∷ w) (x ∷ q) l b h f =
+    ap₂ _∷_ (sym (h .0)) (same-digits r w q (omega arith) (b .1) (h .1) (λ p u v. f (y ∷ p) (b .0, u) (refl, v) .1))
+
+same-name : (m r : ℕ) (w q : Name) → IsName m r w → IsName m r q → Prefix w q → ((p : Name) → FinestName m r p → Prefix w p → Prefix q p) → q ≡ w
+same-name m r [] q n o h f = absurd n
+same-name m r (y ∷ w) [] n o h f = absurd h
+same-name m r (y ∷ w) (x ∷ q) n o h f =
+    ap₂ _∷_ (sym (h .0)) (same-digits r w q (o .1) (n .2) (h .1) (λ p u v. f (y ∷ p) (n .0, u) (refl, v) .1))
+
+covered-all : (qs ws : List Name) (p : Name) → ((q : Name) → Mem q qs → Covered ws q) → Covered qs p → Covered ws p
+covered-all qs ws p f h = let k = covered-mem qs p h in covered-wider ws (k .0) p (f (k .0) (k .1)) (k .2)
+
+one-list :
+    (m r : ℕ) (ws qs : List Name) → AreNames m r ws → AreNames m r qs → InOrder ws → Each ws qs → ((q : Name) → Mem q qs → Covered ws q) → Ordered qs →
+    length qs ≤ length ws → ((w p : Name) → Mem w ws → FinestName m r p → Prefix w p → Covered qs p) → qs ≡ ws
+one-list m r [] [] nw nq a e f o l c = refl
+one-list m r [] (q ∷ qs) nw nq a e f o l c = absurd (omega arith)
+one-list m r (w ∷ ws) [] nw nq a e f o l c = absurd (e .0)
+one-list m r (w ∷ ws) (q ∷ qs) nw nq a e f o l c =
+    ap₂ _∷_ first (one-list m r ws qs (nw .1) (nq .1) (a .1) each others (o .1) (omega arith) onward)
+  where
+    begins : Prefix w q
+    begins =
+        ⊎-elim (λ h. h)
+        (λ h. ⊎-elim (λ k. k) (λ k. let i = has-mem w qs k in absurd (o .0 (i .0) (i .1) (ahead-covered w ws (i .0) q (a .0) (i .2) h))) (e .0))
+        (f q (inl refl))
+
+    each : Each ws qs
+    each = each-kept ws w (q ∷ qs) (inl begins) (λ p. apart w ws p (a .0)) (e .1)
+
+    others : (p : Name) → Mem p qs → Covered ws p
+    others p i =
+        ⊎-elim
+        (λ h.
+        let k : Has w qs = mem-has qs w p i h in
+        absurd (omega (arith, less-length w qs k, no-more ws (less w qs k) (a .1) (each-kept ws w qs k (λ p. apart w ws p (a .0)) each))))
+        (λ h. h) (f p (inr i))
+
+    onward : (v p : Name) → Mem v ws → FinestName m r p → Prefix v p → Covered qs p
+    onward v p i u h = ⊎-elim (λ k. absurd (apart w ws p (a .0) (prefix-trans w q p begins k) (mem-covered ws v p i h))) (λ k. k) (c v p (inr i) u h)
+
+    first : q ≡ w
+    first =
+        same-name m r w q (nw .0) (nq .0) begins
+        (λ p u h. ⊎-elim (λ k. k) (λ k. absurd (apart w ws p (a .0) h (covered-all qs ws p others k))) (c w p (inl refl) u h))
+
+-- ---- of a reading: every list of names that covers exactly what it covers has at least as many
 
 module _ (ns : Nodes) (l : Level) (d r : ℕ) (qs : List Name) (g : Good l d 0 ns) (h : d ≤ r) (n : AreNames (many l) r qs) (f : SameNames (many l) r qs (names ns)) where
-  disjoint : Disjoint (names ns)
-  disjoint = rise-disjoint (names ns) (names-rise ns l d 0 g)
+  rise : InOrder (names ns)
+  rise = names-rise ns l d 0 g
+
+  named : AreNames (many l) r (names ns)
+  named = names-good ns l d 0 r g h
 
   -- a name of the list is covered whole
   covers-each : (q : Name) → Mem q qs → Covered (names ns) q
@@ -162,9 +239,14 @@ module _ (ns : Nodes) (l : Level) (d r : ℕ) (qs : List Name) (g : Good l d 0 n
       let p : Name = x ∷ e .0 in
       let k = covered-mem qs p (f p (c .0, e .1) .1 (mem-covered (names ns) (x ∷ w) p m (refl, e .2))) in
       mem-has qs (x ∷ w) (k .0) (k .1)
-      (pin (names ns) (x ∷ w) (k .0) p disjoint m (covers-each (k .0) (k .1)) (k .2) (refl, e .2))
+      (pin (names ns) (x ∷ w) (k .0) p rise m (covers-each (k .0) (k .1)) (k .2) (refl, e .2))
+
+  each-one : Each (names ns) qs
+  each-one = make-each (names ns) qs (λ w m. has-one w m (mem-name (many l) r (names ns) w named m))
 
   pub fewest-names : length (names ns) ≤ length qs
-  fewest-names =
-      no-more (names ns) qs disjoint
-      (make-each (names ns) qs (λ w m. has-one w m (mem-name (many l) r (names ns) w (names-good ns l d 0 r g h) m)))
+  fewest-names = no-more (names ns) qs rise each-one
+
+  pub one-names : Ordered qs → length qs ≤ length (names ns) → qs ≡ names ns
+  one-names o k =
+      one-list (many l) r (names ns) qs named n rise each-one covers-each o k (λ w p m u i. f p u .1 (mem-covered (names ns) w p m i))

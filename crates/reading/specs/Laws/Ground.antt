@@ -11,7 +11,7 @@ use Rattle.ternary.specs.Digits.{Below}
 use Rattle.reading.specs.declared.Level.{Level}
 use Rattle.reading.specs.declared.Level.the-variants.{Digits}
 use Rattle.reading.specs.Reading.{Nodes, end, whole, listed, many, room, wholes, Some, Good, names}
-use Rattle.reading.specs.Laws.Reading.{eq-or, room-le}
+use Rattle.reading.specs.Laws.Reading.{eq-or, room-le, wholes-most}
 use Rattle.reading.specs.Prefix.{Name, Prefix, Covered, Digs, FinestName, SameNames, IsName}
 
 -- ---- what lists of names cover
@@ -64,25 +64,25 @@ covered→in (listed c is ns) x p h =
     (covered-or (map (λ (q : Name). c ∷ q) (names is)) (names ns) (x ∷ p) h)
 
 -- what nodes from lo on cover begins at lo or later
-from : (ns : Nodes) (l : Level) (d lo x : ℕ) (p : Name) → Good l d lo ns → In ns x p → lo ≤ x
-from end l d lo x p g h = absurd h
-from (whole c ns) l d lo x p g (inl e) = omega arith
-from (whole c ns) l d lo x p g (inr h) = omega (arith, from ns l d (suc c) x p (g .2) h)
-from (listed c is ns) l d lo x p g (inl h) = omega arith
-from (listed c is ns) l d lo x p g (inr h) = omega (arith, from ns l d (suc c) x p (g .6) h)
+pub in-from : (ns : Nodes) (l : Level) (d lo x : ℕ) (p : Name) → Good l d lo ns → In ns x p → lo ≤ x
+in-from end l d lo x p g h = absurd h
+in-from (whole c ns) l d lo x p g (inl e) = omega arith
+in-from (whole c ns) l d lo x p g (inr h) = omega (arith, in-from ns l d (suc c) x p (g .2) h)
+in-from (listed c is ns) l d lo x p g (inl h) = omega arith
+in-from (listed c is ns) l d lo x p g (inr h) = omega (arith, in-from ns l d (suc c) x p (g .6) h)
 
 -- so the node of number c covers only by itself
 own-whole : (l : Level) (d : ℕ) (ns : Nodes) (c x : ℕ) (p : Name) → Good l d (suc c) ns → x ≤ c → In (whole c ns) x p → c ≡ x
 own-whole l d ns c x p g k (inl e) = e
-own-whole l d ns c x p g k (inr h) = absurd (omega (arith, from ns l d (suc c) x p g h))
+own-whole l d ns c x p g k (inr h) = absurd (omega (arith, in-from ns l d (suc c) x p g h))
 
 own-list : (l : Level) (d : ℕ) (is ns : Nodes) (c x y : ℕ) (p : Name) → Good l d (suc c) ns → x ≤ c → In (listed c is ns) x (y ∷ p) → In is y p
 own-list l d is ns c x y p g k (inl h) = covered→in is y p (h .1)
-own-list l d is ns c x y p g k (inr h) = absurd (omega (arith, from ns l d (suc c) x (y ∷ p) g h))
+own-list l d is ns c x y p g k (inr h) = absurd (omega (arith, in-from ns l d (suc c) x (y ∷ p) g h))
 
 -- ---- nodes that cover everything from lo on are all whole
 
-zeros : (r : ℕ) → Digs r (replicate r 0)
+pub zeros : (r : ℕ) → Digs r (replicate r 0)
 zeros zero = tt
 zeros (suc r) = (omega arith, zeros r)
 
@@ -102,6 +102,14 @@ full (listed c is ns) d lo (suc r) g h k f =
       full is (d - 1) 0 r (g .5) (omega arith) (omega arith)
           (λ x p b b′ i. own-list Digits d is ns c lo x p (g .6) (g .0) (f lo (x ∷ p) (omega arith) (omega arith) (b′, i))),
     )))
+
+-- nine whole nodes cover all: "nine whole children are the whole cell"
+pub nine-cover : (ns : Nodes) (d lo x : ℕ) (p : Name) → Good Digits d lo ns → wholes ns + lo ≡ 9 → lo ≤ x → x < 9 → In ns x p
+nine-cover end d lo x p g e a b = absurd (omega arith)
+nine-cover (whole c ns) d lo x p g e a b =
+    let k : wholes ns + suc c ≤ 9 = wholes-most ns Digits d (suc c) (g .2) (g .1) in
+    ⊎-elim (λ h. inr (nine-cover ns d (suc c) x p (g .2) (omega arith) h b)) (λ h. inl (omega arith)) (lt-or c x)
+nine-cover (listed c is ns) d lo x p g e a b = absurd (omega (arith, wholes-most ns Digits d (suc c) (g .6) (g .1)))
 
 -- ---- a name that is covered whole begins with one name of the reading
 
@@ -185,13 +193,13 @@ lead :
     (a b : Nodes) (l : Level) (d c lo r : ℕ) → Good l d c a → (g : Good l d lo b) (h : d ≤ r) (s : Some b) → NoMore l r b a →
     c ≤ some-in b l d lo r g h s .0
 lead a b l d c lo r k g h s f =
-    let w = some-in b l d lo r g h s in from a l d c (w .0) (w .1) k (f (w .0) (w .1) (w .2) (w .3) (w .4))
+    let w = some-in b l d lo r g h s in in-from a l d c (w .0) (w .1) k (f (w .0) (w .1) (w .2) (w .3) (w .4))
 
--- the same holds from a later number on
+-- the same holds in-from a later number on
 later :
     (l : Level) (d r c : ℕ) (a b a′ b′ : Nodes) → Good l d (suc c) a′ → ((x : ℕ) (p : Name) → In a′ x p → In a x p) →
     ((x : ℕ) (p : Name) → In b x p → (c ≡ x) ⊎ In b′ x p) → NoMore l r a b → NoMore l r a′ b′
-later l d r c a b a′ b′ g i j f x p u v w = ⊎-elim (λ e. absurd (omega (arith, from a′ l d (suc c) x p g w))) (λ k. k) (j x p (f x p u v (i x p w)))
+later l d r c a b a′ b′ g i j f x p u v w = ⊎-elim (λ e. absurd (omega (arith, in-from a′ l d (suc c) x p g w))) (λ k. k) (j x p (f x p u v (i x p w)))
 
 -- a whole node and one with a list do not cover the same
 not-both :

@@ -1,4 +1,4 @@
--- AreNames and cells: every name is one cell's and every cell has one name, and a name begins another exactly when the one's cell has the other's inside.
+-- Names and cells: every name is one cell's and every cell has one name, and a name begins another exactly when the one's cell has the other's inside.
 -- Assumes nothing.
 use mathlib.Core.Path.{_≡_, refl, sym, ap, ap₂, _∙_}
 use mathlib.Core.Logic.{inl, inr}
@@ -12,12 +12,12 @@ use Rattle.ternary.specs.Laws.Digits.{value-snoc, value-below, value-one}
 use Rattle.ternary.specs.Laws.Powers.{power-add, power-pos}
 use Rattle.cell.specs.declared.Cell.{Cell}
 use Rattle.cell.specs.Cell.{IsCell}
-use Rattle.code.specs.Code.{digitsOf, sizeOf}
+use Rattle.code.specs.Code.{digitsOf}
 use Rattle.code.specs.Laws.Code.{length-digits-of, digits-of-below}
 use Rattle.code.specs.Inside.{Inside}
-use Rattle.reading.specs.Ground.{cellNamed, Finest, Covers, SameGround, Cells, sizeSum}
-use Rattle.reading.specs.Prefix.{Name, numbersOf, Prefix, Covered, FinestName, SameNames, IsName, AreNames, sizes}
-use Rattle.reading.specs.Laws.Ground.{digs-below}
+use Rattle.reading.specs.Ground.{cellNamed, Finest, Covers, SameGround, Cells}
+use Rattle.reading.specs.Prefix.{Name, numbersOf, Prefix, Covered, FinestName, SameNames, IsName, AreNames}
+use Rattle.reading.specs.Laws.Ground.{below-digs, digs-below}
 
 -- ---- a digit is 3 times that of the row plus that of the column
 
@@ -231,14 +231,6 @@ pub names-of-cells : (qs : List Cell) → Cells qs → AreNames 6 15 (map number
 names-of-cells [] c = tt
 names-of-cells (q ∷ qs) c = (cell-is-named q (c .0), names-of-cells qs (c .1))
 
-pub sizes-named : (qs : List Name) → AreNames 6 15 qs → sizeSum (map cellNamed qs) ≡ sizes 16 qs
-unfolding sizeSum sizes cellNamed sizeOf
-sizes-named [] n = refl
-sizes-named ([] ∷ qs) n = absurd (n .0)
-sizes-named ((f ∷ ds) ∷ qs) n =
-    let e : 15 - length ds ≡ 16 - suc (length ds) = omega arith in
-    ap₂ (λ (x y : ℕ). 9 ^ x + y) e (sizes-named qs (n .1))
-
 -- ---- ground
 
 pub finest-named : (p : Name) → FinestName 6 15 p → Finest (cellNamed p) × (numbersOf (cellNamed p) ≡ p)
@@ -257,4 +249,20 @@ ground-names qs ps a b f p h =
     let g = f y (k .0) in (
       (λ c. rw (k .1) at (covers-covered ps y (g .0 (covered-covers qs y a (k .0 .cell) (rw (k .1) c))))),
       (λ c. rw (k .1) at (covers-covered qs y (g .1 (covered-covers ps y b (k .0 .cell) (rw (k .1) c))))),
+    )
+
+-- a finest cell has a finest name
+pub finest-name : (x : Cell) → Finest x → FinestName 6 15 (numbersOf x)
+unfolding numbersOf
+finest-name x f =
+    let ds : List ℕ = digitsOf (x .resolution) (x .row) (x .column) in
+    let e : length ds ≡ 15 = length-digits-of (x .resolution) (x .row) (x .column) ∙ f .finest in
+    (omega (arith, f .cell .faced), rw e at (below-digs ds (digits-of-below (x .resolution) (x .row) (x .column))))
+
+-- cells whose names cover the same have the same ground
+pub names-ground : (qs ps : List Cell) → Cells qs → Cells ps → SameNames 6 15 (map numbersOf qs) (map numbersOf ps) → SameGround qs ps
+names-ground qs ps a b f x v =
+    let k = f (numbersOf x) (finest-name x v) in (
+      (λ h. covered-covers ps x b (v .cell) (k .0 (covers-covered qs x h))),
+      (λ h. covered-covers qs x a (v .cell) (k .1 (covers-covered ps x h))),
     )

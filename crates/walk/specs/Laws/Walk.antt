@@ -24,9 +24,8 @@ use Rattle.reading.specs.Prefix.{Name, numbersOf, IsName, AreNames}
 use Rattle.reading.specs.Laws.Named.{name-named}
 use Rattle.reading.specs.Laws.Fewest.{names-good}
 use Rattle.reading.specs.Text.{ReadsAs}
-use Rattle.reading.specs.Place.{Taken, none, taken, readText}
-use Rattle.reading.specs.Laws.Place.{accepted-read}
-use Rattle.reading.specs.TextReading.{nodesIn, wasRead, nodesOf, isText}
+use Rattle.reading.specs.TextReading.{TextRead, noText, asText, readText, nodesIn, wasRead, nodesOf, isText}
+use Rattle.reading.specs.Laws.TextReading.{accepted-read}
 use Rattle.walk.specs.declared.Spot.{Spot}
 use Rattle.walk.specs.Walk.{spot, origin, spotOf, Fits, numberIn, after, goesOn, opens, wholeAt, walk, goes, Walks}
 
@@ -222,9 +221,9 @@ pub text-reads : (t : List ℕ) → isText t ≡ true → (n : ℕ) × (s : ℕ)
 unfolding isText nodesOf
 text-reads t e = go (readText t) refl e
   where
-    go : (x : Taken) → readText t ≡ x → wasRead x ≡ true → (n : ℕ) × (s : ℕ) × ReadsAs n s t (nodesIn x)
-    go none q h = clash (sym h)
-    go (taken n s ns) q h = (n, s, accepted-read q)
+    go : (x : TextRead) → readText t ≡ x → wasRead x ≡ true → (n : ℕ) × (s : ℕ) × ReadsAs n s t (nodesIn x)
+    go noText q h = clash (sym h)
+    go (asText n s ns) q h = (n, s, accepted-read q)
 
 module _ (t : List ℕ) (e : isText t ≡ true) where
   pub body : drop 7 t ≡ render Faces (nodesOf t)

@@ -24,9 +24,9 @@ use Rattle.reading.specs.Prefix.{Name, numbersOf, Prefix, IsName, AreNames, Ahe
 use Rattle.reading.specs.Laws.Named.{prefix-inside, names-of-cells}
 use Rattle.reading.specs.Laws.Rising.{ahead-before}
 use Rattle.writing.specs.declared.Placed.{Placed}
-use Rattle.reading.specs.Written.{side, built, writtenText}
+use Rattle.reading.specs.Written.{side, built, writtenText, under}
 use Rattle.writing.specs.Write.{allCodes, codesRefusal, textOf, textIn}
-use Rattle.reading.specs.Laws.Built.{under, built-side}
+use Rattle.reading.specs.Laws.Built.{built-side}
 use Rattle.writing.specs.Laws.List.{GoodList, InTurn, good-list, in-turn, codes-cells}
 use Rattle.writing.specs.Internal.Take.{restsOf, Since, Each, Standing}
 use Rattle.writing.specs.Internal.Measure.{namesFrom, ListAt, ListTakes}

@@ -12,9 +12,8 @@ use Rattle.reading.specs.Reading.{Nodes, render, wholes as wholesIn}
 use Rattle.reading.specs.Ground.{cellNamed}
 use Rattle.reading.specs.Prefix.{Name, numbersOf, Prefix, Ahead, IsName}
 use Rattle.writing.specs.declared.Taken.{Taken}
-use Rattle.reading.specs.Written.{nodeOf, side}
+use Rattle.reading.specs.Written.{nodeOf, side, under}
 use Rattle.writing.specs.Write.{allCodes}
-use Rattle.reading.specs.Laws.Built.{under}
 use Rattle.writing.specs.Internal.Take.{restsOf, Each, Standing, Took}
 
 -- the names of the codes from a place on

@@ -31,9 +31,9 @@ use Rattle.reading.specs.Ground.{cellNamed}
 use Rattle.reading.specs.Prefix.{Name, numbersOf, Prefix, Ahead, IsName, AreNames}
 use Rattle.reading.specs.Laws.Rising.{ahead-before}
 use Rattle.reading.specs.Laws.Named.{named-cell, name-named, cell-is-named, cell-named, prefix-inside}
-use Rattle.reading.specs.Written.{nodeOf, side, built}
+use Rattle.reading.specs.Written.{nodeOf, side, built, under}
 use Rattle.writing.specs.Write.{allCodes}
-use Rattle.reading.specs.Laws.Built.{under, built-side}
+use Rattle.reading.specs.Laws.Built.{built-side}
 use Rattle.writing.specs.Internal.Take.{restsOf, Since, Each, Standing, Took}
 use Rattle.writing.specs.Internal.TakeLaws.{prefix-same, prefix-both, side-in, side-out, took-none, took-join, standing-next, all-ahead, self-node, self-took, self-past, deeper, deeper-node, nine-past}
 use Rattle.writing.specs.Internal.Measure.{namesFrom, area, areaFrom, Fills, NodeAt, ListAt, NodeTakes, ListTakes}

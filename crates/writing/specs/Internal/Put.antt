@@ -8,8 +8,7 @@ use Rattle.reading.specs.declared.Level.{Level}
 use Rattle.reading.specs.Reading.{Nodes, end, first, render}
 use Rattle.reading.specs.Prefix.{Name, Ahead}
 use Rattle.writing.specs.declared.Placed.{Placed}
-use Rattle.reading.specs.Written.{nodeOf, side}
-use Rattle.reading.specs.Laws.Built.{under}
+use Rattle.reading.specs.Written.{nodeOf, side, under}
 use Rattle.writing.specs.Internal.Take.{restsOf, Each, Standing, Took}
 use Rattle.writing.specs.Internal.Measure.{namesFrom, NodeAt, ListAt}
 
