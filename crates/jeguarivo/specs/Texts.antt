@@ -1,9 +1,8 @@
 -- What the entries that read a coverage text answer, for every input. Assumes nothing.
 use mathlib.Core.Bool.{cond}
 use mathlib.Core.List.{List}
-use Prim.Native.Nat.{ℕ, zero, suc}
+use Prim.Native.Nat.{ℕ}
 use lib.ListN.{length}
-use Rattle.cell.specs.declared.Arrangement.{Arrangement}
 use Rattle.code.specs.Code.{cellOf}
 use Rattle.reading.specs.Ground.{wholeCells, sizeSum}
 use Rattle.reading.specs.TextReading.{nodesOf}

@@ -1,5 +1,5 @@
 -- `jgv_ground_nucleus` meets its contract. Assumes nothing.
-use mathlib.Core.Path.{_≡_, ap, _∙_}
+use mathlib.Core.Path.{ap, _∙_}
 use Rattle.signed.specs.Laws.Sign.{back-result}
 use Rattle.nucleus.specs.Nucleus.{groundNucleus}
 use Rattle.jeguarivo.specs.Entries.{groundFix, aFix, noFix}

@@ -1,5 +1,5 @@
 -- `jgv_parent` meets its contract. Assumes nothing.
-use mathlib.Core.Path.{_≡_, sym, ap, ap₂, _∙_}
+use mathlib.Core.Path.{ap, _∙_}
 use Rattle.cell.specs.declared.Found.{Found}
 use Rattle.cell.specs.declared.Cell.{Cell}
 use Rattle.cell.specs.Laws.Found.{found-is-cell}

@@ -1,7 +1,7 @@
 -- 01's proved table: its twelve lines as one table, over what the entries answer, and one statement. Assumes nothing.
 use mathlib.Core.Path.{_≡_, refl}
 use mathlib.Core.List.{List, [], _∷_, _++_}
-use Prim.Native.Nat.{ℕ, zero, suc, _*_, _^_}
+use Prim.Native.Nat.{ℕ, _*_, _^_}
 use lib.IntN.{ℤ, pos, negℤ}
 use Rattle.ternary.specs.Digits.{value}
 use Rattle.ternary.specs.Weave.{rowIn, columnIn}
@@ -9,7 +9,7 @@ use Rattle.root.specs.Floor.{rootFloor}
 use Rattle.logic.specs.Refusal.{_otherwise_, given}
 use Rattle.cell.specs.Cell.{arrangementRefusal}
 use Rattle.cell.specs.Neighbour.{neighbourOf}
-use Rattle.code.specs.Code.{codeOf, cellOf, codeRefusal}
+use Rattle.code.specs.Code.{codeOf, cellOf, codeRefusal, coded}
 use Rattle.plane.specs.Plane.{pointRefusal}
 use Rattle.locate.specs.Fix.{fixCell, fixRefusal}
 use Rattle.name.specs.Name.{nameRefusal, nameCode}
@@ -65,6 +65,6 @@ table =
     []
 
 pub proved-table : AllHold table
-unfolding table _otherwise_ given value rowIn columnIn codeAnswer codeOf cellOf codeRefusal arrangementRefusal nameAnswer nameRefusal nameCode fixCode fixRefusal fixCell rootFloor neighbourCode neighbourOf pointCode pointRefusal checkedText textRefusal isText readText toEnd parse placeOf lead scan
+unfolding table _otherwise_ given value rowIn columnIn codeAnswer coded codeOf cellOf codeRefusal arrangementRefusal nameAnswer nameRefusal nameCode fixCode fixRefusal fixCell rootFloor neighbourCode neighbourOf pointCode pointRefusal checkedText textRefusal isText readText toEnd parse placeOf lead scan
 proved-table =
     ((refl, refl), ((refl, refl), ((refl, refl), ((refl, refl), ((refl, refl), ((refl, refl), ((refl, refl), ((refl, refl), ((refl, refl), ((refl, refl), ((refl, refl), ((refl, refl), (refl, (refl, (refl, tt)))))))))))))))
