@@ -1,6 +1,6 @@
 -- Demand 3 over the cells of the grid: of a text in 01's grammar, its reading, its ground, its whole cells, and what is reported of them. For any
 -- heading, for faces of which each or only O to R may hold lists, and any greatest depth up to 15. Assumes nothing.
-use mathlib.Core.Path.{_≡_, refl, sym, ap, _∙_}
+use mathlib.Core.Path.{_≡_, sym, ap, _∙_}
 use mathlib.Core.List.{List, _++_, map, append-cancel-left}
 use Prim.Native.Nat.{ℕ, _+_, _-_, _^_, _≤_}
 use native.Mathlib.Omega.{arith}
@@ -11,7 +11,7 @@ use Rattle.code.specs.Code.{sizeOf}
 use Rattle.code.specs.Inside.{Inside}
 use Rattle.reading.specs.declared.Level.{Level}
 use Rattle.reading.specs.declared.Level.the-variants.{Faces}
-use Rattle.reading.specs.Reading.{Nodes, OfFaces, many, render, names}
+use Rattle.reading.specs.Reading.{Nodes, OfFaces, render, names}
 use Rattle.reading.specs.Laws.Reading.{six-faces}
 use Rattle.reading.specs.Ground.{cellNamed, wholeCells, Finest, Covers, SameGround, Cells, Rising, Apart, sizeSum}
 use Rattle.reading.specs.Text.{heading, Reads, ReadsAs}

@@ -7,6 +7,7 @@ use Prim.Native.Nat.{ℕ, zero, suc, _+_, _-_, _*_, _/_, _%_, _^_, _<_}
 use native.Mathlib.Nat.{pow-suc, mul-comm, mul-assoc, add-mul, zero-mul, div-one, div-div-eq-div-mul, div-eq-of-lt, mul-add-div-right}
 use native.Mathlib.Omega.{arith}
 use lib.ListN.{length, length-append, length-map}
+use Rattle.logic.specs.Laws.Lists.{all-map, any-map}
 use Rattle.ternary.specs.Digits.{value, Below}
 use Rattle.ternary.specs.Laws.Digits.{value-snoc, value-below, value-one}
 use Rattle.ternary.specs.Laws.Powers.{power-add, power-pos}
@@ -210,9 +211,7 @@ prefix-inside c x v w h =
 -- ---- lists of cells and of names
 
 pub covers-covered : (qs : List Cell) (x : Cell) → Covers qs x → Covered (map numbersOf qs) (numbersOf x)
-covers-covered [] x h = h
-covers-covered (q ∷ qs) x (inl h) = inl (inside-prefix q x h)
-covers-covered (q ∷ qs) x (inr h) = inr (covers-covered qs x h)
+covers-covered qs x = any-map (λ (q : Cell). Inside q x) (λ (q : Name). Prefix q (numbersOf x)) numbersOf (λ q. inside-prefix q x) qs
 
 pub covered-covers : (qs : List Cell) (x : Cell) → Cells qs → IsCell x → Covered (map numbersOf qs) (numbersOf x) → Covers qs x
 covered-covers [] x c w h = h
@@ -220,16 +219,14 @@ covered-covers (q ∷ qs) x c w (inl h) = inl (prefix-inside q x (c .0) w h)
 covered-covers (q ∷ qs) x c w (inr h) = inr (covered-covers qs x (c .1) w h)
 
 pub cells-named : (qs : List Name) → AreNames 6 15 qs → Cells (map cellNamed qs)
-cells-named [] n = tt
-cells-named (q ∷ qs) n = (named-cell q (n .0), cells-named qs (n .1))
+cells-named = all-map (IsName 6 15) IsCell cellNamed named-cell
 
 pub names-named : (qs : List Name) → AreNames 6 15 qs → map numbersOf (map cellNamed qs) ≡ qs
 names-named [] n = refl
 names-named (q ∷ qs) n = ap₂ _∷_ (name-named q (n .0)) (names-named qs (n .1))
 
 pub names-of-cells : (qs : List Cell) → Cells qs → AreNames 6 15 (map numbersOf qs)
-names-of-cells [] c = tt
-names-of-cells (q ∷ qs) c = (cell-is-named q (c .0), names-of-cells qs (c .1))
+names-of-cells = all-map IsCell (IsName 6 15) numbersOf cell-is-named
 
 -- ---- ground
 
