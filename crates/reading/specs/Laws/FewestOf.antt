@@ -21,8 +21,8 @@ use Rattle.reading.specs.Laws.Rising.{ahead-before, code-before}
 use Rattle.reading.specs.Laws.Fewest.{Ordered, one-names}
 use Rattle.reading.specs.Laws.Demand.{whole-names, good-cells, whole-cells, fewest}
 use Rattle.reading.specs.Written.{nodesFor, writtenText}
-use Rattle.reading.specs.TextReading.{readText, nodesIn, nodesOf}
-use Rattle.reading.specs.Laws.TextReading.{read-accepted}
+use Rattle.reading.specs.TextReading.{nodesOf}
+use Rattle.reading.specs.Laws.TextReading.{read-nodes}
 use Rattle.reading.specs.Laws.Written.{written-reads, written-ground}
 
 -- ---- cells that rise have names of which no later one is ahead
@@ -75,10 +75,7 @@ module _ (qs : List Cell) (c : Cells qs) where
   written-fewest = whole-fewest tt (omega arith) body (Covers qs) (λ x k. let w = written-ground qs c x k in (w .1, w .0))
 
   pub text-fewest : (n s : ℕ) → n ≤ 3 → s ≤ 3 → FewestOf (Covers qs) (wholeCells (nodesOf (writtenText n s qs)))
-  unfolding nodesOf
-  text-fewest n s a b =
-      let e : nodesIn (readText (writtenText n s qs)) ≡ nodesFor qs = ap nodesIn (read-accepted (written-reads qs c n s a b)) in
-      rw e written-fewest
+  text-fewest n s a b = rw (read-nodes (written-reads qs c n s a b)) written-fewest
 
   -- a list of fewest cells of any ground that they fill is that
   only-fewest : (P : Cell → Type 0) → Fills P qs → (ps : List Cell) → FewestOf P ps → ps ≡ wholeCells (nodesFor qs)
