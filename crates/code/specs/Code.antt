@@ -37,7 +37,7 @@ codeOf c = codeAt (c .face) (c .resolution) (pathOf c)
 unfoldable pub sizeOf : Cell → ℕ
 sizeOf c = 9 ^ (15 - c .resolution)
 
--- ---- a code read back. That these undo `codeOf`, and that no other number is a code, is shown in CodeLaws
+-- ---- a code read back. That these undo `codeOf`, and that no other number is a code, is shown in Laws/Code
 
 unfoldable pub pathIn : ℕ → ℕ
 pathIn code = code / 16 % 9 ^ 15 / 9 ^ (15 - code % 16)

@@ -1,4 +1,5 @@
 pub mod Choice
 pub mod Laws
+pub mod Lists
 pub mod Refusal
 pub mod Rise

@@ -4,11 +4,7 @@ use mathlib.Core.List.{List}
 use Prim.Native.Nat.{_≤_}
 use lib.ListN.{length}
 use Rattle.cell.specs.declared.Cell.{Cell}
-use Rattle.reading.specs.Ground.{Finest, Covers, Cells, Rising}
-
--- the cells cover the ground, and nothing else
-abbrev pub Fills : (P : Cell → Type 0) → List Cell → Type 0
-Fills P qs = (x : Cell) → Finest x → (Covers qs x → P x) × (P x → Covers qs x)
+use Rattle.reading.specs.Ground.{Fills, Cells, Rising}
 
 -- "the fewest cells in rising order"
 pub record FewestOf (P : Cell → Type 0) (qs : List Cell) : Type 0 where

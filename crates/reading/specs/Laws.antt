@@ -4,6 +4,7 @@ pub mod Fewest
 pub mod FewestOf
 pub mod Ground
 pub mod Heading
+pub mod Loose
 pub mod Named
 pub mod Parse
 pub mod Place

@@ -1,4 +1,5 @@
--- Nodes of the looser form: letters, digits and nesting as in 01's grammar, with no order and no uniqueness asked (02). Assumes nothing.
+-- Nodes of the looser body (02, W-206): "same letters, digits and bracket nesting, depth 15, no list for a digit that deep, no order or uniqueness
+-- asked". Assumes nothing.
 use Prim.Native.Nat.{ℕ, _-_, _<_}
 use Rattle.reading.specs.declared.Level.{Level}
 use Rattle.reading.specs.declared.Level.the-variants.{Digits}

@@ -9,15 +9,23 @@ use Rattle.reading.specs.Text.{Accepted}
 use Rattle.reading.specs.Heading.{least, greatest, lead}
 use Rattle.reading.specs.Scan.{scan, start}
 
+-- a string that is so begins with p
+abbrev pub BeginsOne : (P : List ℕ → Type 0) → List ℕ → Type 0
+BeginsOne P p = (q : List ℕ) × P (p ++ q)
+
+-- k is the length of the longest leading part of t that such a string begins with
+pub record LongestOf (P : List ℕ → Type 0) (t : List ℕ) (k : ℕ) : Type 0 where
+  pub within : k ≤ length t
+  pub begun : BeginsOne P (take k t)
+  pub longest : (j : ℕ) → j ≤ length t → BeginsOne P (take j t) → j ≤ k
+
 -- "some accepted text begins with" p, "length limit aside"
 abbrev pub Begins : List ℕ → Type 0
-Begins p = (q : List ℕ) × Accepted (p ++ q)
+Begins p = BeginsOne Accepted p
 
 -- "the length of the longest leading part that some accepted text begins with"
-pub record Longest (t : List ℕ) (k : ℕ) : Type 0 where
-  pub within : k ≤ length t
-  pub begun : Begins (take k t)
-  pub longest : (j : ℕ) → j ≤ length t → Begins (take j t) → j ≤ k
+abbrev pub Longest : List ℕ → ℕ → Type 0
+Longest t k = LongestOf Accepted t k
 
 -- ---- computed: by the test of the heading and the scan of the body (Laws/Place shows that it is the longest)
 

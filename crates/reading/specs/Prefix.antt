@@ -4,6 +4,7 @@ use mathlib.Core.Logic.{_⊎_}
 use mathlib.Core.List.{List, [], _∷_}
 use Prim.Native.Nat.{ℕ, zero, suc, _≤_, _<_}
 use lib.ListN.{length}
+use Rattle.logic.specs.Lists.{All, Any, Pairwise}
 use Rattle.ternary.specs.Digits.{Below}
 use Rattle.cell.specs.declared.Cell.{Cell}
 use Rattle.code.specs.Code.{digitsOf}
@@ -24,8 +25,7 @@ Prefix (a ∷ q) (b ∷ p) = (a ≡ b) × Prefix q p
 
 -- p begins with one of these
 abbrev pub Covered : List Name → Name → Type 0
-Covered [] p = ⊥
-Covered (q ∷ qs) p = Prefix q p ⊎ Covered qs p
+Covered qs p = Any (λ (q : Name). Prefix q p) qs
 
 -- n digits
 abbrev pub Digs : ℕ → List ℕ → Type 0
@@ -49,8 +49,7 @@ IsName m r [] = ⊥
 IsName m r (x ∷ q) = (x < m) × (length q ≤ r) × Below 9 q
 
 abbrev pub AreNames : (m r : ℕ) → List Name → Type 0
-AreNames m r [] = Unit {0}
-AreNames m r (q ∷ qs) = IsName m r q × AreNames m r qs
+AreNames m r qs = All (IsName m r) qs
 
 -- at the first number that differs, q has the smaller one
 abbrev pub Ahead : (q p : Name) → Type 0
@@ -59,10 +58,8 @@ Ahead (a ∷ q) [] = ⊥
 Ahead (a ∷ q) (b ∷ p) = (a < b) ⊎ ((a ≡ b) × Ahead q p)
 
 abbrev pub AheadAll : Name → List Name → Type 0
-AheadAll q [] = Unit {0}
-AheadAll q (p ∷ ps) = Ahead q p × AheadAll q ps
+AheadAll q qs = All (Ahead q) qs
 
 -- each is ahead of all that come later
 abbrev pub InOrder : List Name → Type 0
-InOrder [] = Unit {0}
-InOrder (q ∷ qs) = AheadAll q qs × InOrder qs
+InOrder qs = Pairwise Ahead qs

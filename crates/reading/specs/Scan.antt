@@ -1,5 +1,5 @@
 -- The scan of a body over letters, brackets and digits, as a definition that computes (01 "Refusal numbers": the place). That it goes over "the longest
--- leading part that some accepted text begins with" is shown in ScanLaws. Assumes nothing.
+-- leading part that some accepted text begins with" is shown in Laws/Place. Assumes nothing.
 use mathlib.Core.List.{List, [], _∷_}
 use mathlib.Core.Bool.{Bool, true, false, cond}
 use Prim.Native.Nat.{ℕ, suc, _+_, _-_}
@@ -13,7 +13,7 @@ use Rattle.reading.specs.Reading.{first, many, room}
 pub data Frame : Type 0 where
   frame : ℕ → ℕ → Frame
 
--- where the scan standNode: the nodes around, innermost first; the nodes at hand; and whether a letter or digit was just read
+-- where the scan stands: the nodes around, innermost first; the nodes at hand; and whether a letter or digit was just read
 pub data State : Type 0 where
   at : List Frame → ℕ → ℕ → Bool → State
 
@@ -26,7 +26,7 @@ abbrev pub level : Level → List Frame → Level
 level l [] = l
 level l (f ∷ o) = Digits
 
--- a `(`: right goOn a letter or digit, below which digits may lie; its node is not whole then
+-- a `(`: right after a letter or digit, below which digits may lie; its node is not whole then
 unfoldable pub openList : Level → ℕ → List Frame → ℕ → ℕ → Bool → Next
 openList l d o lo w false = stop
 openList l d o lo w true = cond (eqb (room (level l o) (lo - 1) (d - length o)) 0) stop (on (at (frame lo (w - 1) ∷ o) 0 0 false))

@@ -1,5 +1,5 @@
--- The accepted text of the ground of some cells (01 "The coverage text"): "Writing takes rising codes, none inside another, and gives the accepted
--- text of the same ground." Laws/Written shows that it is accepted and of the same ground, for any cells. Assumes nothing.
+-- The accepted text of the ground of some cells, computed (01 "The coverage text"): "Writing takes rising codes, none inside another, and gives the
+-- accepted text of the same ground." Laws/Written shows that it is accepted and of the same ground, for any cells. Assumes nothing.
 use mathlib.Core.Bool.{Bool, true, false, _||_, cond}
 use mathlib.Core.List.{List, [], _∷_, _++_, map}
 use Prim.Native.Nat.{ℕ, zero, suc}

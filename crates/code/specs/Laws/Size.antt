@@ -1,5 +1,5 @@
 -- A cell's size is its number of finest cells, and its nine children share these out, one after the other. Assumes nothing.
-use mathlib.Core.Path.{_≡_, refl, sym, ap, ap₂, subst, _∙_}
+use mathlib.Core.Path.{_≡_, sym, ap, ap₂, subst, _∙_}
 use mathlib.Core.Bool.{Bool, true}
 use Prim.Native.Nat.{ℕ, suc, _+_, _-_, _*_, _/_, _%_, _^_, _≤_, _<_}
 use native.Mathlib.Numerals.{add-one}
@@ -17,7 +17,7 @@ use Rattle.cell.specs.Hierarchy.{childOf}
 use Rattle.code.specs.Code.{pathOf, sizeOf}
 use Rattle.code.specs.Laws.Code.{path-weave, code-one}
 use Rattle.code.specs.Inside.{Inside, startOf, endOf}
-use Rattle.code.specs.Laws.Inside.{start-code, end-small, finest-inside, inside-finest}
+use Rattle.code.specs.Laws.Inside.{start-code, end-small, size-pos, finest-inside, inside-finest}
 use Rattle.code.specs.Finest.{Finest}
 use Rattle.code.specs.Number.{startAs, cellAs}
 use Rattle.code.specs.Laws.Number.{cell-as, as-fine, as-start}
@@ -59,16 +59,21 @@ child-start c d h l =
 
 -- ---- "A cell's size is its number of finest cells"
 
--- each number below 6 x 9^15 is the start of a finest cell
+-- each number below 6 x 9^15 is the start of a finest cell,
 pub finest-at : (n : ℕ) → n < 6 * 9 ^ 15 → (x : Cell) × Finest x × (startOf x ≡ n)
 unfolding startAs
 finest-at n h =
     (cellAs 15 n, record { cell = cell-as 15 n (omega arith) h; finest = as-fine 15 n (omega arith) h }, as-start 15 n (omega arith) h ∙ mul-one n)
 
--- and of no other
+-- of one only,
 pub one-finest : {x y : Cell} → Finest x → Finest y → startOf x ≡ startOf y → x ≡ y
 one-finest {x} {y} f g e =
     code-one x y (f .cell) (g .cell) (omega (arith, f .finest, g .finest, start-code x (f .cell), start-code y (g .cell)))
+
+-- and no other number is one
+pub finest-small : (x : Cell) → Finest x → startOf x < 6 * 9 ^ 15
+unfolding endOf
+finest-small x f = omega (arith, end-small x (f .cell), size-pos x, f .cell .faced)
 
 module _ (c : Cell) (v : IsCell c) where
   -- a finest cell lies inside exactly when its number is in the cell's range

@@ -14,16 +14,13 @@ use Rattle.logic.specs.Laws.Bools.{by-cond, clash}
 use Rattle.reading.specs.declared.Level.{Level}
 use Rattle.reading.specs.declared.Level.the-variants.{Digits}
 use Rattle.reading.specs.Reading.{Nodes, end, whole, listed, first, many, room, wholes, render, Some, Good}
-use Rattle.reading.specs.Text.{Reads}
+use Rattle.reading.specs.Text.{Reads, Body}
 use Rattle.reading.specs.Laws.Reading.{eq-or, first-big, many-most, room-all, wholes-most}
 use Rattle.reading.specs.Internal.JoinLaws.{join, next, ends, render-join, next-join, ends-join, wholes-join, some-join, good-join, good-split, next-from, next-some, some-next, last-whole}
+use Rattle.reading.specs.Place.{BeginsOne, LongestOf}
 use Rattle.reading.specs.Scan.{Frame, frame, State, at, Next, stop, on, level, openList, shutList, standNode, step, goOn, scan, start}
 
--- some body, a text without its heading, begins with p
-abbrev pub BodyBegins : Level → ℕ → List ℕ → Type 0
-BodyBegins l d p = (q : List ℕ) × (ns : Nodes) × Reads [] l d (p ++ q) ns
-
--- ---- where the scan standNode in a reading
+-- ---- where the scan stands in a reading
 
 -- the lists around: in each the nodes before, and the number of the node whose list is being read
 data Around : Type 0 where
@@ -64,7 +61,7 @@ level-frames l (into ns c o) = refl
 abbrev Open : Level → ℕ → Around → Nodes → Type 0
 Open l d o ns = wholes ns ≡ 9 → (b : Nodes) × (c : ℕ) × (ns ≡ join b (whole c end)) × (0 < room (levelOf l o) c (d - depth o))
 
--- the scan standNode at s goOn the bytes p: in these lists, behind these nodes
+-- the scan stands at s after the bytes p: in these lists, behind these nodes
 record Stands (l : Level) (d : ℕ) (p : List ℕ) (s : State) : Type 0 where
   around : Around
   nodes : Nodes
@@ -74,7 +71,7 @@ record Stands (l : Level) (d : ℕ) (p : List ℕ) (s : State) : Type 0 where
   state : s ≡ at (frames around) (next 0 nodes) (wholes nodes) (ends false nodes)
   bytes : p ≡ before l around ++ render (levelOf l around) nodes
 
--- ---- from where the scan standNode, a body can be reached
+-- ---- from where the scan stands, a body can be reached
 
 -- the nodes at hand, with all lists around closed behind them
 abbrev plug : Around → Nodes → Nodes
@@ -121,7 +118,7 @@ module _ (l : Level) (d : ℕ) where
   -- nine whole nodes: a list follows the last
   begins-nine :
       (o : Around) (ns : Nodes) → GoodAround l d o → Good (levelOf l o) (d - depth o) 0 ns → wholes ns ≡ 9 → Open l d o ns →
-      BodyBegins l d (before l o ++ render (levelOf l o) ns)
+      BeginsOne (Body l d) (before l o ++ render (levelOf l o) ns)
   begins-nine o ns g h e f =
       let k = f e in
       let bs : Nodes = k .0 in
@@ -132,29 +129,30 @@ module _ (l : Level) (d : ℕ) where
       finish o ms g
       (good-join (levelOf l o) (d - depth o) 0 bs (listed c (whole 0 end) end) (s .0) (s .1 .0, s .1 .1, k .3, tt, (λ z. omega arith), (omega arith, omega arith, tt), tt))
       (fine-listed o bs (whole 0 end) c (s .0) (s .1 .0) (s .1 .1)) in
-      (40 ∷ 48 ∷ 41 ∷ closes o, plug o ms, record { good = t .good; all = (rw (k .2) (simp (render-join, append-assoc))) ∙ t .all })
+      (40 ∷ 48 ∷ 41 ∷ closes o, (plug o ms, record { good = t .good; all = (rw (k .2) (simp (render-join, append-assoc))) ∙ t .all }))
 
   -- else the lists are closed, an empty one behind a `0`
   begins-open :
       (o : Around) (ns : Nodes) → GoodAround l d o → Good (levelOf l o) (d - depth o) 0 ns → (wholes ns ≡ 9 → ⊥) →
-      BodyBegins l d (before l o ++ render (levelOf l o) ns)
-  begins-open top ns g h f = ([], ns, finish top ns g h tt)
+      BeginsOne (Body l d) (before l o ++ render (levelOf l o) ns)
+  begins-open top ns g h f = ([], (ns, finish top ns g h tt))
   begins-open (into bs c o) end g h f =
       let t = finish (into bs c o) (whole 0 end) g (omega arith, omega arith, tt) (tt, (λ z. omega arith)) in
-      (48 ∷ 41 ∷ closes o, plug (into bs c o) (whole 0 end), record { good = t .good; all = (simp append-assoc) ∙ t .all })
+      (48 ∷ 41 ∷ closes o, (plug (into bs c o) (whole 0 end), record { good = t .good; all = (simp append-assoc) ∙ t .all }))
   begins-open (into bs c o) (whole e ns) g h f =
       let t = finish (into bs c o) (whole e ns) g h (tt, f) in
-      (41 ∷ closes o, plug (into bs c o) (whole e ns), record { good = t .good; all = (simp append-assoc) ∙ t .all })
+      (41 ∷ closes o, (plug (into bs c o) (whole e ns), record { good = t .good; all = (simp append-assoc) ∙ t .all }))
   begins-open (into bs c o) (listed e is ns) g h f =
       let t = finish (into bs c o) (listed e is ns) g h (tt, f) in
-      (41 ∷ closes o, plug (into bs c o) (listed e is ns), record { good = t .good; all = (simp append-assoc) ∙ t .all })
+      (41 ∷ closes o, (plug (into bs c o) (listed e is ns), record { good = t .good; all = (simp append-assoc) ∙ t .all }))
 
-  begins : (p : List ℕ) (s : State) → Stands l d p s → BodyBegins l d p
+  begins : (p : List ℕ) (s : State) → Stands l d p s → BeginsOne (Body l d) p
   begins p s z =
       rw (z .bytes)
-      (⊎-elim (λ e. begins-nine (z .around) (z .nodes) (z .good-around) (z .good) e (z .continues)) (λ e. begins-open (z .around) (z .nodes) (z .good-around) (z .good) e) (eq-or (wholes (z .nodes)) 9))
+      (⊎-elim (λ e. begins-nine (z .around) (z .nodes) (z .good-around) (z .good) e (z .continues))
+      (λ e. begins-open (z .around) (z .nodes) (z .good-around) (z .good) e) (eq-or (wholes (z .nodes)) 9))
 
-  -- ---- where the scan goes on, it standNode again
+  -- ---- where the scan goes on, it stands again
 
   abbrev Goes : List ℕ → Next → Type 0
   Goes p stop = Unit {0}
@@ -267,15 +265,15 @@ module _ (l : Level) (d : ℕ) where
   goes-on p s b z = rw (z .state, z .bytes) (goes (z .around) (z .nodes) b (z .good-around) (z .good))
 
   -- what the scan goes over, some body begins with
-  reached : (bs p : List ℕ) (s : State) → Stands l d p s → BodyBegins l d (p ++ take (scan l d s bs) bs)
+  reached : (bs p : List ℕ) (s : State) → Stands l d p s → BeginsOne (Body l d) (p ++ take (scan l d s bs) bs)
   unfolding scan
   reached [] p s z = rw append-nil (begins p s z)
   reached (b ∷ bs) p s z = go (step l d s b) (goes-on p s b z) (λ t y. reached bs (p ++ (b ∷ [])) t y)
     where
       go :
           (n : Next) → Goes (p ++ (b ∷ [])) n →
-          ((t : State) → Stands l d (p ++ (b ∷ [])) t → BodyBegins l d ((p ++ (b ∷ [])) ++ take (scan l d t bs) bs)) →
-          BodyBegins l d (p ++ take (goOn n (λ t. scan l d t bs)) (b ∷ bs))
+          ((t : State) → Stands l d (p ++ (b ∷ [])) t → BeginsOne (Body l d) ((p ++ (b ∷ [])) ++ take (scan l d t bs) bs)) →
+          BeginsOne (Body l d) (p ++ take (goOn n (λ t. scan l d t bs)) (b ∷ bs))
       go stop y f = rw append-nil (begins p s z)
       go (on t) y f = rw append-assoc at (f t y)
 
@@ -330,7 +328,8 @@ over (whole c ns) l d o lo w t rest g h =
     rw e (omega (arith, k, i))
 over (listed c is ns) l d o lo w t rest g h =
     let r : ℕ = room (level l o) c (d - length o) - 1 in
-    let a : (render Digits is ++ (41 ∷ render (level l o) ns)) ++ rest ≡ render Digits is ++ (41 ∷ (render (level l o) ns ++ rest)) = append-assoc (render Digits is) (41 ∷ render (level l o) ns) rest in
+    let a : (render Digits is ++ (41 ∷ render (level l o) ns)) ++ rest ≡ render Digits is ++ (41 ∷ (render (level l o) ns ++ rest)) =
+    append-assoc (render Digits is) (41 ∷ render (level l o) ns) rest in
     let e : r ≡ d - suc (length o) = omega (arith, room-all (level l o) c (d - length o) (g .2)) in
     let tail : List ℕ = 41 ∷ (render (level l o) ns ++ rest) in
     let n : 0 + wholes is < 9 = omega (arith, wholes-most is Digits r 0 (g .5) (omega arith), g .4) in
@@ -374,24 +373,18 @@ scan-within l d (b ∷ t) s = go (step l d s b) (λ x. scan-within l d t x)
 
 -- ---- the theorem
 
--- k is the length of the longest leading part of t that some body begins with
-pub record LongestBody (l : Level) (d : ℕ) (t : List ℕ) (k : ℕ) : Type 0 where
-  pub within : k ≤ length t
-  pub begun : BodyBegins l d (take k t)
-  pub longest : (j : ℕ) → j ≤ length t → BodyBegins l d (take j t) → j ≤ k
-
 module _ (l : Level) (few : many l ≤ 8) (d : ℕ) (t : List ℕ) where
-  not-past : (j : ℕ) → j ≤ length t → BodyBegins l d (take j t) → j ≤ scan l d start t
+  not-past : (j : ℕ) → j ≤ length t → BeginsOne (Body l d) (take j t) → j ≤ scan l d start t
   not-past j h z =
       let e : length (take j t) ≡ j = length-take-le j t h in
       let u : List ℕ = take j t ++ z .0 in
-      let w : wholes (z .1) + 0 ≤ many l = wholes-most (z .1) l d 0 (z .2 .good) (omega arith) in
-      let a : scan l d start u ≡ length u = rw (z .2 .all) (all-over l d (z .1) (z .2 .good) (omega arith)) in
+      let w : wholes (z .1 .0) + 0 ≤ many l = wholes-most (z .1 .0) l d 0 (z .1 .1 .good) (omega arith) in
+      let a : scan l d start u ≡ length u = rw (z .1 .1 .all) (all-over l d (z .1 .0) (z .1 .1 .good) (omega arith)) in
       let b : length (take j t) ≤ scan l d start (take j t ++ drop j t) = alike l d (take j t) (z .0) (drop j t) start (omega (arith, a, length-append (take j t) (z .0))) in
       let c : length (take j t) ≤ scan l d start t = rw (take-append-drop j t) at b in
       omega arith
 
-  pub scan-longest : LongestBody l d t (scan l d start t)
+  pub scan-longest : LongestOf (Body l d) t (scan l d start t)
   scan-longest =
       record {
         within = scan-within l d t start;

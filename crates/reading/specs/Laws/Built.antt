@@ -1,21 +1,21 @@
 -- The nodes built of names are of the grammar, and cover what the names cover. Assumes nothing.
 use mathlib.Core.Path.{_≡_, refl, sym, ap, _∙_}
-use mathlib.Core.Bool.{Bool, true, false, _||_, cond}
+use mathlib.Core.Bool.{Bool, true, false, _||_}
 use mathlib.Core.Logic.{_⊎_, inl, inr, ⊎-elim}
 use mathlib.Core.List.{List, [], _∷_}
 use Prim.Native.Nat.{ℕ, zero, suc, _+_, _-_, _≤_, _<_}
 use native.Mathlib.Omega.{arith}
 use lib.Dec.{eqb}
 use lib.ListN.{length}
-use borrow.Author.Tests.{eq-eqb, ne-eqb, eqb-true, eqb-false}
+use borrow.Author.Tests.{eq-eqb, eqb-true, eqb-false}
 use Rattle.logic.specs.Laws.Order.{lt-or}
 use Rattle.logic.specs.Laws.Bools.{by-cond, clash, or-either, or-left, or-right}
 use Rattle.ternary.specs.Digits.{Below}
 use Rattle.reading.specs.declared.Level.{Level}
 use Rattle.reading.specs.declared.Level.the-variants.{Faces, Digits}
-use Rattle.reading.specs.Reading.{Nodes, end, whole, listed, many, room, wholes, Some, Good, names}
+use Rattle.reading.specs.Reading.{Nodes, many, room, wholes, Some, Good, names}
 use Rattle.reading.specs.Laws.Reading.{eq-or}
-use Rattle.reading.specs.Prefix.{Name, Prefix, Covered, Digs, FinestName, SameNames, IsName, AreNames}
+use Rattle.reading.specs.Prefix.{Name, Covered, Digs, SameNames, AreNames}
 use Rattle.reading.specs.Laws.Ground.{In, in→covered, covered→in, nine-cover}
 use Rattle.reading.specs.Written.{tails, anyEnds, nodeOf, side, built, under}
 

@@ -1,7 +1,7 @@
 -- Demand 3 over the cells of the grid: of a text in 01's grammar, its reading, its ground, its whole cells, and what is reported of them. For any
 -- heading, for faces of which each or only O to R may hold lists, and any greatest depth up to 15. Assumes nothing.
 use mathlib.Core.Path.{_≡_, refl, sym, ap, _∙_}
-use mathlib.Core.List.{List, _++_, map, append-cancel-left}
+use mathlib.Core.List.{List, [], _++_, map, append-cancel-left}
 use Prim.Native.Nat.{ℕ, _+_, _-_, _^_, _≤_}
 use native.Mathlib.Omega.{arith}
 use lib.ListN.{length, length-map}
@@ -11,7 +11,7 @@ use Rattle.code.specs.Code.{sizeOf}
 use Rattle.code.specs.Inside.{Inside}
 use Rattle.reading.specs.declared.Level.{Level}
 use Rattle.reading.specs.declared.Level.the-variants.{Faces}
-use Rattle.reading.specs.Reading.{Nodes, OfFaces, many, render, names}
+use Rattle.reading.specs.Reading.{Nodes, OfFaces, render, Good, names}
 use Rattle.reading.specs.Laws.Reading.{six-faces}
 use Rattle.reading.specs.Ground.{cellNamed, wholeCells, Finest, Covers, SameGround, Cells, Rising, Apart, sizeSum}
 use Rattle.reading.specs.Text.{heading, Reads, ReadsAs}
@@ -39,6 +39,10 @@ one-reading-as {n} {s} {n′} {s′} {t} {a} {b} r q =
     let k : render Faces a ≡ render Faces b = cc in
     (omega arith, omega arith, render-one Faces 15 a b (r .body .good) (q .body .good) k)
 
+-- nodes of the grammar are the reading of their own bytes
+pub good-reads : (ns : Nodes) (l : Level) (d : ℕ) → Good l d 0 ns → Reads [] l d (render l ns) ns
+good-reads ns l d g = record { good = g; all = refl }
+
 module _ {h : List ℕ} {l : Level} {d : ℕ} {t : List ℕ} {ns : Nodes} (f : OfFaces l) (m : d ≤ 15) (r : Reads h l d t ns) where
   -- ---- the whole cells have the names that stand in the reading
 
@@ -53,10 +57,10 @@ module _ {h : List ℕ} {l : Level} {d : ℕ} {t : List ℕ} {ns : Nodes} (f : O
   unfolding wholeCells
   whole-names = names-named (names ns) faces-names
 
-  named-whole : (x : Cell) → IsCell x → Covered (names ns) (numbersOf x) → Covers (wholeCells ns) x
+  pub named-whole : (x : Cell) → IsCell x → Covered (names ns) (numbersOf x) → Covers (wholeCells ns) x
   named-whole x v h = covered-covers (wholeCells ns) x good-cells v (rw whole-names h)
 
-  whole-named : (x : Cell) → Covers (wholeCells ns) x → Covered (names ns) (numbersOf x)
+  pub whole-named : (x : Cell) → Covers (wholeCells ns) x → Covered (names ns) (numbersOf x)
   whole-named x h = rw whole-names at (covers-covered (wholeCells ns) x h)
 
   -- ---- the whole cells are cells, their codes rise strictly in the order they stand, and none lies inside another

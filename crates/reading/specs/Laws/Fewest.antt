@@ -2,10 +2,12 @@
 -- Assumes nothing.
 use mathlib.Core.Path.{_≡_, refl, sym, ap, ap₂, _∙_}
 use mathlib.Core.Logic.{_⊎_, inl, inr, ⊎-elim}
-use mathlib.Core.List.{List, [], _∷_, _++_, map}
+use mathlib.Core.List.{List, [], _∷_, map}
 use Prim.Native.Nat.{ℕ, zero, suc, _-_, _≤_, _<_}
 use native.Mathlib.Omega.{arith}
 use lib.ListN.{length, replicate}
+use Rattle.logic.specs.Lists.{All, Any, Mem, Pairwise}
+use Rattle.logic.specs.Laws.Lists.{all-append, all-map, any-each, any-mem, mem-any, mem-all, all-mem}
 use Rattle.ternary.specs.Digits.{Below}
 use Rattle.reading.specs.declared.Level.{Level}
 use Rattle.reading.specs.declared.Level.the-variants.{Digits}
@@ -17,28 +19,35 @@ use Rattle.reading.specs.Laws.Rising.{names-rise}
 
 -- ---- no name begins with two of names in rising order
 
-ahead-disjoint : (q w p : Name) → Ahead q w → Prefix q p → Prefix w p → ⊥
-ahead-disjoint [] w p f h k = f
-ahead-disjoint (x ∷ q) [] p f h k = f
-ahead-disjoint (x ∷ q) (y ∷ w) [] f h k = h
-ahead-disjoint (x ∷ q) (y ∷ w) (z ∷ p) (inl l) h k = omega (arith, h .0, k .0)
-ahead-disjoint (x ∷ q) (y ∷ w) (z ∷ p) (inr f) h k = ahead-disjoint q w p (f .1) (h .1) (k .1)
+ahead-longer : (w v p q : Name) → Ahead w v → Prefix w p → Prefix v q → Ahead p q
+ahead-longer [] v p q f h k = absurd f
+ahead-longer (a ∷ w) [] p q f h k = absurd f
+ahead-longer (a ∷ w) (b ∷ v) [] q f h k = absurd h
+ahead-longer (a ∷ w) (b ∷ v) (c ∷ p) [] f h k = absurd k
+ahead-longer (a ∷ w) (b ∷ v) (c ∷ p) (d ∷ q) (inl f) h k = inl (omega (arith, h .0, k .0))
+ahead-longer (a ∷ w) (b ∷ v) (c ∷ p) (d ∷ q) (inr f) h k = inr (sym (h .0) ∙ f .0 ∙ k .0, ahead-longer w v p q (f .1) (h .1) (k .1))
+
+ahead-covered : (w : Name) (ws : List Name) (p q : Name) → AheadAll w ws → Prefix w p → Covered ws q → Ahead p q
+ahead-covered w [] p q f h k = absurd k
+ahead-covered w (v ∷ ws) p q f h (inl k) = ahead-longer w v p q (f .0) h k
+ahead-covered w (v ∷ ws) p q f h (inr k) = ahead-covered w ws p q (f .1) h k
+
+not-ahead : (p : Name) → Ahead p p → ⊥
+not-ahead [] f = f
+not-ahead (x ∷ p) (inl f) = omega arith
+not-ahead (x ∷ p) (inr f) = not-ahead p (f .1)
 
 pub apart : (q : Name) (ws : List Name) (p : Name) → AheadAll q ws → Prefix q p → Covered ws p → ⊥
-apart q [] p f h k = k
-apart q (w ∷ ws) p f h (inl k) = ahead-disjoint q w p (f .0) h k
-apart q (w ∷ ws) p f h (inr k) = apart q ws p (f .1) h k
+apart q ws p f h k = not-ahead p (ahead-covered q ws p p f h k)
 
 -- ---- names in rising order, each with one of a list inside, are no more than the list
 
 -- a name of the list begins with w
 abbrev pub Has : Name → List Name → Type 0
-Has w [] = ⊥
-Has w (q ∷ qs) = Prefix w q ⊎ Has w qs
+Has w qs = Any (Prefix w) qs
 
 abbrev pub Each : List Name → List Name → Type 0
-Each [] qs = Unit {0}
-Each (w ∷ ws) qs = Has w qs × Each ws qs
+Each ws qs = All (λ (w : Name). Has w qs) ws
 
 -- the list without that name
 abbrev pub less : (w : Name) (qs : List Name) → Has w qs → List Name
@@ -69,53 +78,21 @@ no-more (w ∷ ws) qs a e =
 
 -- ---- the names of a reading are names
 
-names-map : (c m r : ℕ) (a : List Name) → c < m → AreNames 9 r a → AreNames m (suc r) (map (λ (q : Name). c ∷ q) a)
-names-map c m r [] h n = tt
-names-map c m r ([] ∷ a) h n = absurd (n .0)
-names-map c m r ((y ∷ q) ∷ a) h n = ((h, omega (arith, n .0 .1), (n .0 .0, n .0 .2)), names-map c m r a h (n .1))
-
-names-append : (m r : ℕ) (a b : List Name) → AreNames m r a → AreNames m r b → AreNames m r (a ++ b)
-names-append m r [] b g h = h
-names-append m r (q ∷ a) b g h = (g .0, names-append m r a b (g .1) h)
+name-longer : (c m r : ℕ) → c < m → (q : Name) → IsName 9 r q → IsName m (suc r) (c ∷ q)
+name-longer c m r h [] n = absurd n
+name-longer c m r h (y ∷ q) n = (h, omega (arith, n .1), (n .0, n .2))
 
 pub names-good : (ns : Nodes) (l : Level) (d lo r : ℕ) → Good l d lo ns → d ≤ r → AreNames (many l) r (names ns)
 names-good end l d lo r g h = tt
 names-good (whole c ns) l d lo r g h = ((g .1, omega arith, tt), names-good ns l d (suc c) r (g .2) h)
 names-good (listed c is ns) l d lo zero g h = absurd (omega (arith, room-le l c d))
 names-good (listed c is ns) l d lo (suc r) g h =
-    names-append (many l) (suc r) (map (λ (q : Name). c ∷ q) (names is)) (names ns)
-    (names-map c (many l) r (names is) (g .1) (names-good is Digits (room l c d - 1) 0 r (g .5) (omega (arith, room-le l c d))))
+    all-append (IsName (many l) (suc r)) (map (λ (q : Name). c ∷ q) (names is)) (names ns)
+    (all-map (IsName 9 r) (IsName (many l) (suc r)) (λ q. c ∷ q) (name-longer c (many l) r (g .1)) (names is)
+    (names-good is Digits (room l c d - 1) 0 r (g .5) (omega (arith, room-le l c d))))
     (names-good ns l d (suc c) (suc r) (g .6) h)
 
--- ---- members
-
-abbrev pub Mem : Name → List Name → Type 0
-Mem w [] = ⊥
-Mem w (v ∷ vs) = (v ≡ w) ⊎ Mem w vs
-
-pub mem-covered : (vs : List Name) (w p : Name) → Mem w vs → Prefix w p → Covered vs p
-mem-covered [] w p m i = absurd m
-mem-covered (v ∷ vs) w p (inl e) i = inl (rw e i)
-mem-covered (v ∷ vs) w p (inr m) i = inr (mem-covered vs w p m i)
-
-pub covered-mem : (vs : List Name) (p : Name) → Covered vs p → (q : Name) × Mem q vs × Prefix q p
-covered-mem [] p h = absurd h
-covered-mem (v ∷ vs) p (inl h) = (v, inl refl, h)
-covered-mem (v ∷ vs) p (inr h) = let k = covered-mem vs p h in (k .0, inr (k .1), k .2)
-
-pub mem-name : (m r : ℕ) (vs : List Name) (w : Name) → AreNames m r vs → Mem w vs → IsName m r w
-mem-name m r [] w n i = absurd i
-mem-name m r (v ∷ vs) w n (inl e) = rw (← e) (n .0)
-mem-name m r (v ∷ vs) w n (inr i) = mem-name m r vs w (n .1) i
-
-pub mem-has : (qs : List Name) (w q : Name) → Mem q qs → Prefix w q → Has w qs
-mem-has [] w q m i = absurd m
-mem-has (v ∷ qs) w q (inl e) i = inl (rw e i)
-mem-has (v ∷ qs) w q (inr m) i = inr (mem-has qs w q m i)
-
-pub make-each : (ws qs : List Name) → ((w : Name) → Mem w ws → Has w qs) → Each ws qs
-make-each [] qs f = tt
-make-each (w ∷ ws) qs f = (f w (inl refl), make-each ws qs (λ v m. f v (inr m)))
+-- ---- names that begin one another
 
 pub prefix-trans : (a b c : Name) → Prefix a b → Prefix b c → Prefix a c
 prefix-trans [] b c h k = tt
@@ -124,9 +101,11 @@ prefix-trans (x ∷ a) (y ∷ b) [] h k = absurd k
 prefix-trans (x ∷ a) (y ∷ b) (z ∷ c) h k = (h .0 ∙ k .0, prefix-trans a b c (h .1) (k .1))
 
 pub covered-wider : (vs : List Name) (q p : Name) → Covered vs q → Prefix q p → Covered vs p
-covered-wider [] q p h i = absurd h
-covered-wider (v ∷ vs) q p (inl h) i = inl (prefix-trans v q p h i)
-covered-wider (v ∷ vs) q p (inr h) i = inr (covered-wider vs q p h i)
+covered-wider vs q p h i = any-each (λ (v : Name). Prefix v q) (λ (v : Name). Prefix v p) (λ v k. prefix-trans v q p k i) vs h
+
+-- what begins with a member of them begins with one of them
+pub mem-covered : (vs : List Name) (w p : Name) → Mem w vs → Prefix w p → Covered vs p
+mem-covered vs w p = mem-any (λ (v : Name). Prefix v p) vs w
 
 -- of names in rising order, the one that p begins with is the one that q begins with, if p begins with q
 pub pin : (vs : List Name) (w q p : Name) → InOrder vs → Mem w vs → Covered vs q → Prefix q p → Prefix w p → Prefix w q
@@ -140,26 +119,7 @@ pin (v ∷ vs) w q p a (inr m) (inr h) i j = pin vs w q p (a .1) m h i j
 
 -- no later one is ahead of an earlier one
 abbrev pub Ordered : List Name → Type 0
-Ordered [] = Unit {0}
-Ordered (q ∷ qs) = ((p : Name) → Mem p qs → Ahead p q → ⊥) × Ordered qs
-
-has-mem : (w : Name) (qs : List Name) → Has w qs → (p : Name) × Mem p qs × Prefix w p
-has-mem w [] h = absurd h
-has-mem w (q ∷ qs) (inl h) = (q, inl refl, h)
-has-mem w (q ∷ qs) (inr h) = let k = has-mem w qs h in (k .0, inr (k .1), k .2)
-
-ahead-longer : (w v p q : Name) → Ahead w v → Prefix w p → Prefix v q → Ahead p q
-ahead-longer [] v p q f h k = absurd f
-ahead-longer (a ∷ w) [] p q f h k = absurd f
-ahead-longer (a ∷ w) (b ∷ v) [] q f h k = absurd h
-ahead-longer (a ∷ w) (b ∷ v) (c ∷ p) [] f h k = absurd k
-ahead-longer (a ∷ w) (b ∷ v) (c ∷ p) (d ∷ q) (inl f) h k = inl (omega (arith, h .0, k .0))
-ahead-longer (a ∷ w) (b ∷ v) (c ∷ p) (d ∷ q) (inr f) h k = inr (sym (h .0) ∙ f .0 ∙ k .0, ahead-longer w v p q (f .1) (h .1) (k .1))
-
-ahead-covered : (w : Name) (ws : List Name) (p q : Name) → AheadAll w ws → Prefix w p → Covered ws q → Ahead p q
-ahead-covered w [] p q f h k = absurd k
-ahead-covered w (v ∷ ws) p q f h (inl k) = ahead-longer w v p q (f .0) h k
-ahead-covered w (v ∷ ws) p q f h (inr k) = ahead-covered w ws p q (f .1) h k
+Ordered qs = Pairwise (λ (q p : Name). Ahead p q → ⊥) qs
 
 -- digits that begin all that others begin, and no fewer, are those
 same-digits : (r : ℕ) (w q : Name) → length q ≤ r → Below 9 w → Prefix w q → ((p : Name) → Digs r p → Prefix w p → Prefix q p) → q ≡ w
@@ -181,7 +141,7 @@ same-name m r (y ∷ w) (x ∷ q) n o h f =
     ap₂ _∷_ (sym (h .0)) (same-digits r w q (o .1) (n .2) (h .1) (λ p u v. f (y ∷ p) (n .0, u) (refl, v) .1))
 
 covered-all : (qs ws : List Name) (p : Name) → ((q : Name) → Mem q qs → Covered ws q) → Covered qs p → Covered ws p
-covered-all qs ws p f h = let k = covered-mem qs p h in covered-wider ws (k .0) p (f (k .0) (k .1)) (k .2)
+covered-all qs ws p f h = let k = any-mem (λ (q : Name). Prefix q p) qs h in covered-wider ws (k .0) p (f (k .0) (k .1)) (k .2)
 
 one-list :
     (m r : ℕ) (ws qs : List Name) → AreNames m r ws → AreNames m r qs → InOrder ws → Each ws qs → ((q : Name) → Mem q qs → Covered ws q) → Ordered qs →
@@ -195,7 +155,7 @@ one-list m r (w ∷ ws) (q ∷ qs) nw nq a e f o l c =
     begins : Prefix w q
     begins =
         ⊎-elim (λ h. h)
-        (λ h. ⊎-elim (λ k. k) (λ k. let i = has-mem w qs k in absurd (o .0 (i .0) (i .1) (ahead-covered w ws (i .0) q (a .0) (i .2) h))) (e .0))
+        (λ h. ⊎-elim (λ k. k) (λ k. let i = any-mem (Prefix w) qs k in absurd (mem-all (λ (p : Name). Ahead p q → ⊥) qs (i .0) (o .0) (i .1) (ahead-covered w ws (i .0) q (a .0) (i .2) h))) (e .0))
         (f q (inl refl))
 
     each : Each ws qs
@@ -205,7 +165,7 @@ one-list m r (w ∷ ws) (q ∷ qs) nw nq a e f o l c =
     others p i =
         ⊎-elim
         (λ h.
-        let k : Has w qs = mem-has qs w p i h in
+        let k : Has w qs = mem-any (Prefix w) qs p i h in
         absurd (omega (arith, less-length w qs k, no-more ws (less w qs k) (a .1) (each-kept ws w qs k (λ p. apart w ws p (a .0)) each))))
         (λ h. h) (f p (inr i))
 
@@ -229,7 +189,7 @@ module _ (ns : Nodes) (l : Level) (d r : ℕ) (qs : List Name) (g : Good l d 0 n
   -- a name of the list is covered whole
   covers-each : (q : Name) → Mem q qs → Covered (names ns) q
   covers-each q i =
-      covered-whole ns l d r (many l) q g h (mem-name (many l) r qs q n i) (λ p u v. f p u .0 (mem-covered qs q p i v))
+      covered-whole ns l d r (many l) q g h (mem-all (IsName (many l) r) qs q n i) (λ p u v. f p u .0 (mem-covered qs q p i v))
 
   -- a name of the reading begins one of the list
   has-one : (w : Name) → Mem w (names ns) → IsName (many l) r w → Has w qs
@@ -237,12 +197,12 @@ module _ (ns : Nodes) (l : Level) (d r : ℕ) (qs : List Name) (g : Good l d 0 n
   has-one (x ∷ w) m c =
       let e = extend (length w) r w (below-digs w (c .2)) (c .1) in
       let p : Name = x ∷ e .0 in
-      let k = covered-mem qs p (f p (c .0, e .1) .1 (mem-covered (names ns) (x ∷ w) p m (refl, e .2))) in
-      mem-has qs (x ∷ w) (k .0) (k .1)
+      let k = any-mem (λ (q : Name). Prefix q p) qs (f p (c .0, e .1) .1 (mem-covered (names ns) (x ∷ w) p m (refl, e .2))) in
+      mem-any (Prefix (x ∷ w)) qs (k .0) (k .1)
       (pin (names ns) (x ∷ w) (k .0) p rise m (covers-each (k .0) (k .1)) (k .2) (refl, e .2))
 
   each-one : Each (names ns) qs
-  each-one = make-each (names ns) qs (λ w m. has-one w m (mem-name (many l) r (names ns) w named m))
+  each-one = all-mem (λ (w : Name). Has w qs) (names ns) (λ w m. has-one w m (mem-all (IsName (many l) r) (names ns) w named m))
 
   pub fewest-names : length (names ns) ≤ length qs
   fewest-names = no-more (names ns) qs rise each-one

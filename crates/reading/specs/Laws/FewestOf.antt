@@ -1,7 +1,6 @@
 -- A ground has at most one list of fewest cells in rising order; the whole cells of a reading are those of its ground; and so every list of cells has
 -- the fewest cells of its ground in the text that is written of it. Assumes nothing.
 use mathlib.Core.Path.{_≡_, refl, sym, ap, ap₂, _∙_}
-use mathlib.Core.Logic.{inl, inr}
 use mathlib.Core.List.{List, [], _∷_, map}
 use Prim.Native.Nat.{ℕ, _≤_, _<_}
 use native.Mathlib.Omega.{arith}
@@ -11,38 +10,33 @@ use Rattle.cell.specs.Cell.{IsCell}
 use Rattle.code.specs.Code.{codeOf}
 use Rattle.reading.specs.declared.Level.{Level}
 use Rattle.reading.specs.declared.Level.the-variants.{Faces}
-use Rattle.reading.specs.Reading.{Nodes, OfFaces, many, names}
+use Rattle.reading.specs.Reading.{Nodes, OfFaces, names}
 use Rattle.reading.specs.Laws.Reading.{six-faces}
-use Rattle.reading.specs.Ground.{cellNamed, wholeCells, All, Covers, SameGround, Cells, Rising}
-use Rattle.reading.specs.Fewest.{Fills, FewestOf}
+use Rattle.reading.specs.Ground.{cellNamed, wholeCells, All, Covers, Fills, SameGround, Cells, Rising}
+use Rattle.reading.specs.Fewest.{FewestOf}
 use Rattle.reading.specs.Text.{heading, Reads}
 use Rattle.reading.specs.Prefix.{Name, numbersOf, Ahead}
 use Rattle.reading.specs.Laws.Named.{names-of-cells, ground-names, cell-named}
-use Rattle.reading.specs.Laws.Rising.{rise-rising}
-use Rattle.reading.specs.Laws.Fewest.{Mem, Ordered, one-names}
+use Rattle.reading.specs.Laws.Rising.{ahead-before, code-before}
+use Rattle.reading.specs.Laws.Fewest.{Ordered, one-names}
 use Rattle.reading.specs.Laws.Demand.{whole-names, good-cells, whole-cells, fewest}
 use Rattle.reading.specs.Written.{nodesFor, writtenText}
-use Rattle.reading.specs.TextReading.{readText, nodesIn, nodesOf}
-use Rattle.reading.specs.Laws.TextReading.{read-accepted}
+use Rattle.reading.specs.TextReading.{nodesOf}
+use Rattle.reading.specs.Laws.TextReading.{read-nodes}
 use Rattle.reading.specs.Laws.Written.{written-reads, written-ground}
 
 -- ---- cells that rise have names of which no later one is ahead
 
-mem-cell : (qs : List Cell) (p : Name) → Mem p (map numbersOf qs) → Cells qs → (P : Cell → Type 0) → All P qs → (c : Cell) × IsCell c × (numbersOf c ≡ p) × P c
-mem-cell [] p m c P a = absurd m
-mem-cell (q ∷ qs) p (inl e) c P a = (q, c .0, e, a .0)
-mem-cell (q ∷ qs) p (inr m) c P a = mem-cell qs p m (c .1) P (a .1)
+rising-behind : (q : Cell) (qs : List Cell) → IsCell q → Cells qs → All (λ (x : Cell). codeOf q < codeOf x) qs → All (λ (p : Name). Ahead p (numbersOf q) → ⊥) (map numbersOf qs)
+rising-behind q [] v c r = tt
+rising-behind q (x ∷ qs) v c r = (
+  (λ f. let h = code-before x q (c .0) v (ahead-before x q (c .0) v f) in omega (arith, r .0)),
+  rising-behind q qs v (c .1) (r .1),
+)
 
 rising-ordered : (qs : List Cell) → Cells qs → Rising qs → Ordered (map numbersOf qs)
 rising-ordered [] c r = tt
-rising-ordered (q ∷ qs) c r = (
-  (λ p m f.
-      let k = mem-cell qs p m (c .1) (λ (x : Cell). codeOf q < codeOf x) (r .0) in
-      let g : Ahead (numbersOf (k .0)) (numbersOf q) = rw (k .2) f in
-      let i = rise-rising (k .0 ∷ q ∷ []) (k .1, (c .0, tt)) ((g, tt), (tt, tt)) in
-      omega (arith, k .3, i .0 .0)),
-  rising-ordered qs (c .1) (r .1),
-)
+rising-ordered (q ∷ qs) c r = (rising-behind q qs (c .0) (c .1) (r .0), rising-ordered qs (c .1) (r .1))
 
 cells-back : (qs : List Cell) → Cells qs → map cellNamed (map numbersOf qs) ≡ qs
 cells-back [] c = refl
@@ -81,10 +75,7 @@ module _ (qs : List Cell) (c : Cells qs) where
   written-fewest = whole-fewest tt (omega arith) body (Covers qs) (λ x k. let w = written-ground qs c x k in (w .1, w .0))
 
   pub text-fewest : (n s : ℕ) → n ≤ 3 → s ≤ 3 → FewestOf (Covers qs) (wholeCells (nodesOf (writtenText n s qs)))
-  unfolding nodesOf
-  text-fewest n s a b =
-      let e : nodesIn (readText (writtenText n s qs)) ≡ nodesFor qs = ap nodesIn (read-accepted (written-reads qs c n s a b)) in
-      rw e written-fewest
+  text-fewest n s a b = rw (read-nodes (written-reads qs c n s a b)) written-fewest
 
   -- a list of fewest cells of any ground that they fill is that
   only-fewest : (P : Cell → Type 0) → Fills P qs → (ps : List Cell) → FewestOf P ps → ps ≡ wholeCells (nodesFor qs)

@@ -2,11 +2,12 @@
 -- Assumes nothing.
 use mathlib.Core.Path.{_≡_, refl, sym, ap, ap₂, _∙_}
 use mathlib.Core.Logic.{_⊎_, inl, inr, ⊎-elim}
-use mathlib.Core.List.{List, [], _∷_, _++_, map}
+use mathlib.Core.List.{List, [], _∷_, map}
 use Prim.Native.Nat.{ℕ, zero, suc, _+_, _-_, _≤_, _<_}
 use native.Mathlib.Omega.{arith}
 use lib.ListN.{length, replicate}
 use Rattle.logic.specs.Laws.Order.{lt-or}
+use Rattle.logic.specs.Laws.Lists.{any-left, any-right, any-or, any-map}
 use Rattle.ternary.specs.Digits.{Below}
 use Rattle.reading.specs.declared.Level.{Level}
 use Rattle.reading.specs.declared.Level.the-variants.{Digits}
@@ -16,29 +17,10 @@ use Rattle.reading.specs.Prefix.{Name, Prefix, Covered, Digs, FinestName
 
 -- ---- what lists of names cover
 
-covered-left : (a b : List Name) (p : Name) → Covered a p → Covered (a ++ b) p
-covered-left [] b p h = absurd h
-covered-left (q ∷ a) b p (inl h) = inl h
-covered-left (q ∷ a) b p (inr h) = inr (covered-left a b p h)
-
-covered-right : (a b : List Name) (p : Name) → Covered b p → Covered (a ++ b) p
-covered-right [] b p h = h
-covered-right (q ∷ a) b p h = inr (covered-right a b p h)
-
-covered-or : (a b : List Name) (p : Name) → Covered (a ++ b) p → Covered a p ⊎ Covered b p
-covered-or [] b p h = inr h
-covered-or (q ∷ a) b p (inl h) = inl (inl h)
-covered-or (q ∷ a) b p (inr h) = ⊎-elim (λ k. inl (inr k)) (λ k. inr k) (covered-or a b p h)
-
 covered-map : (c : ℕ) (a : List Name) (x : ℕ) (p : Name) → Covered (map (λ (q : Name). c ∷ q) a) (x ∷ p) → (c ≡ x) × Covered a p
 covered-map c [] x p h = absurd h
 covered-map c (q ∷ a) x p (inl h) = (h .0, inl (h .1))
 covered-map c (q ∷ a) x p (inr h) = let k = covered-map c a x p h in (k .0, inr (k .1))
-
-map-covered : (c : ℕ) (a : List Name) (x : ℕ) (p : Name) → c ≡ x → Covered a p → Covered (map (λ (q : Name). c ∷ q) a) (x ∷ p)
-map-covered c [] x p e h = absurd h
-map-covered c (q ∷ a) x p e (inl h) = inl (e, h)
-map-covered c (q ∷ a) x p e (inr h) = inr (map-covered c a x p e h)
 
 -- ---- what nodes cover: the node of number x is whole, or holds a list that covers p
 
@@ -52,8 +34,10 @@ in→covered end x p h = absurd h
 in→covered (whole c ns) x p (inl e) = inl (e, tt)
 in→covered (whole c ns) x p (inr h) = inr (in→covered ns x p h)
 in→covered (listed c is ns) x p (inl h) =
-    covered-left (map (λ (q : Name). c ∷ q) (names is)) (names ns) (x ∷ p) (map-covered c (names is) x p (h .0) (h .1))
-in→covered (listed c is ns) x p (inr h) = covered-right (map (λ (q : Name). c ∷ q) (names is)) (names ns) (x ∷ p) (in→covered ns x p h)
+    any-left (λ (q : Name). Prefix q (x ∷ p)) (map (λ (q : Name). c ∷ q) (names is)) (names ns)
+    (any-map (λ (q : Name). Prefix q p) (λ (q : Name). Prefix q (x ∷ p)) (λ q. c ∷ q) (λ q k. (h .0, k)) (names is) (h .1))
+in→covered (listed c is ns) x p (inr h) =
+    any-right (λ (q : Name). Prefix q (x ∷ p)) (map (λ (q : Name). c ∷ q) (names is)) (names ns) (in→covered ns x p h)
 
 pub covered→in : (ns : Nodes) (x : ℕ) (p : Name) → Covered (names ns) (x ∷ p) → In ns x p
 covered→in end x p h = absurd h
@@ -61,7 +45,7 @@ covered→in (whole c ns) x p (inl h) = inl (h .0)
 covered→in (whole c ns) x p (inr h) = inr (covered→in ns x p h)
 covered→in (listed c is ns) x p h =
     ⊎-elim (λ k. inl (covered-map c (names is) x p k)) (λ k. inr (covered→in ns x p k))
-    (covered-or (map (λ (q : Name). c ∷ q) (names is)) (names ns) (x ∷ p) h)
+    (any-or (λ (q : Name). Prefix q (x ∷ p)) (map (λ (q : Name). c ∷ q) (names is)) (names ns) h)
 
 -- what nodes from lo on cover begins at lo or later
 pub in-from : (ns : Nodes) (l : Level) (d lo x : ℕ) (p : Name) → Good l d lo ns → In ns x p → lo ≤ x

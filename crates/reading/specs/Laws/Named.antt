@@ -7,6 +7,7 @@ use Prim.Native.Nat.{ℕ, zero, suc, _+_, _-_, _*_, _/_, _%_, _^_, _<_}
 use native.Mathlib.Nat.{pow-suc, mul-comm, mul-assoc, add-mul, zero-mul, div-one, div-div-eq-div-mul, div-eq-of-lt, mul-add-div-right}
 use native.Mathlib.Omega.{arith}
 use lib.ListN.{length, length-append, length-map}
+use Rattle.logic.specs.Laws.Lists.{all-map, any-map}
 use Rattle.ternary.specs.Digits.{value, Below}
 use Rattle.ternary.specs.Laws.Digits.{value-snoc, value-below, value-one}
 use Rattle.ternary.specs.Laws.Powers.{power-add, power-pos}
@@ -21,61 +22,63 @@ use Rattle.reading.specs.Laws.Ground.{below-digs, digs-below}
 
 -- ---- a digit is 3 times that of the row plus that of the column
 
-abbrev rows : List ℕ → List ℕ
-rows ds = map (λ d. d / 3) ds
+-- the part of a digit that is the row's or the column's, and that of the two numbers which it is a digit of
+record Part (f : ℕ → ℕ) (of : (i j : ℕ) → ℕ) : Type 0 where
+  small : (d : ℕ) → d < 9 → f d < 3
+  front : (i j : ℕ) → of (i / 3) (j / 3) ≡ of i j / 3
+  last : (i j : ℕ) → f (3 * (i % 3) + j % 3) ≡ of i j % 3
 
-abbrev columns : List ℕ → List ℕ
-columns ds = map (λ d. d % 3) ds
+rows : Part (λ d. d / 3) (λ i j. i)
+rows = record { small = λ d h. omega arith; front = λ i j. refl; last = λ i j. omega arith }
 
-rows-below : (ds : List ℕ) → Below 9 ds → Below 3 (rows ds)
-rows-below [] h = tt
-rows-below (d ∷ ds) h = (omega (arith, h .0), rows-below ds (h .1))
+columns : Part (λ d. d % 3) (λ i j. j)
+columns = record { small = λ d h. omega arith; front = λ i j. refl; last = λ i j. omega arith }
 
-columns-below : (ds : List ℕ) → Below 3 (columns ds)
-columns-below [] = tt
-columns-below (d ∷ ds) = (omega arith, columns-below ds)
+module _ {f : ℕ → ℕ} {of : (i j : ℕ) → ℕ} (P : Part f of) where
+  parts-below : (ds : List ℕ) → Below 9 ds → Below 3 (map f ds)
+  parts-below [] h = tt
+  parts-below (d ∷ ds) h = (P .small d (h .0), parts-below ds (h .1))
 
-both-digits : (ds es : List ℕ) → rows ds ≡ rows es → columns ds ≡ columns es → ds ≡ es
-both-digits [] [] p q = refl
-both-digits [] (e ∷ es) p q = absurd (omega (arith, ap length p))
-both-digits (d ∷ ds) [] p q = absurd (omega (arith, ap length p))
-both-digits (d ∷ ds) (e ∷ es) p q =
+  parts-small : (ds : List ℕ) → Below 9 ds → value 3 (map f ds) < 3 ^ length ds
+  parts-small ds h = let e = length-map ds f in rw e at (value-below 3 (map f ds) (parts-below ds h))
+
+  -- the parts of a cell's digits make its row, or its column
+  parts-digits : (k i j : ℕ) → of i j < 3 ^ k → value 3 (map f (digitsOf k i j)) ≡ of i j
+  unfolding digitsOf value
+  parts-digits zero i j h = omega arith
+  parts-digits (suc k) i j h =
+      let ds = digitsOf k (i / 3) (j / 3) in
+      let d = 3 * (i % 3) + j % 3 in
+      let a = P .front i j in
+      let e : value 3 (map f ds) ≡ of (i / 3) (j / 3) = parts-digits k (i / 3) (j / 3) (omega (arith, pow-suc 3 k)) in
+      ap (value 3) (map-append f ds (d ∷ [])) ∙ value-snoc 3 (map f ds) (f d) ∙ omega (arith, P .last i j)
+
+  -- and no other digits do
+  parts-back : (ds : List ℕ) (i j : ℕ) → Below 9 ds → of i j ≡ value 3 (map f ds) → map f (digitsOf (length ds) i j) ≡ map f ds
+  parts-back ds i j b e =
+      let es : List ℕ = digitsOf (length ds) i j in
+      let m : length es ≡ length ds = length-digits-of (length ds) i j in
+      value-one 3 (map f es) (map f ds) (parts-below es (digits-of-below (length ds) i j)) (parts-below ds b)
+      (length-map es f ∙ m ∙ sym (length-map ds f))
+      (parts-digits (length ds) i j (omega (arith, parts-small ds b)) ∙ e)
+
+both-parts : (ds es : List ℕ) → map (λ d. d / 3) ds ≡ map (λ d. d / 3) es → map (λ d. d % 3) ds ≡ map (λ d. d % 3) es → ds ≡ es
+both-parts [] [] p q = refl
+both-parts [] (e ∷ es) p q = absurd (omega (arith, ap length p))
+both-parts (d ∷ ds) [] p q = absurd (omega (arith, ap length p))
+both-parts (d ∷ ds) (e ∷ es) p q =
     let i : d / 3 ≡ e / 3 = cc in
     let j : d % 3 ≡ e % 3 = cc in
-    ap₂ _∷_ (omega arith) (both-digits ds es (cc) (cc))
+    ap₂ _∷_ (omega arith) (both-parts ds es (cc) (cc))
 
 -- ---- a name is a cell's
-
-row-small : (ds : List ℕ) → Below 9 ds → value 3 (rows ds) < 3 ^ length ds
-row-small ds h = let e = length-map ds (λ (d : ℕ). d / 3) in rw e at (value-below 3 (rows ds) (rows-below ds h))
-
-column-small : (ds : List ℕ) → value 3 (columns ds) < 3 ^ length ds
-column-small ds = let e = length-map ds (λ (d : ℕ). d % 3) in rw e at (value-below 3 (columns ds) (columns-below ds))
 
 pub named-cell : (q : Name) → IsName 6 15 q → IsCell (cellNamed q)
 unfolding cellNamed
 named-cell [] n = absurd n
-named-cell (f ∷ ds) n = record { fine = n .1; faced = omega (arith, n .0); rowed = row-small ds (n .2); columned = column-small ds }
+named-cell (f ∷ ds) n = record { fine = n .1; faced = omega (arith, n .0); rowed = parts-small rows ds (n .2); columned = parts-small columns ds (n .2) }
 
 -- ---- a cell has a name
-
-row-digits : (k i j : ℕ) → i < 3 ^ k → value 3 (rows (digitsOf k i j)) ≡ i
-unfolding digitsOf value
-row-digits zero i j h = omega arith
-row-digits (suc k) i j h =
-    let ds = digitsOf k (i / 3) (j / 3) in
-    let d = 3 * (i % 3) + j % 3 in
-    let e : value 3 (rows ds) ≡ i / 3 = row-digits k (i / 3) (j / 3) (omega (arith, pow-suc 3 k)) in
-    ap (value 3) (map-append (λ (d : ℕ). d / 3) ds (d ∷ [])) ∙ value-snoc 3 (rows ds) (d / 3) ∙ omega arith
-
-column-digits : (k i j : ℕ) → j < 3 ^ k → value 3 (columns (digitsOf k i j)) ≡ j
-unfolding digitsOf value
-column-digits zero i j h = omega arith
-column-digits (suc k) i j h =
-    let ds = digitsOf k (i / 3) (j / 3) in
-    let d = 3 * (i % 3) + j % 3 in
-    let e : value 3 (columns ds) ≡ j / 3 = column-digits k (i / 3) (j / 3) (omega (arith, pow-suc 3 k)) in
-    ap (value 3) (map-append (λ (d : ℕ). d % 3) ds (d ∷ [])) ∙ value-snoc 3 (columns ds) (d % 3) ∙ omega arith
 
 pub cell-is-named : (x : Cell) → IsCell x → IsName 6 15 (numbersOf x)
 unfolding numbersOf
@@ -88,8 +91,8 @@ cell-named x v =
     λ i. record {
       face = x .face;
       resolution = length-digits-of (x .resolution) (x .row) (x .column) i;
-      row = row-digits (x .resolution) (x .row) (x .column) (v .rowed) i;
-      column = column-digits (x .resolution) (x .row) (x .column) (v .columned) i;
+      row = parts-digits rows (x .resolution) (x .row) (x .column) (v .rowed) i;
+      column = parts-digits columns (x .resolution) (x .row) (x .column) (v .columned) i;
     }
 
 -- ---- and no other
@@ -99,15 +102,9 @@ unfolding cellNamed numbersOf
 name-named [] n = absurd n
 name-named (f ∷ ds) n =
     let k : ℕ = length ds in
-    let i : ℕ = value 3 (rows ds) in
-    let j : ℕ = value 3 (columns ds) in
-    let es : List ℕ = digitsOf k i j in
-    let m : length es ≡ k = length-digits-of k i j in
-    let p : rows es ≡ rows ds =
-    value-one 3 (rows es) (rows ds) (rows-below es (digits-of-below k i j)) (rows-below ds (n .2)) (length-map es _ ∙ m ∙ sym (length-map ds _)) (row-digits k i j (row-small ds (n .2))) in
-    let q : columns es ≡ columns ds =
-    value-one 3 (columns es) (columns ds) (columns-below es) (columns-below ds) (length-map es _ ∙ m ∙ sym (length-map ds _)) (column-digits k i j (column-small ds)) in
-    ap (λ (x : List ℕ). f ∷ x) (both-digits es ds p q)
+    let i : ℕ = value 3 (map (λ d. d / 3) ds) in
+    let j : ℕ = value 3 (map (λ d. d % 3) ds) in
+    ap (λ (x : List ℕ). f ∷ x) (both-parts (digitsOf k i j) ds (parts-back rows ds i j (n .2) refl) (parts-back columns ds i j (n .2) refl))
 
 pub only-name : {x : Cell} (q : Name) → IsName 6 15 q → cellNamed q ≡ x → q ≡ numbersOf x
 only-name q n e = sym (name-named q n) ∙ ap numbersOf e
@@ -175,10 +172,15 @@ value-front ds es h =
     ∙ mul-add-div-right (power-pos (length es)) (value 3 ds) (value 3 es)
     ∙ (let z = div-eq-of-lt (value-below 3 es h) in omega arith)
 
-module _ (f : ℕ → ℕ) (ds es : List ℕ) (b : Below 3 (map f es)) where
-  map-front : value 3 (map f (ds ++ es)) / 3 ^ length es ≡ value 3 (map f ds)
-  map-front =
-      ap₂ (λ (x : List ℕ) (n : ℕ). value 3 x / 3 ^ n) (map-append f ds es) (sym (length-map es f)) ∙ value-front (map f ds) (map f es) b
+-- of digits that others begin, the row or the column is the others', with more digits
+parts-front :
+    {f : ℕ → ℕ} {of : (i j : ℕ) → ℕ} (P : Part f of) (k m i j i′ j′ : ℕ) (es : List ℕ) → digitsOf m i′ j′ ≡ digitsOf k i j ++ es → length es ≡ m - k →
+    of i j < 3 ^ k → of i′ j′ < 3 ^ m → of i′ j′ / 3 ^ (m - k) ≡ of i j
+parts-front {f} {of} P k m i j i′ j′ es e n h h′ =
+    let ds : List ℕ = digitsOf k i j in
+    let b : Below 9 es = below-rest 9 ds es (rw e at (digits-of-below m i′ j′)) in
+    let x : value 3 (map f ds ++ map f es) ≡ of i′ j′ = ap (value 3) (sym (map-append f ds es) ∙ ap (map f) (sym e)) ∙ parts-digits P m i′ j′ h′ in
+    ap₂ (λ (y z : ℕ). y / 3 ^ z) (sym x) (sym n ∙ sym (length-map es f)) ∙ value-front (map f ds) (map f es) (parts-below P es b) ∙ parts-digits P k i j h
 
 pub prefix-inside : (c x : Cell) → IsCell c → IsCell x → Prefix (numbersOf c) (numbersOf x) → Inside c x
 unfolding numbersOf
@@ -191,28 +193,17 @@ prefix-inside c x v w h =
     let m : length ds ≡ c .resolution = length-digits-of (c .resolution) (c .row) (c .column) in
     let l : length xs ≡ x .resolution = length-digits-of (x .resolution) (x .row) (x .column) in
     let n : length es ≡ x .resolution - c .resolution = omega (arith, ap length e, length-append ds es) in
-    let b : Below 9 es = below-rest 9 ds es (rw e at (digits-of-below (x .resolution) (x .row) (x .column))) in
-    let row-x : value 3 (rows (ds ++ es)) ≡ x .row = ap (λ (y : List ℕ). value 3 (rows y)) (sym e) ∙ row-digits (x .resolution) (x .row) (x .column) (w .rowed) in
-    let column-x : value 3 (columns (ds ++ es)) ≡ x .column = ap (λ (y : List ℕ). value 3 (columns y)) (sym e) ∙ column-digits (x .resolution) (x .row) (x .column) (w .columned) in
     record {
       face = sym (h .0);
       finer = omega (arith, ap length e, length-append ds es);
-      row =
-          ap₂ (λ (y z : ℕ). y / 3 ^ z) (sym row-x) (sym n)
-          ∙ map-front (λ d. d / 3) ds es (rows-below es b)
-          ∙ row-digits (c .resolution) (c .row) (c .column) (v .rowed);
-      column =
-          ap₂ (λ (y z : ℕ). y / 3 ^ z) (sym column-x) (sym n)
-          ∙ map-front (λ d. d % 3) ds es (columns-below es)
-          ∙ column-digits (c .resolution) (c .row) (c .column) (v .columned);
+      row = parts-front rows (c .resolution) (x .resolution) (c .row) (c .column) (x .row) (x .column) es e n (v .rowed) (w .rowed);
+      column = parts-front columns (c .resolution) (x .resolution) (c .row) (c .column) (x .row) (x .column) es e n (v .columned) (w .columned);
     }
 
 -- ---- lists of cells and of names
 
 pub covers-covered : (qs : List Cell) (x : Cell) → Covers qs x → Covered (map numbersOf qs) (numbersOf x)
-covers-covered [] x h = h
-covers-covered (q ∷ qs) x (inl h) = inl (inside-prefix q x h)
-covers-covered (q ∷ qs) x (inr h) = inr (covers-covered qs x h)
+covers-covered qs x = any-map (λ (q : Cell). Inside q x) (λ (q : Name). Prefix q (numbersOf x)) numbersOf (λ q. inside-prefix q x) qs
 
 pub covered-covers : (qs : List Cell) (x : Cell) → Cells qs → IsCell x → Covered (map numbersOf qs) (numbersOf x) → Covers qs x
 covered-covers [] x c w h = h
@@ -220,16 +211,14 @@ covered-covers (q ∷ qs) x c w (inl h) = inl (prefix-inside q x (c .0) w h)
 covered-covers (q ∷ qs) x c w (inr h) = inr (covered-covers qs x (c .1) w h)
 
 pub cells-named : (qs : List Name) → AreNames 6 15 qs → Cells (map cellNamed qs)
-cells-named [] n = tt
-cells-named (q ∷ qs) n = (named-cell q (n .0), cells-named qs (n .1))
+cells-named = all-map (IsName 6 15) IsCell cellNamed named-cell
 
 pub names-named : (qs : List Name) → AreNames 6 15 qs → map numbersOf (map cellNamed qs) ≡ qs
 names-named [] n = refl
 names-named (q ∷ qs) n = ap₂ _∷_ (name-named q (n .0)) (names-named qs (n .1))
 
 pub names-of-cells : (qs : List Cell) → Cells qs → AreNames 6 15 (map numbersOf qs)
-names-of-cells [] c = tt
-names-of-cells (q ∷ qs) c = (cell-is-named q (c .0), names-of-cells qs (c .1))
+names-of-cells = all-map IsCell (IsName 6 15) numbersOf cell-is-named
 
 -- ---- ground
 

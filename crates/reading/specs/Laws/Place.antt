@@ -12,12 +12,28 @@ use Rattle.logic.specs.Laws.Bools.{by-cond}
 use Rattle.logic.specs.Laws.Order.{lt-or}
 use Rattle.reading.specs.declared.Level.the-variants.{Faces}
 use Rattle.reading.specs.Reading.{end, render}
-use Rattle.reading.specs.Text.{heading, Accepted}
+use Rattle.reading.specs.Text.{heading, Accepted, Body}
 use Rattle.reading.specs.Scan.{scan, start}
-use Rattle.reading.specs.Internal.ScanLaws.{BodyBegins, LongestBody, scan-longest}
+use Rattle.reading.specs.Internal.ScanLaws.{scan-longest}
 use Rattle.reading.specs.Heading.{least, greatest, lead}
 use Rattle.reading.specs.Laws.Heading.{lead-length, lead-alike, filled, lead-head, head-of}
-use Rattle.reading.specs.Place.{Begins, Longest, placeOf}
+use Rattle.reading.specs.Place.{BeginsOne, LongestOf, Begins, Longest, placeOf}
+
+-- ---- any strings
+
+-- a string begins with any part of what it begins with
+pub shorter : (P : List ℕ → Type 0) (t : List ℕ) (i j : ℕ) → i ≤ j → BeginsOne P (take j t) → BeginsOne P (take i t)
+shorter P t i j h z =
+    let e : take i t ++ (drop i (take j t) ++ z .0) ≡ take j t ++ z .0 =
+    sym (append-assoc (take i t) (drop i (take j t)) (z .0))
+    ∙ ap (λ (x : List ℕ). x ++ z .0) (ap (λ (x : List ℕ). x ++ drop i (take j t)) (sym (take-take i j t h)) ∙ take-append-drop i (take j t)) in
+    (drop i (take j t) ++ z .0, subst P (sym e) (z .1))
+
+-- there is only one longest part
+pub longest-one : {P : List ℕ → Type 0} {t : List ℕ} {j k : ℕ} → LongestOf P t j → LongestOf P t k → j ≡ k
+longest-one {j = j} {k} a b = let p = b .longest j (a .within) (a .begun) in let q = a .longest k (b .within) (b .begun) in omega arith
+
+-- ---- the place
 
 module _ (t : List ℕ) where
   -- a beginning of at most seven bytes
@@ -29,14 +45,6 @@ module _ (t : List ℕ) where
       let b : length (take j t) ≤ lead least greatest (take j t ++ drop j t) = lead-alike least greatest (take j t) (z .0) (drop j t) (omega arith) in
       let c : length (take j t) ≤ lead least greatest t = rw take-append-drop at b in
       omega arith
-
-  -- what begins an accepted text, does so with any part of it
-  shorter : (i j : ℕ) → i ≤ j → j ≤ length t → Begins (take j t) → Begins (take i t)
-  shorter i j h k z =
-      let e : take i t ++ (drop i (take j t) ++ z .0) ≡ take j t ++ z .0 =
-      sym (append-assoc (take i t) (drop i (take j t)) (z .0))
-      ∙ ap (λ (x : List ℕ). x ++ z .0) (ap (λ (x : List ℕ). x ++ drop i (take j t)) (sym (take-take i j t h)) ∙ take-append-drop i (take j t)) in
-      (drop i (take j t) ++ z .0, subst Accepted (sym e) (z .1))
 
   -- it lies in the heading
   place-head : lead least greatest t < 7 → Longest t (lead least greatest t)
@@ -51,7 +59,7 @@ module _ (t : List ℕ) where
         );
         longest = λ j i z.
             ⊎-elim (λ x. in-head j i (omega arith) z)
-            (λ x. absurd (omega (arith, in-head 7 (omega arith) (omega arith) (shorter 7 j (omega arith) i z))))
+            (λ x. absurd (omega (arith, in-head 7 (omega arith) (omega arith) (shorter Accepted t 7 j (omega arith) z))))
             (lt-or j 7);
       }
 
@@ -60,25 +68,25 @@ module _ (t : List ℕ) where
     seven : 7 ≤ length t
     seven = omega (arith, lead-length least greatest t)
 
-    body : LongestBody Faces 15 (drop 7 t) (scan Faces 15 start (drop 7 t))
+    body : LongestOf (Body Faces 15) (drop 7 t) (scan Faces 15 start (drop 7 t))
     body = scan-longest Faces (omega arith) 15 (drop 7 t)
 
-    begun-body : (k : ℕ) → BodyBegins Faces 15 (take k (drop 7 t)) → Begins (take (7 + k) t)
+    begun-body : (k : ℕ) → BeginsOne (Body Faces 15) (take k (drop 7 t)) → Begins (take (7 + k) t)
     begun-body k z =
         let g = head-of t h in
         let a : take 7 t ≡ heading (g .0) (g .1) = ap (take 7) (g .4) in
-        let b : take (7 + k) t ++ z .0 ≡ heading (g .0) (g .1) ++ render Faces (z .1) =
-        ap (λ (x : List ℕ). x ++ z .0) (take-add 7 k t) ∙ append-assoc (take 7 t) (take k (drop 7 t)) (z .0) ∙ ap₂ (λ (x y : List ℕ). x ++ y) a (z .2 .all) in
-        (z .0, (g .0, g .1, z .1, record { north = g .2; south = g .3; body = record { good = z .2 .good; all = b } }))
+        let b : take (7 + k) t ++ z .0 ≡ heading (g .0) (g .1) ++ render Faces (z .1 .0) =
+        ap (λ (x : List ℕ). x ++ z .0) (take-add 7 k t) ∙ append-assoc (take 7 t) (take k (drop 7 t)) (z .0) ∙ ap₂ (λ (x y : List ℕ). x ++ y) a (z .1 .1 .all) in
+        (z .0, (g .0, g .1, z .1 .0, record { north = g .2; south = g .3; body = record { good = z .1 .1 .good; all = b } }))
 
-    body-begun : (k : ℕ) → Begins (take (7 + k) t) → BodyBegins Faces 15 (take k (drop 7 t))
+    body-begun : (k : ℕ) → Begins (take (7 + k) t) → BeginsOne (Body Faces 15) (take k (drop 7 t))
     body-begun k z =
         let r = z .1 .3 in
         let e : take 7 t ++ (take k (drop 7 t) ++ z .0) ≡ heading (z .1 .0) (z .1 .1) ++ render Faces (z .1 .2) =
         sym (append-assoc (take 7 t) (take k (drop 7 t)) (z .0)) ∙ ap (λ (x : List ℕ). x ++ z .0) (sym (take-add 7 k t)) ∙ r .body .all in
         let d : take k (drop 7 t) ++ z .0 ≡ render Faces (z .1 .2) =
         sym (drop-at (take 7 t) (take k (drop 7 t) ++ z .0) 7 (length-take-le 7 t seven)) ∙ ap (drop 7) e in
-        (z .0, z .1 .2, record { good = r .body .good; all = d })
+        (z .0, (z .1 .2, record { good = r .body .good; all = d }))
 
     place-body : Longest t (7 + scan Faces 15 start (drop 7 t))
     place-body =
@@ -97,10 +105,6 @@ module _ (t : List ℕ) where
   unfolding placeOf
   place-longest =
       by-cond (Longest t) (ltb (lead least greatest t) 7) (λ e. place-head (ltb-true _ _ e)) (λ e. place-body (ltb-false _ _ e))
-
--- there is only one
-pub longest-one : {t : List ℕ} {j k : ℕ} → Longest t j → Longest t k → j ≡ k
-longest-one {t} {j} {k} a b = let p = b .longest j (a .within) (a .begun) in let q = a .longest k (b .within) (b .begun) in omega arith
 
 -- "For a cut text that is its whole length."
 pub place-cut : (t : List ℕ) → Begins t → placeOf t ≡ length t

@@ -1,8 +1,8 @@
 -- How far the numbers of a reading go. Assumes nothing.
-use mathlib.Core.Path.{_≡_, refl, ap}
+use mathlib.Core.Path.{_≡_, refl}
 use mathlib.Core.Logic.{_⊎_, inl, inr}
 use mathlib.Core.Bool.{Bool, true, false, cond}
-use Prim.Native.Nat.{ℕ, suc, _+_, _-_, _≤_, _<_}
+use Prim.Native.Nat.{ℕ, suc, _+_, _≤_, _<_}
 use native.Mathlib.Decide.{ℕ-discrete}
 use native.Mathlib.Omega.{arith}
 use lib.ListN.{length}
@@ -10,7 +10,6 @@ use lib.Dec.{eqb}
 use Rattle.reading.specs.declared.Level.{Level}
 use Rattle.reading.specs.declared.Level.the-variants.{Faces, Belt, Digits}
 use Rattle.reading.specs.Reading.{Nodes, end, whole, listed, first, OfFaces, many, room, wholes, render, Some, Good}
-use Rattle.reading.specs.Loose.{Loose}
 
 pub eq-or : (a b : ℕ) → (a ≡ b) ⊎ (a ≡ b → ⊥)
 eq-or a b = elim (ℕ-discrete a b) [ yes h ↦ inl h | no h ↦ inr h ]
@@ -65,11 +64,3 @@ pub render-some : (ns : Nodes) (l : Level) → Some ns → 0 < length (render l 
 render-some end l h = absurd h
 render-some (whole c ns) l h = omega arith
 render-some (listed c is ns) l h = omega arith
-
--- nodes of the grammar are of the looser form
-pub good-loose : (ns : Nodes) (l : Level) (d lo : ℕ) → Good l d lo ns → Loose l d ns
-good-loose end l d lo g = tt
-good-loose (whole c ns) l d lo g = (g .1, good-loose ns l d (suc c) (g .2))
-good-loose (listed c is ns) l d lo g =
-    let e : room l c d ≡ d = room-all l c d (g .2) in
-    (g .1, omega arith, rw e at (good-loose is Digits (room l c d - 1) 0 (g .5)), good-loose ns l d (suc c) (g .6))

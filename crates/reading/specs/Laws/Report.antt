@@ -23,7 +23,7 @@ count-names (listed c is ns) =
 
 -- ---- sizes
 
-sum-append : (a b : List Cell) → sizeSum (a ++ b) ≡ sizeSum a + sizeSum b
+pub sum-append : (a b : List Cell) → sizeSum (a ++ b) ≡ sizeSum a + sizeSum b
 unfolding sizeSum
 sum-append [] b = omega arith
 sum-append (q ∷ a) b = omega (arith, sum-append a b)

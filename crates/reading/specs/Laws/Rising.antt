@@ -6,6 +6,8 @@ use Prim.Native.Nat.{ℕ, zero, suc, _+_, _-_, _*_, _^_, _≤_, _<_}
 use native.Mathlib.Nat.{add-mul, mul-assoc, suc-mul, mul-le-mul-right}
 use native.Mathlib.Omega.{arith}
 use lib.ListN.{length}
+use Rattle.logic.specs.Lists.{All, Pairwise}
+use Rattle.logic.specs.Laws.Lists.{all-append, all-map, all-each}
 use Rattle.ternary.specs.Digits.{value, Below}
 use Rattle.ternary.specs.Laws.Digits.{value-below}
 use Rattle.ternary.specs.Laws.Powers.{nine-add}
@@ -18,59 +20,45 @@ use Rattle.code.specs.Laws.Inside.{start-code, size-pos, inside-within}
 use Rattle.reading.specs.declared.Level.{Level}
 use Rattle.reading.specs.declared.Level.the-variants.{Digits}
 use Rattle.reading.specs.Reading.{Nodes, end, whole, listed, room, Good, names}
-use Rattle.reading.specs.Ground.{Cells, All, Rising, Apart}
+use Rattle.reading.specs.Ground.{Cells, Rising, Apart}
 use Rattle.reading.specs.Prefix.{Name, numbersOf, Ahead, AheadAll, InOrder}
 
 -- ---- the names rise
 
--- all begin with this number or a later one
-abbrev From : ℕ → List Name → Type 0
-From lo [] = Unit {0}
-From lo ([] ∷ qs) = ⊥
-From lo ((x ∷ q) ∷ qs) = (lo ≤ x) × From lo qs
+-- it begins with this number or a later one
+abbrev From : ℕ → Name → Type 0
+From lo [] = ⊥
+From lo (x ∷ q) = lo ≤ x
 
-from-append : (lo : ℕ) (a b : List Name) → From lo a → From lo b → From lo (a ++ b)
-from-append lo [] b g h = h
-from-append lo ([] ∷ a) b g h = absurd g
-from-append lo ((x ∷ q) ∷ a) b g h = (g .0, from-append lo a b (g .1) h)
+from-less : (lo hi : ℕ) → lo ≤ hi → (q : Name) → From hi q → From lo q
+from-less lo hi h [] g = g
+from-less lo hi h (x ∷ q) g = omega arith
 
-from-map : (lo c : ℕ) (a : List Name) → lo ≤ c → From lo (map (λ (q : Name). c ∷ q) a)
-from-map lo c [] h = tt
-from-map lo c (q ∷ a) h = (h, from-map lo c a h)
-
-from-less : (lo hi : ℕ) (a : List Name) → lo ≤ hi → From hi a → From lo a
-from-less lo hi [] h g = tt
-from-less lo hi ([] ∷ a) h g = absurd g
-from-less lo hi ((x ∷ q) ∷ a) h g = (omega (arith, g .0), from-less lo hi a h (g .1))
-
-names-from : (ns : Nodes) (l : Level) (d lo : ℕ) → Good l d lo ns → From lo (names ns)
+names-from : (ns : Nodes) (l : Level) (d lo : ℕ) → Good l d lo ns → All (From lo) (names ns)
 names-from end l d lo g = tt
-names-from (whole c ns) l d lo g = (g .0, from-less lo (suc c) (names ns) (omega arith) (names-from ns l d (suc c) (g .2)))
+names-from (whole c ns) l d lo g =
+    (g .0, all-each (From (suc c)) (From lo) (from-less lo (suc c) (omega arith)) (names ns) (names-from ns l d (suc c) (g .2)))
 names-from (listed c is ns) l d lo g =
-    from-append lo (map (λ (q : Name). c ∷ q) (names is)) (names ns) (from-map lo c (names is) (g .0))
-    (from-less lo (suc c) (names ns) (omega arith) (names-from ns l d (suc c) (g .6)))
+    all-append (From lo) (map (λ (q : Name). c ∷ q) (names is)) (names ns)
+    (all-map (From 0) (From lo) (λ q. c ∷ q) (λ q h. g .0) (names is) (names-from is Digits (room l c d - 1) 0 (g .5)))
+    (all-each (From (suc c)) (From lo) (from-less lo (suc c) (omega arith)) (names ns) (names-from ns l d (suc c) (g .6)))
 
-ahead-from : (c : ℕ) (q : Name) (a : List Name) → From (suc c) a → AheadAll (c ∷ q) a
-ahead-from c q [] h = tt
-ahead-from c q ([] ∷ a) h = absurd h
-ahead-from c q ((x ∷ p) ∷ a) h = (inl (h .0), ahead-from c q a (h .1))
+ahead-from : (c : ℕ) (q p : Name) → From (suc c) p → Ahead (c ∷ q) p
+ahead-from c q [] h = absurd h
+ahead-from c q (x ∷ p) h = inl h
 
-ahead-map : (c : ℕ) (q : Name) (a : List Name) → AheadAll q a → AheadAll (c ∷ q) (map (λ (p : Name). c ∷ p) a)
-ahead-map c q [] h = tt
-ahead-map c q (p ∷ a) h = (inr (refl, h .0), ahead-map c q a (h .1))
-
-ahead-append : (q : Name) (a b : List Name) → AheadAll q a → AheadAll q b → AheadAll q (a ++ b)
-ahead-append q [] b g h = h
-ahead-append q (p ∷ a) b g h = (g .0, ahead-append q a b (g .1) h)
-
-rise-list : (c : ℕ) (a b : List Name) → InOrder a → From (suc c) b → InOrder b → InOrder (map (λ (q : Name). c ∷ q) a ++ b)
+rise-list : (c : ℕ) (a b : List Name) → InOrder a → All (From (suc c)) b → InOrder b → InOrder (map (λ (q : Name). c ∷ q) a ++ b)
 rise-list c [] b g f h = h
-rise-list c (q ∷ a) b g f h =
-    (ahead-append (c ∷ q) (map (λ (p : Name). c ∷ p) a) b (ahead-map c q a (g .0)) (ahead-from c q b f), rise-list c a b (g .1) f h)
+rise-list c (q ∷ a) b g f h = (
+  all-append (Ahead (c ∷ q)) (map (λ (p : Name). c ∷ p) a) b (all-map (Ahead q) (Ahead (c ∷ q)) (λ p. c ∷ p) (λ p k. inr (refl, k)) a (g .0))
+      (all-each (From (suc c)) (Ahead (c ∷ q)) (ahead-from c q) b f),
+  rise-list c a b (g .1) f h,
+)
 
 pub names-rise : (ns : Nodes) (l : Level) (d lo : ℕ) → Good l d lo ns → InOrder (names ns)
 names-rise end l d lo g = tt
-names-rise (whole c ns) l d lo g = (ahead-from c [] (names ns) (names-from ns l d (suc c) (g .2)), names-rise ns l d (suc c) (g .2))
+names-rise (whole c ns) l d lo g =
+    (all-each (From (suc c)) (Ahead (c ∷ [])) (ahead-from c []) (names ns) (names-from ns l d (suc c) (g .2)), names-rise ns l d (suc c) (g .2))
 names-rise (listed c is ns) l d lo g =
     rise-list c (names is) (names ns) (names-rise is Digits (room l c d - 1) 0 (g .5)) (names-from ns l d (suc c) (g .6)) (names-rise ns l d (suc c) (g .6))
 
@@ -162,18 +150,18 @@ module _ (c x : Cell) (v : IsCell c) (w : IsCell x) (h : endOf c ≤ startOf x) 
     (λ i. let k = inside-within x c w v i in omega (arith, size-pos c, k .from)),
   )
 
-ahead-rising : (c : Cell) (qs : List Cell) → IsCell c → Cells qs → AheadAll (numbersOf c) (map numbersOf qs) → All (λ (x : Cell). codeOf c < codeOf x) qs
-ahead-rising c [] v k f = tt
-ahead-rising c (x ∷ qs) v k f = (code-before c x v (k .0) (ahead-before c x v (k .0) (f .0)), ahead-rising c qs v (k .1) (f .1))
+-- what holds of a cell and one whose finest cells come after, holds of any two
+module _ (R : Cell → Cell → Type 0) (h : (c x : Cell) → IsCell c → IsCell x → endOf c ≤ startOf x → R c x) where
+  ahead-each : (c : Cell) (qs : List Cell) → IsCell c → Cells qs → AheadAll (numbersOf c) (map numbersOf qs) → All (R c) qs
+  ahead-each c [] v k f = tt
+  ahead-each c (x ∷ qs) v k f = (h c x v (k .0) (ahead-before c x v (k .0) (f .0)), ahead-each c qs v (k .1) (f .1))
 
-ahead-apart : (c : Cell) (qs : List Cell) → IsCell c → Cells qs → AheadAll (numbersOf c) (map numbersOf qs) → All (λ (x : Cell). (Inside c x → ⊥) × (Inside x c → ⊥)) qs
-ahead-apart c [] v k f = tt
-ahead-apart c (x ∷ qs) v k f = (apart-before c x v (k .0) (ahead-before c x v (k .0) (f .0)), ahead-apart c qs v (k .1) (f .1))
+  rise-each : (qs : List Cell) → Cells qs → InOrder (map numbersOf qs) → Pairwise R qs
+  rise-each [] k f = tt
+  rise-each (c ∷ qs) k f = (ahead-each c qs (k .0) (k .1) (f .0), rise-each qs (k .1) (f .1))
 
 pub rise-rising : (qs : List Cell) → Cells qs → InOrder (map numbersOf qs) → Rising qs
-rise-rising [] k f = tt
-rise-rising (c ∷ qs) k f = (ahead-rising c qs (k .0) (k .1) (f .0), rise-rising qs (k .1) (f .1))
+rise-rising = rise-each (λ c x. codeOf c < codeOf x) code-before
 
 pub rise-apart : (qs : List Cell) → Cells qs → InOrder (map numbersOf qs) → Apart qs
-rise-apart [] k f = tt
-rise-apart (c ∷ qs) k f = (ahead-apart c qs (k .0) (k .1) (f .0), rise-apart qs (k .1) (f .1))
+rise-apart = rise-each (λ c x. (Inside c x → ⊥) × (Inside x c → ⊥)) apart-before

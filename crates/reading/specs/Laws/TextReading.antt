@@ -1,12 +1,13 @@
 -- A text is accepted exactly when it is read to the end, and then it is read as its reading. Assumes nothing.
 use mathlib.Core.Path.{_≡_, refl, sym, ap, subst, _∙_}
+use mathlib.Core.Bool.{true}
 use mathlib.Core.List.{List, [], _∷_, _++_, append-nil}
 use Prim.Native.Nat.{ℕ, suc, _+_, _-_, _≤_}
 use native.Mathlib.Omega.{arith}
 use lib.ListN.{length, drop, take, getD}
 use lib.Dec.{ltb}
 use borrow.Author.Tests.{ltb-false}
-use Rattle.logic.specs.Laws.Bools.{by-cond}
+use Rattle.logic.specs.Laws.Bools.{by-cond, clash}
 use Rattle.reading.specs.declared.Level.the-variants.{Faces}
 use Rattle.reading.specs.Reading.{Nodes, render, Good}
 use Rattle.reading.specs.Text.{heading, ReadsAs, Accepted}
@@ -14,7 +15,7 @@ use Rattle.reading.specs.Parse.{Parse, bad, got, parse}
 use Rattle.reading.specs.Laws.Parse.{Right, sound, complete}
 use Rattle.reading.specs.Heading.{least, greatest, lead}
 use Rattle.reading.specs.Laws.Heading.{lead-head, head-of}
-use Rattle.reading.specs.TextReading.{TextRead, noText, asText, toEnd, readText, bodyStart}
+use Rattle.reading.specs.TextReading.{TextRead, noText, asText, toEnd, readText, nodesIn, northIn, southIn, wasRead, nodesOf, northOf, southOf, isText, bodyStart}
 
 read-good : (n s : ℕ) (ns : Nodes) → n ≤ 3 → s ≤ 3 → Good Faces 15 0 ns → readText (heading n s ++ render Faces ns) ≡ asText n s ns
 unfolding readText toEnd
@@ -67,7 +68,45 @@ not-read t e a =
     let z : _≡_ {A = ℕ} 0 1 = cc in
     omega arith
 
--- ---- where the body starts
+-- ---- so what is computed of a text is its reading's
+
+module _ {n s : ℕ} {t : List ℕ} {ns : Nodes} (r : ReadsAs n s t ns) where
+  pub read-text : isText t ≡ true
+  unfolding isText
+  read-text = ap wasRead (read-accepted r)
+
+  pub read-nodes : nodesOf t ≡ ns
+  unfolding nodesOf
+  read-nodes = ap nodesIn (read-accepted r)
+
+  pub read-north : northOf t ≡ n
+  unfolding northOf
+  read-north = ap northIn (read-accepted r)
+
+  pub read-south : southOf t ≡ s
+  unfolding southOf
+  read-south = ap southIn (read-accepted r)
+
+-- what a text of the grammar is read as reads it
+pub reads-own : (t : List ℕ) → isText t ≡ true → ReadsAs (northOf t) (southOf t) t (nodesOf t)
+unfolding isText nodesOf northOf southOf
+reads-own t e = go (readText t) refl e
+  where
+    go : (x : TextRead) → readText t ≡ x → wasRead x ≡ true → ReadsAs (northIn x) (southIn x) t (nodesIn x)
+    go noText q h = clash (sym h)
+    go (asText n s ns) q h = accepted-read q
+
+module _ (t : List ℕ) (e : isText t ≡ true) where
+  pub good-nodes : Good Faces 15 0 (nodesOf t)
+  good-nodes = reads-own t e .body .good
+
+  -- ---- where the body starts
+
+  pub body-within : bodyStart t ≤ length t
+  body-within = omega (arith, ap length (reads-own t e .body .all))
+
+  pub body-nodes : drop (bodyStart t) t ≡ render Faces (nodesOf t)
+  body-nodes = ap (drop 7) (reads-own t e .body .all)
 
 pub body-seven : (t : List ℕ) → bodyStart t ≡ 7
 body-seven t = refl
