@@ -3,27 +3,23 @@
 use mathlib.Core.Bool.{Bool, false, _&&_, _||_, not, cond}
 use mathlib.Core.List.{List, [], _∷_}
 use Prim.Native.Nat.{ℕ, zero, suc}
-use lib.Dec.{leb, eqb}
+use lib.Dec.{eqb}
 use Rattle.logic.specs.Refusal.{refuse, _otherwise_}
 use Rattle.cell.specs.declared.Cell.{Cell}
 use Rattle.cell.specs.declared.Arrangement.{Arrangement}
 use Rattle.cell.specs.Cell.{arrangementRefusal}
 use Rattle.code.specs.Code.{cellOf, codeRefusal}
-use Rattle.code.specs.Inside.{startOf, endOf}
+use Rattle.code.specs.Inside.{liesWithin}
 use Rattle.reading.specs.Ground.{wholeCells}
 use Rattle.reading.specs.TextReading.{nodesOf, northOf, southOf}
 use Rattle.reader.specs.Check.{textRefusal, placeWith}
 use Rattle.asking.specs.declared.Asked.{Asked}
 use Rattle.asking.specs.declared.Asked.the-variants.{Covered, Refused}
 
--- the finest cells of x are among those of q
-unfoldable pub within : Cell → Cell → Bool
-within q x = leb (startOf q) (startOf x) && leb (endOf x) (endOf q)
-
--- of one of these cells
+-- the finest cells of x are among those of one of these cells
 unfoldable pub anyWithin : List Cell → Cell → Bool
 anyWithin [] x = false
-anyWithin (q ∷ qs) x = within q x || anyWithin qs x
+anyWithin (q ∷ qs) x = liesWithin q x || anyWithin qs x
 
 -- 5, 4: the arrangement and the code asked for. 13, 10, 9: the text's. 14: "asked arrangement differs from the heading's"
 unfoldable pub askRefusal : Arrangement → (t : List ℕ) (code : ℕ) → ℕ

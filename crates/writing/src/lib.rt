@@ -11,7 +11,7 @@ ghost use lib.Dec.{ltb};
 ghost use Rattle.logic.specs.Refusal.{given};
 ghost use Rattle.code.specs.Code.{isCode, cellOf};
 ghost use Rattle.reading.specs.Text.{heading};
-ghost use Rattle.writing.specs.Write.{lies, codesRefusal, textOf, writeRefusal, textIn, written};
+ghost use Rattle.writing.specs.Write.{codesRefusal, textOf, writeRefusal, textIn, written};
 ghost use Rattle.writing.specs.Internal.EntryLaws.{LengthIs};
 use cell::Arrangement;
 

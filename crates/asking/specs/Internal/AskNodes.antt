@@ -10,7 +10,7 @@ use lib.ListN.{length, drop, length-append}
 use lib.Dec.{leb, eqb}
 use borrow.Author.Tests.{lt-leb, ne-eqb}
 use Rattle.cell.specs.declared.Cell.{Cell}
-use Rattle.code.specs.Inside.{startOf, endOf}
+use Rattle.code.specs.Inside.{startOf, endOf, liesWithin}
 use Rattle.code.specs.Number.{startAs, endAs}
 use Rattle.code.specs.Laws.Number.{start-as, end-as}
 use Rattle.reading.specs.declared.Level.{Level}
@@ -23,7 +23,7 @@ use Rattle.reading.specs.Laws.Demand.{whole-cells}
 use Rattle.walk.specs.declared.Spot.{Spot}
 use Rattle.walk.specs.Walk.{spotOf, wholeAt}
 use Rattle.walk.specs.Laws.Walk.{not-open, not-shut, spotsIn, text-reads, good, spots-text}
-use Rattle.asking.specs.Ask.{within, anyWithin}
+use Rattle.asking.specs.Ask.{anyWithin}
 
 -- ---- the answer
 
@@ -40,7 +40,7 @@ anyHolds from to (s ∷ ss) =
     (leb (startAs (s .resolution) (s .number)) from && leb to (endAs (s .resolution) (s .number))) || anyHolds from to ss
 
 any-spots : (qs : List Cell) (x : Cell) → Cells qs → anyHolds (startOf x) (endOf x) (map spotOf qs) ≡ anyWithin qs x
-unfolding anyHolds anyWithin within
+unfolding anyHolds anyWithin liesWithin
 any-spots [] x c = refl
 any-spots (q ∷ qs) x c =
     ap₂ _||_ (ap₂ (λ (a b : ℕ). leb a (startOf x) && leb (endOf x) b) (start-as q (c .0)) (end-as q (c .0))) (any-spots qs x (c .1))
