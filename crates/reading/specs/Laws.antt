@@ -2,10 +2,12 @@ pub mod Built
 pub mod Demand
 pub mod Fewest
 pub mod Ground
+pub mod Loose
 pub mod Named
 pub mod Parse
 pub mod Place
 pub mod Reading
 pub mod Report
 pub mod Rising
+pub mod TextReading
 pub mod Written

@@ -2,6 +2,7 @@ pub mod Given
 pub mod Ground
 pub mod Internal
 pub mod Laws
+pub mod Loose
 pub mod Parse
 pub mod Place
 pub mod Prefix

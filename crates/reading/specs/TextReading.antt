@@ -2,7 +2,9 @@
 use mathlib.Core.Bool.{Bool, true, false}
 use Prim.Native.Nat.{ℕ}
 use mathlib.Core.List.{List}
+use lib.ListN.{length}
 use Rattle.reading.specs.Reading.{Nodes, end}
+use Rattle.reading.specs.Text.{heading}
 use Rattle.reading.specs.Place.{Taken, none, taken, readText}
 
 abbrev pub nodesIn : Taken → Nodes
@@ -35,3 +37,7 @@ southOf t = southIn (readText t)
 -- it is a text of 01's grammar (PlaceLaws: exactly when it is accepted)
 unfoldable pub isText : List ℕ → Bool
 isText t = wasRead (readText t)
+
+-- where a text's body starts: behind the heading
+abbrev pub bodyStart : List ℕ → ℕ
+bodyStart t = length (heading (northOf t) (southOf t))
