@@ -2,11 +2,6 @@
 ghost use mathlib.Core.Path.{_≡_};
 ghost use Rattle.reading.specs.Reading.{first, many, room as roomOf};
 
-// The bytes that stand around a list.
-pub const OPEN: u8 = b'(';
-
-pub const SHUT: u8 = b')';
-
 // "text longer than 65,536 bytes, read or to be written"
 pub const LONGEST: usize = 65_536;
 

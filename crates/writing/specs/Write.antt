@@ -54,12 +54,3 @@ textIn a codes bytes = textOf a codes ++ drop (length (textOf a codes)) bytes
 unfoldable pub written : ℕ → ℕ → Written
 written zero n = Length n
 written (suc r) n = Refused (suc r)
-
--- what each case stands for
-abbrev pub refusalIn : Written → ℕ
-refusalIn (Length n) = 0
-refusalIn (Refused r) = r
-
-abbrev pub lengthIn : Written → ℕ
-lengthIn (Length n) = n
-lengthIn (Refused r) = 0

@@ -11,17 +11,18 @@ use Rattle.code.specs.Laws.Inside.{end-small, size-pos}
 use Rattle.reading.specs.Ground.{wholeCells}
 use Rattle.reading.specs.Laws.Reading.{many-most}
 use Rattle.reading.specs.TextReading.{nodesOf}
+use Rattle.walk.specs.Laws.Past.{node-some}
 use Rattle.asking.specs.Ask.{anyWithin}
 use Rattle.asking.specs.Internal.AskNodes.{anyIn, nodes-asked}
-use Rattle.asking.proofs.Laws.{Asks, asks-start, asks-end, asks-shut, asks-named, asks-fits, asks-behind, asks-past, asks-yes, asks-into, node-some}
+use Rattle.asking.proofs.Laws.{Asks, asks-start, asks-end, asks-shut, asks-named, asks-fits, asks-behind, asks-past, asks-yes, asks-into}
 use Rattle.asking.proofs.is_covered.Statement.{statement}
 use Rattle.asking.proofs.is_covered.Tie as tie
 
 abbrev Inv-loop : tie.InvT-loop
-Inv-loop text code from to base₀ before₀ size₀ i₀ base before size i = Asks text from to (anyIn from to 0 (9 ^ 15) (nodesOf text)) base before size i
+Inv-loop text body code from to base₀ before₀ size₀ i₀ base before size i = Asks text from to (anyIn from to 0 (9 ^ 15) (nodesOf text)) base before size i
 
 abbrev μ-loop : tie.MeasureT-loop
-μ-loop text code from to base₀ before₀ size₀ i₀ base before size i = length text - i
+μ-loop text body code from to base₀ before₀ size₀ i₀ base before size i = length text - i
 
 -- the loop's first state gives the answer
 answer : (c : tie.After-size-in Inv-loop μ-loop) → let a = c .before .before .before .args in
@@ -36,7 +37,7 @@ some : (c : tie.After-size-in Inv-loop μ-loop) → c .before .start-in .result 
 some c = omega (arith, size-pos (cellOf (c .before .before .before .args .code)), c .size-in .ensures)
 
 start-in-requires : tie.Need-start-in-requires Inv-loop μ-loop
-start-in-requires c κs = c .before .pre .1
+start-in-requires c κs = c .before .pre .2
 
 size-in-requires : tie.Need-size-in-requires Inv-loop μ-loop
 size-in-requires c κs = search needs
@@ -45,11 +46,11 @@ add-to : tie.Need-add-to Inv-loop μ-loop
 unfolding endOf
 add-to c =
     let n = c .before .before .before in
-    let v = code-is-cell (n .args .code) (n .pre .1) in
+    let v = code-is-cell (n .args .code) (n .pre .2) in
     omega (arith, c .before .start-in .ensures, c .size-in .ensures, end-small (cellOf (n .args .code)) v, v .faced)
 
 loop-holds : tie.Need-loop-holds Inv-loop μ-loop
-loop-holds c = asks-start _ _ _ (c .before .before .before .pre .0)
+loop-holds c = asks-start _ _ _ (c .before .before .before .pre .0) (c .before .before .before .pre .1)
 
 shared-slice-read-b : tie.Need-shared-slice-read-b Inv-loop μ-loop
 shared-slice-read-b c = search needs

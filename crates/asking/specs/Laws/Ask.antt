@@ -8,16 +8,16 @@ use native.Mathlib.Omega.{arith}
 use Rattle.logic.specs.Laws.Bools.{or-either, clash}
 use Rattle.cell.specs.declared.Cell.{Cell}
 use Rattle.cell.specs.Cell.{IsCell}
-use Rattle.code.specs.Inside.{Inside, liesWithin}
+use Rattle.code.specs.Inside.{liesWithin}
 use Rattle.code.specs.Laws.Inside.{lies-inside, inside-lies}
 use Rattle.reading.specs.declared.Level.{Level}
 use Rattle.reading.specs.Reading.{Nodes}
-use Rattle.reading.specs.Ground.{wholeCells, Finest, Covers, Cells}
+use Rattle.reading.specs.Ground.{wholeCells, Covers, Cells}
 use Rattle.reading.specs.Text.{Reads}
 use Rattle.reading.specs.TextReading.{nodesOf, isText}
+use Rattle.reading.specs.Laws.TextReading.{reads-own}
 use Rattle.reading.specs.Laws.Demand.{OfFaces, whole-cells, one-cell, all-covered}
-use Rattle.walk.specs.Laws.Walk.{text-reads}
-use Rattle.asking.specs.Ask.{anyWithin}
+use Rattle.asking.specs.Ask.{AllCovered, anyWithin}
 
 -- ---- one whole cell has the cell inside
 
@@ -38,10 +38,6 @@ covers-any (q ∷ qs) x c w (inl h) = ap (λ (b : Bool). b || anyWithin qs x) (i
 covers-any (q ∷ qs) x c w (inr h) = or-true (liesWithin q x) (anyWithin qs x) (covers-any qs x (c .1) w h)
 
 -- ---- "whether all of one cell's finest cells are covered"
-
--- every finest cell inside x is in the ground
-abbrev pub AllCovered : List Cell → Cell → Type 0
-AllCovered qs x = (y : Cell) → Finest y → Inside x y → Covers qs y
 
 module _ {h : List ℕ} {l : Level} {d : ℕ} {t : List ℕ} {ns : Nodes} (f : OfFaces l) (m : d ≤ 15) (r : Reads h l d t ns) where
   -- yes exactly then
@@ -64,4 +60,4 @@ module _ {h : List ℕ} {l : Level} {d : ℕ} {t : List ℕ} {ns : Nodes} (f : O
 pub text-asked :
     (t : List ℕ) → isText t ≡ true → (x : Cell) → IsCell x →
     (anyWithin (wholeCells (nodesOf t)) x ≡ true → AllCovered (wholeCells (nodesOf t)) x) × (AllCovered (wholeCells (nodesOf t)) x → anyWithin (wholeCells (nodesOf t)) x ≡ true)
-text-asked t e x v = asked-exactly tt (omega arith) (text-reads t e .2 .body) x v
+text-asked t e x v = asked-exactly tt (omega arith) (reads-own t e .body) x v

@@ -18,9 +18,9 @@ use Rattle.reading.specs.Parse.{parse}
 use Rattle.reading.specs.Scan.{scan}
 use Rattle.reading.specs.Place.{lead, placeOf, toEnd, readText}
 use Rattle.reading.specs.TextReading.{isText}
-use Rattle.reader.specs.Check.{textRefusal}
+use Rattle.reader.specs.Check.{textRefusal, checkedOf}
 use Rattle.jeguarivo.specs.Entries.{fixCode, pointCode, neighbourCode, nameAnswer, codeAnswer}
-use Rattle.jeguarivo.specs.Texts.{checkedText}
+use Rattle.jeguarivo.specs.Texts.{checkNumbers}
 
 -- A line of the table. Names and bodies are bytes; n, s, k, then what is asked, then what 01 says.
 pub data Line : Type 0 where
@@ -33,7 +33,7 @@ pub data Line : Type 0 where
 abbrev pub Holds : Line → Type 0
 Holds (fix n s k L z name) = (nameRefusal name ≡ 0) × (fixCode n s k L z ≡ nameAnswer name)
 Holds (step n s name d next) = (nameRefusal next ≡ 0) × (neighbourCode n s (nameCode name) d ≡ nameAnswer next)
-Holds (body n s bytes refusal place) = checkedText (heading n s ++ bytes) ≡ record { refusal = refusal; place = place; cells = 0; size = 0 }
+Holds (body n s bytes refusal place) = checkNumbers (checkedOf (heading n s ++ bytes)) ≡ record { refusal = refusal; place = place; n = 0; s = 0; cells = 0; size = 0 }
 Holds (point n s k x y refusal) = pointCode n s k x y ≡ record { refusal = refusal; code = 0 }
 
 abbrev pub AllHold : List Line → Type 0
@@ -64,6 +64,6 @@ table =
     []
 
 pub proved-table : AllHold table
-unfolding table _otherwise_ given value rowIn columnIn codeAnswer codeOf cellOf codeRefusal arrangementRefusal nameAnswer nameRefusal nameCode fixCode fixRefusal fixCell rootFloor neighbourCode neighbourOf pointCode pointRefusal checkedText textRefusal isText readText toEnd parse placeOf lead scan
+unfolding table _otherwise_ given value rowIn columnIn codeAnswer codeOf cellOf codeRefusal arrangementRefusal nameAnswer nameRefusal nameCode fixCode fixRefusal fixCell rootFloor neighbourCode neighbourOf pointCode pointRefusal checkedOf textRefusal isText readText toEnd parse placeOf lead scan
 proved-table =
     ((refl, refl), ((refl, refl), ((refl, refl), ((refl, refl), ((refl, refl), ((refl, refl), ((refl, refl), ((refl, refl), ((refl, refl), ((refl, refl), ((refl, refl), ((refl, refl), (refl, (refl, (refl, tt)))))))))))))))
