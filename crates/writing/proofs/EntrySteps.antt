@@ -2,8 +2,8 @@
 use mathlib.Core.Path.{_≡_, refl, sym, ap, ap₂, _∙_}
 use mathlib.Core.Bool.{Bool, true, false, _&&_, not}
 use mathlib.Core.Logic.{_⊎_, inl, inr, ⊎-elim}
-use mathlib.Core.List.{List, [], _∷_, _++_}
-use Prim.Native.Nat.{ℕ, zero, suc, _+_, _-_, _*_, _/_, _^_, _≤_, _<_}
+use mathlib.Core.List.{List, [], _∷_}
+use Prim.Native.Nat.{ℕ, zero, suc, _+_, _-_, _*_, _^_, _≤_, _<_}
 use native.Mathlib.Numerals.{add-one}
 use native.Mathlib.Omega.{arith}
 use lib.Dec.{leb, ltb}
@@ -20,9 +20,8 @@ use Rattle.code.specs.Laws.Code.{code-is-cell, code-cell}
 use Rattle.code.specs.Inside.{startOf, endOf, liesWithin}
 use Rattle.code.specs.Laws.Inside.{start-at, end-small, size-pos}
 use Rattle.reading.specs.Text.{heading}
-use Rattle.writing.specs.declared.Written.{Written}
 use Rattle.writing.specs.declared.Written.the-variants.{Length, Refused}
-use Rattle.writing.specs.Write.{allCodes, ordered, codesRefusal, textOf, writeRefusal, textIn, written}
+use Rattle.writing.specs.Write.{allCodes, ordered, codesRefusal, textOf, writeRefusal, written}
 use Rattle.writing.specs.Laws.List.{not-lies}
 
 -- ---- the tests of the list

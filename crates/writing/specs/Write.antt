@@ -1,16 +1,20 @@
 -- What writing answers (01 "The coverage text", "Refusal numbers"). Assumes nothing.
+use mathlib.Core.Path.{_≡_}
+use mathlib.Core.Logic.{_⊎_}
 use mathlib.Core.Bool.{Bool, true, false, _&&_, not}
 use mathlib.Core.List.{List, [], _∷_, _++_, map}
-use Prim.Native.Nat.{ℕ, zero, suc}
+use Prim.Native.Nat.{ℕ, zero, suc, _≤_}
 use lib.Dec.{ltb}
 use lib.ListN.{length, drop}
 use Rattle.logic.specs.Refusal.{refuse, _otherwise_}
+use Rattle.cell.specs.declared.Cell.{Cell}
 use Rattle.cell.specs.declared.Arrangement.{Arrangement}
 use Rattle.cell.specs.Cell.{arrangementRefusal}
 use Rattle.code.specs.Code.{cellOf, isCode}
-use Rattle.code.specs.Inside.{liesWithin}
+use Rattle.code.specs.Inside.{startOf, endOf, liesWithin}
 use Rattle.writing.specs.declared.Written.{Written}
 use Rattle.writing.specs.declared.Written.the-variants.{Length, Refused}
+use Rattle.reading.specs.Ground.{All, Rising, Apart}
 use Rattle.reading.specs.Written.{writtenText}
 
 -- ---- "rising codes, none inside another"
@@ -19,7 +23,28 @@ unfoldable pub allCodes : List ℕ → Bool
 allCodes [] = true
 allCodes (c ∷ cs) = isCode c && allCodes cs
 
--- each code is less than the next one, whose cell does not lie inside. "Once a list is rising, neighbouring pairs decide": ListLaws
+-- a list of codes as 01 wants it
+pub record GoodList (codes : List ℕ) : Type 0 where
+  pub coded : allCodes codes ≡ true
+  pub rising : Rising (map cellOf codes)
+  pub apart : Apart (map cellOf codes)
+
+-- a code somewhere in the list is no cell's
+abbrev pub Stray : List ℕ → Type 0
+Stray [] = ⊥
+Stray (c ∷ cs) = (isCode c ≡ false) ⊎ Stray cs
+
+-- each cell's finest cells come before those of all later ones
+abbrev pub Earlier : ℕ → List Cell → Type 0
+Earlier n xs = All (λ (x : Cell). n ≤ startOf x) xs
+
+abbrev pub InTurn : List Cell → Type 0
+InTurn [] = Unit {0}
+InTurn (c ∷ cs) = Earlier (endOf c) cs × InTurn cs
+
+-- ---- computed (Laws/List: 0 exactly for a good list)
+
+-- each code is less than the next one, whose cell does not lie inside: neighbouring pairs decide
 unfoldable pub ordered : List ℕ → Bool
 ordered [] = true
 ordered (c ∷ []) = true

@@ -1,5 +1,5 @@
 -- `jgv_coverage_check` meets its contract. Assumes nothing.
-use mathlib.Core.Path.{_≡_, sym, ap, _∙_}
+use mathlib.Core.Path.{sym, ap, _∙_}
 use Rattle.jeguarivo.specs.Texts.{checkNumbers}
 use borrow.Author.Needs.{needs}
 use Rattle.jeguarivo.proofs.jgv_coverage_check.Statement.{statement}

@@ -1,9 +1,9 @@
 -- A list of codes that is not refused is one of rising cells, none inside another, and neighbouring pairs decide it. Assumes nothing.
-use mathlib.Core.Path.{_≡_, refl, sym, ap, ap₂, _∙_}
+use mathlib.Core.Path.{_≡_, refl, sym, ap₂, _∙_}
 use mathlib.Core.Bool.{Bool, true, false, _&&_, not}
-use mathlib.Core.Logic.{_⊎_, inl, inr, ⊎-elim}
+use mathlib.Core.Logic.{inl, inr, ⊎-elim}
 use mathlib.Core.List.{List, [], _∷_, map}
-use Prim.Native.Nat.{ℕ, zero, suc, _+_, _*_, _≤_, _<_}
+use Prim.Native.Nat.{ℕ, _+_, _≤_, _<_}
 use native.Mathlib.Omega.{arith}
 use lib.Dec.{leb, ltb}
 use borrow.Author.Tests.{lt-ltb, le-leb, lt-leb, ltb-true, not-true, not-false}
@@ -19,7 +19,7 @@ use Rattle.code.specs.Inside.{Inside, startOf, endOf, liesWithin}
 use Rattle.code.specs.Laws.Inside.{start-code, size-pos, inside-within, nested-or-apart, lies-within, lies-inside, inside-lies}
 use Rattle.reading.specs.Ground.{Cells, All, Rising, Apart}
 use Rattle.reading.specs.Laws.Rising.{code-before, apart-before}
-use Rattle.writing.specs.Write.{allCodes, ordered, codesRefusal}
+use Rattle.writing.specs.Write.{allCodes, Stray, Earlier, InTurn, GoodList, ordered, codesRefusal}
 
 -- ---- every code is a cell's
 
@@ -27,11 +27,6 @@ pub codes-cells : (codes : List ℕ) → allCodes codes ≡ true → Cells (map 
 unfolding allCodes
 codes-cells [] t = tt
 codes-cells (c ∷ cs) t = (code-is-cell c (and-left (isCode c) (allCodes cs) t), codes-cells cs (and-right (isCode c) (allCodes cs) t))
-
--- 4 is for a code somewhere in the list that is no cell's
-abbrev pub Stray : List ℕ → Type 0
-Stray [] = ⊥
-Stray (c ∷ cs) = (isCode c ≡ false) ⊎ Stray cs
 
 pub stray : (codes : List ℕ) → (allCodes codes ≡ false → Stray codes) × (Stray codes → allCodes codes ≡ false)
 unfolding allCodes
@@ -79,13 +74,6 @@ module _ (c x : Cell) (v : IsCell c) (w : IsCell x) where
       go false e = sym (le-leb (startOf c + sizeOf c) (startOf x) (next-before l e))
 
 -- ---- each cell's finest cells come before those of all later ones
-
-abbrev Earlier : ℕ → List Cell → Type 0
-Earlier n xs = All (λ (x : Cell). n ≤ startOf x) xs
-
-abbrev pub InTurn : List Cell → Type 0
-InTurn [] = Unit {0}
-InTurn (c ∷ cs) = Earlier (endOf c) cs × InTurn cs
 
 earlier : (m n : ℕ) (xs : List Cell) → m ≤ n → Earlier n xs → Earlier m xs
 earlier m n [] h e = tt
@@ -136,12 +124,6 @@ list-ordered (c ∷ x ∷ cs) a r p =
     ap₂ _&&_ (lt-ltb c x l) (ap₂ _&&_ n (list-ordered (x ∷ cs) q (r .1) (p .1)))
 
 -- ---- "rising codes, none inside another": exactly those are not refused
-
--- a list of codes as 01 wants it
-pub record GoodList (codes : List ℕ) : Type 0 where
-  pub coded : allCodes codes ≡ true
-  pub rising : Rising (map cellOf codes)
-  pub apart : Apart (map cellOf codes)
 
 pub good-list : (codes : List ℕ) → codesRefusal codes ≡ 0 → GoodList codes
 unfolding codesRefusal
