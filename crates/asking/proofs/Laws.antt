@@ -172,7 +172,9 @@ module _ {t : List ℕ} {from to : ℕ} {r : Bool} {base before size i : ℕ} (v
   unfolding anyIn
   asks-past k = go (v .nodes) (v .left) (v .good) (v .same)
     where
-      go : (ns : Nodes) → drop i t ≡ render (v .level) ns ++ v .rest → Good (v .level) (v .depth) (v .lo) ns → anyIn from to before size ns ≡ r → Asks t from to r base before size (i + nodeIn (drop i t))
+      go :
+          (ns : Nodes) → drop i t ≡ render (v .level) ns ++ v .rest → Good (v .level) (v .depth) (v .lo) ns → anyIn from to before size ns ≡ r →
+          Asks t from to r base before size (i + nodeIn (drop i t))
       go end e g s = absurd (none (v .rest) (v .stop) e)
       go (whole c ns) e g s =
           let n : nodeIn (drop i t) ≡ 1 = ap nodeIn e ∙ node-whole c (v .level) (render (v .level) ns ++ v .rest) (nodes-stop ns) in

@@ -36,13 +36,19 @@ pub record Opens (s : List ℕ) (at d : ℕ) : Type 0 where
 pub node-bad : {s : List ℕ} {at d z : ℕ} {r : NodesRead} → Opens s at d → ReadsNodes s (at + 1) 0 Digits (d - 1) (z / 9) r → r ≡ Bad → ReadsNode s at d z Bad
 node-bad {s} {at} {d} {z} {r} o h b = record { is = st.node-bad s at d z r (o .inside) (o .bracket) (o .deep) (h .is) b }
 
-pub node-empty : {s : List ℕ} {at d z next m sum w : ℕ} {r : NodesRead} → Opens s at d → ReadsNodes s (at + 1) 0 Digits (d - 1) (z / 9) r → r ≡ Read next m sum w → next ≡ at + 1 → ReadsNode s at d z Bad
+pub node-empty :
+    {s : List ℕ} {at d z next m sum w : ℕ} {r : NodesRead} → Opens s at d → ReadsNodes s (at + 1) 0 Digits (d - 1) (z / 9) r → r ≡ Read next m sum w → next ≡ at + 1 →
+    ReadsNode s at d z Bad
 node-empty {s} {at} {d} {z} {next} {m} {sum} {w} {r} o h b q = record { is = st.node-empty s at d z r (o .inside) (o .bracket) (o .deep) (h .is) next m sum w b q }
 
-pub node-short : {s : List ℕ} {at d z next m sum w : ℕ} {r : NodesRead} → Opens s at d → ReadsNodes s (at + 1) 0 Digits (d - 1) (z / 9) r → r ≡ Read next m sum w → next ≡ length s → ReadsNode s at d z Bad
+pub node-short :
+    {s : List ℕ} {at d z next m sum w : ℕ} {r : NodesRead} → Opens s at d → ReadsNodes s (at + 1) 0 Digits (d - 1) (z / 9) r → r ≡ Read next m sum w → next ≡ length s →
+    ReadsNode s at d z Bad
 node-short {s} {at} {d} {z} {next} {m} {sum} {w} {r} o h b q = record { is = st.node-short s at d z r (o .inside) (o .bracket) (o .deep) (h .is) next m sum w b q }
 
-pub node-nine : {s : List ℕ} {at d z next m sum w : ℕ} {r : NodesRead} → Opens s at d → ReadsNodes s (at + 1) 0 Digits (d - 1) (z / 9) r → r ≡ Read next m sum w → (next ≡ at + 1 → ⊥) → w ≡ 9 → ReadsNode s at d z Bad
+pub node-nine :
+    {s : List ℕ} {at d z next m sum w : ℕ} {r : NodesRead} → Opens s at d → ReadsNodes s (at + 1) 0 Digits (d - 1) (z / 9) r → r ≡ Read next m sum w → (next ≡ at + 1 → ⊥) → w ≡ 9 →
+    ReadsNode s at d z Bad
 node-nine {s} {at} {d} {z} {next} {m} {sum} {w} {r} o h b q q′ = record { is = st.node-nine s at d z r (o .inside) (o .bracket) (o .deep) (h .is) next m sum w b q q′ }
 
 pub node-read : {s : List ℕ} {at d z next m sum w : ℕ} {r : NodesRead} → Opens s at d → ReadsNodes s (at + 1) 0 Digits (d - 1) (z / 9) r → r ≡ Read next m sum w

@@ -89,7 +89,9 @@ module _ (s : List ℕ) (at lo : ℕ) (l : Level) (d z : ℕ) where
   nodes-low a e f zero h = absurd (omega arith)
   nodes-low a e f (suc n) h = rw (drop-byte s at a, ne-eqb (getD s at 0) 41 e, lt-leb (first l + lo) (getD s at 0) f)
 
-  pub nodes-high : at < length s → (getD s at 0 ≡ 41 → ⊥) → first l + lo ≤ getD s at 0 → first l + many l ≤ getD s at 0 → (n : ℕ) → length s - at < n → Bad ≡ ofNodes (length s) z (parse n l d lo (drop at s))
+  pub nodes-high :
+      at < length s → (getD s at 0 ≡ 41 → ⊥) → first l + lo ≤ getD s at 0 → first l + many l ≤ getD s at 0 → (n : ℕ) → length s - at < n →
+      Bad ≡ ofNodes (length s) z (parse n l d lo (drop at s))
   unfolding parse
   nodes-high a e f g zero h = absurd (omega arith)
   nodes-high a e f g (suc n) h = rw (drop-byte s at a, ne-eqb (getD s at 0) 41 e, le-leb (first l + lo) (getD s at 0) f, le-ltb (getD s at 0) (first l + many l) g)

@@ -113,9 +113,7 @@ fn nodes(text: &[u8], start: usize, level: Level, room: u64, size: u64) -> Nodes
     NodesRead::Read(at, cells + wholes, sum + wholes * size, wholes)
 }
 
-// "Seven bytes of heading": the least and the greatest byte at each place.
-const HEADING: usize = 7;
-
+// The least and the greatest byte at each place of the heading.
 const LEAST: [u8; 7] = [b'C', b'V', b'R', 0, 1, b'0', b'0'];
 
 const GREATEST: [u8; 7] = [b'C', b'V', b'R', 0, 1, b'3', b'3'];
@@ -125,7 +123,7 @@ fn heading(text: &[u8]) -> usize
     ensures { λ r. ⌜ r ≡ lead least greatest (now (text .entry)) ⌝ }
 {
     let mut i: usize = 0;
-    while i < HEADING {
+    while i < reading::HEADING {
         if i == text.len() {
             return i;
         }
@@ -137,7 +135,7 @@ fn heading(text: &[u8]) -> usize
         }
         i += 1;
     }
-    HEADING
+    reading::HEADING
 }
 
 fn refused(refusal: u64, place: u64) -> Checked
@@ -170,22 +168,28 @@ fn check_body(text: &[u8]) -> Checked
 {
     let NodesRead::Read(next, cells, size, _) = nodes(
         text,
-        HEADING,
+        reading::HEADING,
         Level::Faces,
         15,
         code::FACE_SIZE,
     ) else {
-        return refused(9, place::place(text, HEADING, Level::Faces, 15) as u64);
+        return refused(
+            9,
+            place::place(text, reading::HEADING, Level::Faces, 15) as u64,
+        );
     };
     if next < text.len() {
-        return refused(9, place::place(text, HEADING, Level::Faces, 15) as u64);
+        return refused(
+            9,
+            place::place(text, reading::HEADING, Level::Faces, 15) as u64,
+        );
     }
     Checked::Text {
         north: (text[5] - b'0') as u64,
         south: (text[6] - b'0') as u64,
         cells,
         size,
-        body: HEADING,
+        body: reading::HEADING,
     }
 }
 
@@ -197,7 +201,7 @@ pub fn check(text: &[u8]) -> Checked
         return refused(13, 0);
     }
     let right = heading(text);
-    if right < HEADING {
+    if right < reading::HEADING {
         return check_heading(text, right);
     }
     check_body(text)

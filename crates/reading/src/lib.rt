@@ -2,6 +2,9 @@
 ghost use mathlib.Core.Path.{_≡_};
 ghost use Rattle.reading.specs.Reading.{first, many, room as roomOf};
 
+// "Seven bytes of heading"
+pub const HEADING: usize = 7;
+
 // "text longer than 65,536 bytes, read or to be written"
 pub const LONGEST: usize = 65_536;
 

@@ -18,7 +18,7 @@ use Rattle.cell.specs.Cell.{arrangementRefusal}
 use Rattle.code.specs.Code.{cellOf, isCode, sizeOf}
 use Rattle.code.specs.Laws.Code.{code-is-cell, code-cell}
 use Rattle.code.specs.Inside.{startOf, endOf, liesWithin}
-use Rattle.code.specs.Laws.Inside.{start-at, end-small, size-pos}
+use Rattle.code.specs.Laws.Inside.{code-start, end-small, size-pos}
 use Rattle.reading.specs.Text.{heading}
 use Rattle.writing.specs.declared.Written.the-variants.{Length, Refused}
 use Rattle.writing.specs.Write.{allCodes, ordered, codesRefusal, textOf, writeRefusal, written}
@@ -78,7 +78,8 @@ after c x i j = go (ltb c x) refl
         not-lies (cellOf c) (cellOf x) (code-is-cell c i) (code-is-cell x j) (omega (arith, code-cell c i, code-cell x j))
     go false e =
         let h : x ≤ c = ltb-false c x e in
-        sym (lt-leb (startOf (cellOf c) + sizeOf (cellOf c)) (startOf (cellOf x)) (omega (arith, start-at c i, start-at x j, size-pos (cellOf c))))
+        let r = code-start (cellOf x) (cellOf c) (code-is-cell x j) (code-is-cell c i) (omega (arith, code-cell c i, code-cell x j)) in
+        sym (lt-leb (startOf (cellOf c) + sizeOf (cellOf c)) (startOf (cellOf x)) (omega (arith, r, size-pos (cellOf c))))
 
 -- where a cell ends is a small number
 pub end-small-at : (c : ℕ) {start size : ℕ} → isCode c ≡ true → start ≡ startOf (cellOf c) → size ≡ sizeOf (cellOf c) → start + size < 2 ^ 64

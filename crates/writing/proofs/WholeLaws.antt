@@ -19,7 +19,8 @@ use Rattle.reading.specs.Laws.Named.{named-cell, name-named, prefix-inside}
 use Rattle.writing.specs.Write.{allCodes}
 use Rattle.writing.specs.Internal.Take.{Each, Took}
 use Rattle.writing.specs.Internal.Measure.{namesFrom, cellAt, sizeFrom, NodeAt, ListAt, NodeTakes, ListTakes}
-use Rattle.writing.specs.Internal.MeasureLaws.{code-at, names-at, size-at, end-named, node-finest, node-same, node-list, node-nine, node-held, list-none, list-node, list-rest, list-in, all-later, list-skip, list-out}
+use Rattle.writing.specs.Internal.MeasureLaws.{code-at, names-at, size-at, end-named, node-finest, node-same, node-list, node-nine}
+use Rattle.writing.specs.Internal.MeasureLaws.{node-held, list-none, list-node, list-rest, list-in, all-later, list-skip, list-out}
 use Rattle.writing.specs.Internal.Whole.{CoveredTo}
 
 -- ---- some node is made of the codes

@@ -241,7 +241,7 @@ fn length_of(codes: &[u64]) -> u64
     ensures { λ r. ⌜ LengthIs (now (codes .entry)) r ⌝ }
 {
     let faces = measure_list(codes, 0, 6, 0, code::FACE_SIZE);
-    faces.bytes + 7
+    faces.bytes + reading::HEADING as u64
 }
 
 // The seven bytes of heading.
@@ -281,6 +281,15 @@ pub fn write(arrangement: Arrangement, codes: &[u64], text: &mut [u8]) -> Writte
         return Written::Refused(8);
     }
     put_heading(text, north, south);
-    put_list(codes, 0, 6, 0, code::FACE_SIZE, text, 7, b'N');
+    put_list(
+        codes,
+        0,
+        6,
+        0,
+        code::FACE_SIZE,
+        text,
+        reading::HEADING,
+        b'N',
+    );
     Written::Length(length)
 }

@@ -51,7 +51,8 @@ returns-3 c =
     let k = c .before .before .before in
     let f = k .before .before .before in
     let a = f .before .before .before .args in
-    not-read (a .arrangement) (a .text .now) (a .code) (f .before .refusal .ensures) (f .if1 .left) (code-passes (a .code) (a-code (k .before))) (refusal-answer (a .text .now) (sym (c .before .refusal2 .given .1) ∙ k .check .ensures))
+    not-read (a .arrangement) (a .text .now) (a .code) (f .before .refusal .ensures) (f .if1 .left) (code-passes (a .code) (a-code (k .before)))
+    (refusal-answer (a .text .now) (sym (c .before .refusal2 .given .1) ∙ k .check .ensures))
 
 returns-4 : tie.Need-returns-4
 returns-4 c =
@@ -60,7 +61,8 @@ returns-4 c =
     let f = k .before .before .before in
     let a = f .before .before .before .args in
     c .answered .ensures
-    ∙ read-to (a .arrangement) (a .text .now) (a .code) (f .before .refusal .ensures) (f .if1 .left) (code-passes (a .code) (a-code (k .before))) (text-answer (a .text .now) (sym (w .north .given .1) ∙ k .check .ensures))
+    ∙ read-to (a .arrangement) (a .text .now) (a .code) (f .before .refusal .ensures) (f .if1 .left) (code-passes (a .code) (a-code (k .before)))
+    (text-answer (a .text .now) (sym (w .north .given .1) ∙ k .check .ensures))
 
 pub ask-spec : {M : Type 1} → statement M
 ask-spec =

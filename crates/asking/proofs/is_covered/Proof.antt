@@ -73,7 +73,9 @@ add-start : tie.Need-add-start Inv-loop μ-loop
 add-start c = omega (arith, asks-fits (c .before .before .before .loop .inv) (c .before .before .loop-test .taken) (c .if1 .left))
 
 returns-2 : tie.Need-returns-2 Inv-loop μ-loop
-returns-2 c = asks-behind (c .before .before .before .before .loop .inv) (c .before .before .before .loop-test .taken) (c .before .if1 .left) (c .if2 .taken) ∙ answer (c .before .before .before .before .before)
+returns-2 c =
+    asks-behind (c .before .before .before .before .loop .inv) (c .before .before .before .loop-test .taken) (c .before .if1 .left) (c .if2 .taken) ∙ answer
+    (c .before .before .before .before .before)
 
 add-if3 : tie.Need-add-if3 Inv-loop μ-loop
 add-if3 c = omega (arith, asks-fits (c .before .before .before .before .loop .inv) (c .before .before .before .loop-test .taken) (c .before .if1 .left))
@@ -82,16 +84,23 @@ past-node-requires : tie.Need-past-node-requires Inv-loop μ-loop
 past-node-requires c κs = search needs
 
 loop-less : tie.Need-loop-less Inv-loop μ-loop
-loop-less c = omega (arith, c .past-node .ensures, node-some (drop (c .before .before .before .before .before .before .loop .i) (c .before .before .before .before .before .before .before .before .before .before .args .text .now)))
+loop-less c =
+    let l = c .before .before .before .before .before .before in
+    omega (arith, c .past-node .ensures, node-some (drop (l .loop .i) (l .before .before .before .before .args .text .now)))
 
 loop-again : tie.Need-loop-again Inv-loop μ-loop
-loop-again c = rw (c .past-node .ensures) (asks-past (c .before .before .before .before .before .before .loop .inv) (c .before .before .before .before .before .loop-test .taken) (c .before .before .before .if1 .left) (c .before .if3 .taken))
+loop-again c =
+    let l = c .before .before .before .before .before in
+    rw (c .past-node .ensures) (asks-past (l .before .loop .inv) (l .loop-test .taken) (c .before .before .before .if1 .left) (c .before .if3 .taken))
 
 whole-at-requires : tie.Need-whole-at-requires Inv-loop μ-loop
 whole-at-requires c κs = search needs
 
 returns-3 : tie.Need-returns-3 Inv-loop μ-loop
-returns-3 c = asks-yes (c .before .before .before .before .before .before .before .loop .inv) (c .before .before .before .before .before .before .loop-test .taken) (c .before .before .before .before .if1 .left) (c .before .before .before .if2 .left) (c .before .before .if3 .left) (sym (c .before .whole-at .ensures) ∙ c .if4 .taken) ∙ answer (c .before .before .before .before .before .before .before .before)
+returns-3 c =
+    asks-yes (c .before .before .before .before .before .before .before .loop .inv) (c .before .before .before .before .before .before .loop-test .taken)
+    (c .before .before .before .before .if1 .left) (c .before .before .before .if2 .left) (c .before .before .if3 .left) (sym (c .before .whole-at .ensures) ∙ c .if4 .taken)
+    ∙ answer (c .before .before .before .before .before .before .before .before)
 
 add-i : tie.Need-add-i Inv-loop μ-loop
 add-i c = omega (arith, c .before .before .before .before .before .before .before .before .before .before .before .good)
@@ -100,7 +109,10 @@ loop-less-2 : tie.Need-loop-less-2 Inv-loop μ-loop
 loop-less-2 c = search needs
 
 loop-again-2 : tie.Need-loop-again-2 Inv-loop μ-loop
-loop-again-2 c = asks-into (c .before .before .before .before .before .before .before .loop .inv) (c .before .before .before .before .before .before .loop-test .taken) (c .before .before .before .before .if1 .left) (c .before .before .before .if2 .left) (c .before .before .if3 .left) (some (c .before .before .before .before .before .before .before .before)) (sym (c .before .whole-at .ensures) ∙ c .if4 .left)
+loop-again-2 c =
+    asks-into (c .before .before .before .before .before .before .before .loop .inv) (c .before .before .before .before .before .before .loop-test .taken)
+    (c .before .before .before .before .if1 .left) (c .before .before .before .if2 .left) (c .before .before .if3 .left)
+    (some (c .before .before .before .before .before .before .before .before)) (sym (c .before .whole-at .ensures) ∙ c .if4 .left)
 
 returns-4 : tie.Need-returns-4 Inv-loop μ-loop
 returns-4 c = asks-end (c .before .loop .inv) (c .loop-test .left) ∙ answer (c .before .before)

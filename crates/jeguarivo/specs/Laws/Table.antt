@@ -33,7 +33,8 @@ pub data Line : Type 0 where
 abbrev pub Holds : Line → Type 0
 Holds (fix n s k L z name) = (nameRefusal name ≡ 0) × (fixCode n s k L z ≡ nameAnswer name)
 Holds (step n s name d next) = (nameRefusal next ≡ 0) × (neighbourCode n s (nameCode name) d ≡ nameAnswer next)
-Holds (body n s bytes refusal place) = checkNumbers (checkedOf (heading n s ++ bytes)) ≡ record { refusal = refusal; place = place; n = 0; s = 0; cells = 0; size = 0 }
+Holds (body n s bytes refusal place) =
+    checkNumbers (checkedOf (heading n s ++ bytes)) ≡ record { refusal = refusal; place = place; n = 0; s = 0; cells = 0; size = 0 }
 Holds (point n s k x y refusal) = pointCode n s k x y ≡ record { refusal = refusal; code = 0 }
 
 abbrev pub AllHold : List Line → Type 0

@@ -10,7 +10,9 @@ use Rattle.listing.proofs.list.Statement.{statement}
 use Rattle.listing.proofs.list.Tie as tie
 
 -- the text was read
-read-in : (c : tie.After-cells) → let t = c .before .before .before .before .before .args .text .now in let g = c .cells .given .0 in TextAnswer t (g .0) (g .1 .0) (g .1 .1 .0) (g .1 .1 .1 .0) (g .1 .1 .1 .1 .0)
+read-in :
+    (c : tie.After-cells) →
+    let t = c .before .before .before .before .before .args .text .now in let g = c .cells .given .0 in TextAnswer t (g .0) (g .1 .0) (g .1 .1 .0) (g .1 .1 .1 .0) (g .1 .1 .1 .1 .0)
 read-in c = text-answer _ (sym (c .cells .given .1) ∙ c .before .before .check .ensures)
 
 check-requires : tie.Need-check-requires

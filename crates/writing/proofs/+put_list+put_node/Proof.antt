@@ -139,7 +139,12 @@ put-node-add-t17 : (t : ℕ) → put-node-lts.Need-add-t17 (for-node t) (put-nod
 put-node-add-t17 t c =
     let l = c .before .before .before .before .before .before .before in
     let w = l .before .before .before .before .before .before .before in
-    omega (arith, ps.has-children (w .whole-until .ensures) (l .before .before .before .before .before .before .if1 .left), l .put-list .ensures .short, w .before .before .before .before .before .before .before .pre .1 .4)
+    omega (
+      arith,
+      ps.has-children (w .whole-until .ensures) (l .before .before .before .before .before .before .if1 .left),
+      l .put-list .ensures .short,
+      w .before .before .before .before .before .before .before .pre .1 .4,
+    )
 
 put-node-same-length-2 : (t : ℕ) → put-node-lts.Need-same-length-2 (for-node t) (put-node-at t) put-node.Post
 put-node-same-length-2 t c = search needs

@@ -32,7 +32,8 @@ use Rattle.reading.specs.Written.{nodeOf, side}
 use Rattle.writing.specs.Write.{allCodes}
 use Rattle.reading.specs.Laws.Built.{under, built-side}
 use Rattle.writing.specs.Internal.Take.{restsOf, Since, Each, Took}
-use Rattle.writing.specs.Internal.TakeLaws.{prefix-same, prefix-both, side-in, side-out, took-none, took-join, standing-next, all-ahead, self-node, self-took, self-past, deeper, deeper-node, nine-past}
+use Rattle.writing.specs.Internal.TakeLaws.{prefix-same, prefix-both, side-in, side-out, took-none, took-join, standing-next}
+use Rattle.writing.specs.Internal.TakeLaws.{all-ahead, self-node, self-took, self-past, deeper, deeper-node, nine-past}
 use Rattle.writing.specs.Internal.Measure.{namesFrom, cellAt, sizeFrom, Fills, NodeAt, ListAt, NodeTakes, ListTakes}
 
 -- ---- codes, cells and names at a place
@@ -299,7 +300,9 @@ module _ (codes : List ℕ) (at : ℕ) (w : Name) (c left start size k : ℕ) (s
       let m : (b - c) * size ≡ (b - suc c) * size + size = ap (λ (x : ℕ). x * size) z ∙ suc-mul (b - suc c) size in
       (e .0, e .1 ∙ omega arith)
 
-  pub next-list : (next : ℕ) → Took (w ++ (c ∷ [])) (namesFrom codes at) (namesFrom codes next) → Each (Ahead (w ++ (c ∷ []))) (namesFrom codes next) → ListAt codes next w (suc c) left (start + size) size k
+  pub next-list :
+      (next : ℕ) → Took (w ++ (c ∷ [])) (namesFrom codes at) (namesFrom codes next) → Each (Ahead (w ++ (c ∷ []))) (namesFrom codes next) →
+      ListAt codes next w (suc c) left (start + size) size k
   next-list next t p =
       record {
         coded = s .coded;

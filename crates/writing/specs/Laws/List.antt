@@ -1,14 +1,13 @@
 -- A list of codes that is not refused is one of rising cells, none inside another, and neighbouring pairs decide it. Assumes nothing.
 use mathlib.Core.Path.{_≡_, refl, sym, ap₂, _∙_}
 use mathlib.Core.Bool.{Bool, true, false, _&&_, not}
-use mathlib.Core.Logic.{inl, inr, ⊎-elim}
+use mathlib.Core.Logic.{inl, inr}
 use mathlib.Core.List.{List, [], _∷_, map}
 use Prim.Native.Nat.{ℕ, _+_, _≤_, _<_}
 use native.Mathlib.Omega.{arith}
 use lib.Dec.{leb, ltb}
 use borrow.Author.Tests.{lt-ltb, le-leb, lt-leb, ltb-true, not-true, not-false}
 use Rattle.logic.specs.Laws.Bools.{and-left, and-right, clash}
-use Rattle.logic.specs.Laws.Order.{lt-or}
 use Rattle.logic.specs.Refusal.{refuse, _otherwise_}
 use Rattle.logic.specs.Laws.Refusal.{allowed, both}
 use Rattle.cell.specs.declared.Cell.{Cell}
@@ -16,7 +15,7 @@ use Rattle.cell.specs.Cell.{IsCell}
 use Rattle.code.specs.Code.{cellOf, codeOf, isCode, sizeOf}
 use Rattle.code.specs.Laws.Code.{code-is-cell, code-cell}
 use Rattle.code.specs.Inside.{Inside, startOf, endOf, liesWithin}
-use Rattle.code.specs.Laws.Inside.{start-code, size-pos, inside-within, nested-or-apart, lies-within, lies-inside, inside-lies}
+use Rattle.code.specs.Laws.Inside.{size-pos, lies-within, lies-inside, next-before}
 use Rattle.reading.specs.Ground.{Cells, All, Rising, Apart}
 use Rattle.reading.specs.Laws.Rising.{code-before, apart-before}
 use Rattle.writing.specs.Write.{allCodes, Stray, Earlier, InTurn, GoodList, ordered, codesRefusal}
@@ -48,30 +47,15 @@ is-not : (b : Bool) → (b ≡ true → ⊥) → not b ≡ true
 is-not true h = absurd (h refl)
 is-not false h = refl
 
--- the finest cells of x come after those of c
+-- the test of two codes that rise
 module _ (c x : Cell) (v : IsCell c) (w : IsCell x) where
-  pub next-before : codeOf c < codeOf x → liesWithin c x ≡ false → endOf c ≤ startOf x
-  unfolding endOf
-  next-before l e =
-      ⊎-elim
-      (λ h. ⊎-elim
-      (λ i. absurd (let k = inside-within x c w v i in omega (arith, k .from, start-code c v, start-code x w)))
-      (⊎-elim (λ a. a) (λ a. absurd (omega (arith, v .fine, w .fine, size-pos x, start-code c v, start-code x w))))
-      (nested-or-apart x c w v (omega arith)))
-      (λ h. ⊎-elim
-      (λ i. clash (sym (inside-lies c x v w i) ∙ e))
-      (⊎-elim (λ a. absurd (omega (arith, v .fine, w .fine, size-pos x, start-code c v, start-code x w))) (λ a. a))
-      (nested-or-apart c x v w h))
-      (lt-or (x .resolution) (c .resolution))
-
-  -- the test of two codes that rise
   pub not-lies : codeOf c < codeOf x → not (liesWithin c x) ≡ leb (endOf c) (startOf x)
   unfolding endOf
   not-lies l = go (liesWithin c x) refl
     where
       go : (b : Bool) → liesWithin c x ≡ b → not b ≡ leb (startOf c + sizeOf c) (startOf x)
       go true e = let k = lies-within c x e in sym (lt-leb (startOf c + sizeOf c) (startOf x) (omega (arith, k .to, size-pos x)))
-      go false e = sym (le-leb (startOf c + sizeOf c) (startOf x) (next-before l e))
+      go false e = sym (le-leb (startOf c + sizeOf c) (startOf x) (next-before c x v w l e))
 
 -- ---- each cell's finest cells come before those of all later ones
 
