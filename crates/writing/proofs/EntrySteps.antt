@@ -2,8 +2,8 @@
 use mathlib.Core.Path.{_≡_, refl, sym, ap, ap₂, _∙_}
 use mathlib.Core.Bool.{Bool, true, false, _&&_, not}
 use mathlib.Core.Logic.{_⊎_, inl, inr, ⊎-elim}
-use mathlib.Core.List.{List, [], _∷_, _++_}
-use Prim.Native.Nat.{ℕ, zero, suc, _+_, _-_, _*_, _/_, _^_, _≤_, _<_}
+use mathlib.Core.List.{List, [], _∷_}
+use Prim.Native.Nat.{ℕ, zero, suc, _+_, _-_, _*_, _^_, _≤_, _<_}
 use native.Mathlib.Numerals.{add-one}
 use native.Mathlib.Omega.{arith}
 use lib.Dec.{leb, ltb}
@@ -17,12 +17,11 @@ use Rattle.cell.specs.declared.Arrangement.{Arrangement}
 use Rattle.cell.specs.Cell.{arrangementRefusal}
 use Rattle.code.specs.Code.{cellOf, isCode, sizeOf}
 use Rattle.code.specs.Laws.Code.{code-is-cell, code-cell}
-use Rattle.code.specs.Inside.{startOf, endOf}
-use Rattle.code.specs.Laws.Inside.{start-at, end-small, size-pos}
+use Rattle.code.specs.Inside.{startOf, endOf, liesWithin}
+use Rattle.code.specs.Laws.Inside.{code-start, end-small, size-pos}
 use Rattle.reading.specs.Text.{heading}
-use Rattle.writing.specs.declared.Written.{Written}
 use Rattle.writing.specs.declared.Written.the-variants.{Length, Refused}
-use Rattle.writing.specs.Write.{allCodes, lies, ordered, codesRefusal, textOf, writeRefusal, textIn, written}
+use Rattle.writing.specs.Write.{allCodes, ordered, codesRefusal, textOf, writeRefusal, written}
 use Rattle.writing.specs.Laws.List.{not-lies}
 
 -- ---- the tests of the list
@@ -45,15 +44,15 @@ and-three false b c = refl
 pub order-step :
     (codes : List ℕ) (i : ℕ) → i + 1 < length codes →
     ordered (drop i codes) ≡
-    ((ltb (getD codes i 0) (getD codes (i + 1) 0) && not (lies (cellOf (getD codes i 0)) (cellOf (getD codes (i + 1) 0)))) && ordered (drop (i + 1) codes))
+    ((ltb (getD codes i 0) (getD codes (i + 1) 0) && not (liesWithin (cellOf (getD codes i 0)) (cellOf (getD codes (i + 1) 0)))) && ordered (drop (i + 1) codes))
 unfolding ordered
 order-step codes i h =
     let c : ℕ = getD codes i 0 in
     let x : ℕ = getD codes (i + 1) 0 in
     let e : drop (i + 1) codes ≡ x ∷ drop (i + 1 + 1) codes = drop-at codes (i + 1) h in
     ap ordered (drop-at codes i (omega arith) ∙ ap (λ (cs : List ℕ). c ∷ cs) e)
-    ∙ and-three (ltb c x) (not (lies (cellOf c) (cellOf x))) (ordered (x ∷ drop (i + 1 + 1) codes))
-    ∙ ap (λ (cs : List ℕ). (ltb c x && not (lies (cellOf c) (cellOf x))) && ordered cs) (sym e)
+    ∙ and-three (ltb c x) (not (liesWithin (cellOf c) (cellOf x))) (ordered (x ∷ drop (i + 1 + 1) codes))
+    ∙ ap (λ (cs : List ℕ). (ltb c x && not (liesWithin (cellOf c) (cellOf x))) && ordered cs) (sym e)
 
 short-order : (codes : List ℕ) → length codes ≤ 1 → ordered codes ≡ true
 unfolding ordered
@@ -67,19 +66,20 @@ order-end codes i h = short-order (drop i codes) (rw (length-drop i codes) (omeg
 -- two codes: the second comes after the first and not inside where its cell starts at the end of the first one's, or later
 after :
     (c x : ℕ) → isCode c ≡ true → isCode x ≡ true →
-    (ltb c x && not (lies (cellOf c) (cellOf x))) ≡ leb (startOf (cellOf c) + sizeOf (cellOf c)) (startOf (cellOf x))
+    (ltb c x && not (liesWithin (cellOf c) (cellOf x))) ≡ leb (startOf (cellOf c) + sizeOf (cellOf c)) (startOf (cellOf x))
 unfolding endOf
 after c x i j = go (ltb c x) refl
   where
     go :
         (b : Bool) → ltb c x ≡ b →
-        (b && not (lies (cellOf c) (cellOf x))) ≡ leb (startOf (cellOf c) + sizeOf (cellOf c)) (startOf (cellOf x))
+        (b && not (liesWithin (cellOf c) (cellOf x))) ≡ leb (startOf (cellOf c) + sizeOf (cellOf c)) (startOf (cellOf x))
     go true e =
         let h : c < x = ltb-true c x e in
         not-lies (cellOf c) (cellOf x) (code-is-cell c i) (code-is-cell x j) (omega (arith, code-cell c i, code-cell x j))
     go false e =
         let h : x ≤ c = ltb-false c x e in
-        sym (lt-leb (startOf (cellOf c) + sizeOf (cellOf c)) (startOf (cellOf x)) (omega (arith, start-at c i, start-at x j, size-pos (cellOf c))))
+        let r = code-start (cellOf x) (cellOf c) (code-is-cell x j) (code-is-cell c i) (omega (arith, code-cell c i, code-cell x j)) in
+        sym (lt-leb (startOf (cellOf c) + sizeOf (cellOf c)) (startOf (cellOf x)) (omega (arith, r, size-pos (cellOf c))))
 
 -- where a cell ends is a small number
 pub end-small-at : (c : ℕ) {start size : ℕ} → isCode c ≡ true → start ≡ startOf (cellOf c) → size ≡ sizeOf (cellOf c) → start + size < 2 ^ 64

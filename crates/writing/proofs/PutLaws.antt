@@ -1,27 +1,26 @@
 -- The bytes that the writing pass lays down are those of the nodes. Assumes nothing.
 use mathlib.Core.Path.{_≡_, refl, sym, ap, ap₂, _∙_}
 use mathlib.Core.Bool.{Bool, true, false, _||_, cond}
-use mathlib.Core.List.{List, [], _∷_, _++_, append-assoc, append-nil}
-use Prim.Native.Nat.{ℕ, zero, suc, _+_, _-_, _*_, _/_, _≤_, _<_}
-use native.Mathlib.Numerals.{add-one}
+use mathlib.Core.List.{List, [], _∷_, _++_, append-assoc}
+use Prim.Native.Nat.{ℕ, suc, _+_, _<_}
 use native.Mathlib.Omega.{arith}
 use lib.Dec.{eqb}
-use lib.ListN.{length, set, drop, getD, length-append}
-use lib.Seq.{sets, drop-cons}
+use lib.ListN.{length, set, length-append}
+use lib.Seq.{sets}
 use Rattle.logic.specs.Laws.Bools.{by-cond}
 use Rattle.logic.specs.Laws.Stores.{sets-append}
 use Rattle.reading.specs.declared.Level.{Level}
 use Rattle.reading.specs.declared.Level.the-variants.{Digits}
 use Rattle.reading.specs.Reading.{Nodes, end, whole, listed, first, render, wholes}
-use Rattle.reading.specs.Prefix.{Name, numbersOf, Prefix, Ahead}
-use Rattle.code.specs.Code.{cellOf}
-use Rattle.writing.specs.declared.Placed.{Placed}
+use Rattle.reading.specs.Prefix.{Name, numbersOf, Ahead}
+use Rattle.code.specs.Code.{sizeOf}
+use Rattle.writing.specs.declared.Ends.{Ends}
 use Rattle.reading.specs.Written.{anyEnds, nodeOf, side, under}
 use Rattle.reading.specs.Laws.Built.{built-side}
-use Rattle.writing.specs.Internal.Take.{restsOf, Each, Standing, Took}
+use Rattle.writing.specs.Internal.Take.{restsOf, Each}
 use Rattle.writing.specs.Internal.TakeLaws.{rests-first, side-in, side-out, took-none, took-join, nine-past}
-use Rattle.writing.specs.Internal.Measure.{namesFrom, NodeAt, ListAt, NodeTakes}
-use Rattle.writing.specs.Internal.MeasureLaws.{names-at, node-exact, node-list}
+use Rattle.writing.specs.Internal.Measure.{namesFrom, cellAt, NodeAt, ListAt, NodeTakes}
+use Rattle.writing.specs.Internal.MeasureLaws.{names-at, node-same}
 use Rattle.writing.specs.Internal.Put.{Wrote, NodeWrote, ListWrote}
 
 -- ---- bytes stored from a place on
@@ -74,18 +73,18 @@ whole-wrote codes at w k place l c text later next bytes count t e f =
     record { took = t .took; past = t .past; wrote = rw n (wrote-one f) }
 
 module _
-    (codes : List ℕ) (at : ℕ) (w : Name) (cell size k : ℕ) (s : NodeAt codes at w cell size (suc k)) (h : at < length codes) (next bytes count : ℕ)
+    (codes : List ℕ) (at : ℕ) (w : Name) (start size k : ℕ) (s : NodeAt codes at w start size (suc k)) (h : at < length codes) (next bytes count : ℕ)
     (t : NodeTakes codes at w (suc k) next bytes count) (n : count ≡ 1 → ⊥)
   where
     -- a node that is not whole is of another cell than the code at hand
-    pub other-code : getD codes at 0 ≡ cell → ⊥
-    other-code e =
-        let u = node-exact codes at w cell size (suc k) s h e in
+    pub other-size : sizeOf (cellAt codes at) ≡ size → ⊥
+    other-size e =
+        let u = node-same codes at w start size (suc k) s h e in
         n (omega (arith, t .whole 0 end, u .whole 0 end))
 
     held : (c : ℕ) → nodeOf (under (suc k)) c (restsOf w (namesFrom codes at)) end ≡ listed c (side (under k) 9 0 (restsOf w (namesFrom codes at))) end
     held c =
-        let f = rests-first w (namesFrom codes at) (numbersOf (cellOf (getD codes at 0))) (namesFrom codes (at + 1)) (names-at codes at h) (s .inside) in
+        let f = rests-first w (namesFrom codes at) (numbersOf (cellAt codes at)) (namesFrom codes (at + 1)) (names-at codes at h) (s .inside) in
         let i : (wholes (nodeOf (under (suc k)) c (restsOf w (namesFrom codes at)) end) ≡ 1 → ⊥) = λ e. n (omega (arith, t .whole c end)) in
         let j : nodeOf (under (suc k)) c (restsOf w (namesFrom codes at)) end ≡ listed c (under (suc k) (restsOf w (namesFrom codes at))) end =
         rw (f .2) (node-listed (under (suc k)) c (f .0) (f .1) (rw (f .2) at i)) in
@@ -111,10 +110,10 @@ module _
 -- ---- a list
 
 pub none-wrote :
-    (codes : List ℕ) (at : ℕ) (w : Name) (cell size k place : ℕ) (l : Level) (c : ℕ) (text : List ℕ) → ListAt codes at w c 0 cell size k →
+    (codes : List ℕ) (at : ℕ) (w : Name) (start size k place : ℕ) (l : Level) (c : ℕ) (text : List ℕ) → ListAt codes at w c 0 start size k →
     ListWrote codes at w k place l c 0 text text (record { next = at; place = place })
 unfolding side
-none-wrote codes at w cell size k place l c text s =
+none-wrote codes at w start size k place l c text s =
     let z : 0 + c ≡ c = omega arith in
     record { took = took-none w (namesFrom codes at); past = rw z (s .standing); wrote = wrote-none }
 
@@ -123,7 +122,7 @@ module _ (codes : List ℕ) (at : ℕ) (w : Name) (k place : ℕ) (l : Level) (c
   shift = omega arith
 
   pub in-wrote :
-      (text mid later : List ℕ) (n r : Placed) → NodeWrote codes at (w ++ (c ∷ [])) k place l c text mid n →
+      (text mid later : List ℕ) (n r : Ends) → NodeWrote codes at (w ++ (c ∷ [])) k place l c text mid n →
       ListWrote codes (n .next) w k (n .place) l (suc c) left mid later r → ListWrote codes at w k place l c (suc left) text later r
   in-wrote text mid later n r t u =
       let ss : List Name = namesFrom codes at in
@@ -136,7 +135,7 @@ module _ (codes : List ℕ) (at : ℕ) (w : Name) (k place : ℕ) (l : Level) (c
       }
 
   pub out-wrote :
-      (text later : List ℕ) (r : Placed) → Each (Ahead (w ++ (c ∷ []))) (namesFrom codes at) → ListWrote codes at w k place l (suc c) left text later r →
+      (text later : List ℕ) (r : Ends) → Each (Ahead (w ++ (c ∷ []))) (namesFrom codes at) → ListWrote codes at w k place l (suc c) left text later r →
       ListWrote codes at w k place l c (suc left) text later r
   out-wrote text later r p u =
       record { took = u .took; past = rw shift at (u .past); wrote = rw (side-out (under k) left c w (namesFrom codes at) p) (u .wrote) }

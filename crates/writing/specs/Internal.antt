@@ -1,4 +1,5 @@
 pub mod EntryLaws
+pub mod Length
 pub mod Measure
 pub mod MeasureLaws
 pub mod Put

@@ -1,20 +1,20 @@
 -- What writing answers (01 "The coverage text", "Refusal numbers"). Assumes nothing.
-use mathlib.Core.Path.{_≡_, refl}
+use mathlib.Core.Path.{_≡_}
+use mathlib.Core.Logic.{_⊎_}
 use mathlib.Core.Bool.{Bool, true, false, _&&_, not}
 use mathlib.Core.List.{List, [], _∷_, _++_, map}
-use Prim.Native.Nat.{ℕ, zero, suc}
-use lib.Dec.{leb, ltb}
+use Prim.Native.Nat.{ℕ, zero, suc, _≤_}
+use lib.Dec.{ltb}
 use lib.ListN.{length, drop}
 use Rattle.logic.specs.Refusal.{refuse, _otherwise_}
 use Rattle.cell.specs.declared.Cell.{Cell}
 use Rattle.cell.specs.declared.Arrangement.{Arrangement}
 use Rattle.cell.specs.Cell.{arrangementRefusal}
-use Rattle.ternary.specs.Digits.{value}
-use Rattle.ternary.specs.Weave.{rowIn, columnIn}
-use Rattle.code.specs.Code.{digitsOf, pathOf, cellOf, isCode, sizeOf}
-use Rattle.code.specs.Inside.{startOf, endOf}
+use Rattle.code.specs.Code.{cellOf, isCode}
+use Rattle.code.specs.Inside.{startOf, endOf, liesWithin}
 use Rattle.writing.specs.declared.Written.{Written}
 use Rattle.writing.specs.declared.Written.the-variants.{Length, Refused}
+use Rattle.reading.specs.Ground.{All, Rising, Apart}
 use Rattle.reading.specs.Written.{writtenText}
 
 -- ---- "rising codes, none inside another"
@@ -23,16 +23,32 @@ unfoldable pub allCodes : List ℕ → Bool
 allCodes [] = true
 allCodes (c ∷ cs) = isCode c && allCodes cs
 
--- the finest cells of x are among those of c
-unfoldable pub lies : (c x : Cell) → Bool
-lies c x = leb (startOf c) (startOf x) && leb (endOf x) (endOf c)
+-- a list of codes as 01 wants it
+pub record GoodList (codes : List ℕ) : Type 0 where
+  pub coded : allCodes codes ≡ true
+  pub rising : Rising (map cellOf codes)
+  pub apart : Apart (map cellOf codes)
 
--- each code is less than the next one, whose cell does not lie inside. "Once a list is rising, neighbouring pairs decide": ListLaws
+-- a code somewhere in the list is no cell's
+abbrev pub Stray : List ℕ → Type 0
+Stray [] = ⊥
+Stray (c ∷ cs) = (isCode c ≡ false) ⊎ Stray cs
+
+-- each cell's finest cells come before those of all later ones
+abbrev pub Earlier : ℕ → List Cell → Type 0
+Earlier n xs = All (λ (x : Cell). n ≤ startOf x) xs
+
+abbrev pub InTurn : List Cell → Type 0
+InTurn [] = Unit {0}
+InTurn (c ∷ cs) = Earlier (endOf c) cs × InTurn cs
+
+-- ---- computed (Laws/List: 0 exactly for a good list)
+
+-- each code is less than the next one, whose cell does not lie inside: neighbouring pairs decide
 unfoldable pub ordered : List ℕ → Bool
-unfolding lies
 ordered [] = true
 ordered (c ∷ []) = true
-ordered (c ∷ x ∷ cs) = ltb c x && (not (lies (cellOf c) (cellOf x)) && ordered (x ∷ cs))
+ordered (c ∷ x ∷ cs) = ltb c x && (not (liesWithin (cellOf c) (cellOf x)) && ordered (x ∷ cs))
 
 -- 4: "a code is no cell's". 11: "list not strictly rising, or one cell inside another"
 unfoldable pub codesRefusal : List ℕ → ℕ
@@ -63,20 +79,3 @@ textIn a codes bytes = textOf a codes ++ drop (length (textOf a codes)) bytes
 unfoldable pub written : ℕ → ℕ → Written
 written zero n = Length n
 written (suc r) n = Refused (suc r)
-
--- what each case stands for
-abbrev pub refusalIn : Written → ℕ
-refusalIn (Length n) = 0
-refusalIn (Refused r) = r
-
-abbrev pub lengthIn : Written → ℕ
-lengthIn (Length n) = n
-lengthIn (Refused r) = 0
-
--- ---- N and N0; N0 and N; N0 twice; N0 and N1; 16 is no cell's code, and "4 anywhere in the list comes before 11"
-
-lists :
-    (codesRefusal (0 ∷ 1 ∷ []) ≡ 11) × (codesRefusal (1 ∷ 0 ∷ []) ≡ 11) × (codesRefusal (1 ∷ 1 ∷ []) ≡ 11) ×
-    (codesRefusal (1 ∷ 366028679279377 ∷ []) ≡ 0) × (codesRefusal (1 ∷ 0 ∷ 16 ∷ []) ≡ 4)
-unfolding codesRefusal _otherwise_ isCode lies startOf endOf cellOf pathOf digitsOf value rowIn columnIn sizeOf
-lists = (refl, refl, refl, refl, refl)

@@ -1,29 +1,28 @@
 -- Asking along the nodes of a text: the answer, as definitions that follow the nodes. Assumes nothing.
 use mathlib.Core.Path.{_≡_, refl, sym, ap, ap₂, _∙_}
-use mathlib.Core.Bool.{Bool, true, false, _&&_, _||_, cond}
-use mathlib.Core.List.{List, [], _∷_, _++_, map, append-assoc}
+use mathlib.Core.Bool.{Bool, true, false, _&&_, _||_}
+use mathlib.Core.List.{List, [], _∷_, _++_, map}
 use Prim.Native.Nat.{ℕ, suc, _+_, _-_, _*_, _/_, _^_, _≤_, _<_}
-use native.Mathlib.Numerals.{add-one}
 use native.Mathlib.Nat.{pow-suc, add-mul, suc-mul, mul-assoc, mul-comm, mul-le-mul-right}
 use native.Mathlib.Omega.{arith}
-use lib.ListN.{length, drop, length-append}
-use lib.Dec.{leb, eqb}
-use borrow.Author.Tests.{lt-leb, ne-eqb}
+use lib.Dec.{leb}
+use borrow.Author.Tests.{lt-leb}
 use Rattle.cell.specs.declared.Cell.{Cell}
-use Rattle.code.specs.Inside.{startOf, endOf}
+use Rattle.code.specs.Inside.{startOf, endOf, liesWithin}
 use Rattle.code.specs.Number.{startAs, endAs}
 use Rattle.code.specs.Laws.Number.{start-as, end-as}
 use Rattle.reading.specs.declared.Level.{Level}
 use Rattle.reading.specs.declared.Level.the-variants.{Digits}
-use Rattle.reading.specs.Reading.{Nodes, end, whole, listed, first, many, room, render, Good}
+use Rattle.reading.specs.Reading.{Nodes, end, whole, listed, many, room, Good}
 use Rattle.reading.specs.Laws.Reading.{room-le}
 use Rattle.reading.specs.Ground.{wholeCells, Cells}
 use Rattle.reading.specs.TextReading.{nodesOf, isText}
+use Rattle.reading.specs.Laws.TextReading.{reads-own, good-nodes}
 use Rattle.reading.specs.Laws.Demand.{whole-cells}
 use Rattle.walk.specs.declared.Spot.{Spot}
-use Rattle.walk.specs.Walk.{spotOf, wholeAt}
-use Rattle.walk.specs.Laws.Walk.{not-open, not-shut, spotsIn, text-reads, good, spots-text}
-use Rattle.asking.specs.Ask.{within, anyWithin}
+use Rattle.walk.specs.Walk.{spotOf, spotsIn}
+use Rattle.walk.specs.Laws.Walk.{spots-text}
+use Rattle.asking.specs.Ask.{anyWithin}
 
 -- ---- the answer
 
@@ -40,7 +39,7 @@ anyHolds from to (s ∷ ss) =
     (leb (startAs (s .resolution) (s .number)) from && leb to (endAs (s .resolution) (s .number))) || anyHolds from to ss
 
 any-spots : (qs : List Cell) (x : Cell) → Cells qs → anyHolds (startOf x) (endOf x) (map spotOf qs) ≡ anyWithin qs x
-unfolding anyHolds anyWithin within
+unfolding anyHolds anyWithin liesWithin
 any-spots [] x c = refl
 any-spots (q ∷ qs) x c =
     ap₂ _||_ (ap₂ (λ (a b : ℕ). leb a (startOf x) && leb (endOf x) b) (start-as q (c .0)) (end-as q (c .0))) (any-spots qs x (c .1))
@@ -78,9 +77,9 @@ module _ (from to : ℕ) where
 -- of the whole text
 pub nodes-asked : (t : List ℕ) → isText t ≡ true → (x : Cell) → anyIn (startOf x) (endOf x) 0 (9 ^ 15) (nodesOf t) ≡ anyWithin (wholeCells (nodesOf t)) x
 nodes-asked t e x =
-    any-in (startOf x) (endOf x) (nodesOf t) _ 15 0 0 0 (good t e) (omega arith)
+    any-in (startOf x) (endOf x) (nodesOf t) _ 15 0 0 0 (good-nodes t e) (omega arith)
     ∙ ap (anyHolds (startOf x) (endOf x)) (spots-text t e)
-    ∙ any-spots (wholeCells (nodesOf t)) x (whole-cells tt (omega arith) (text-reads t e .2 .body) .0)
+    ∙ any-spots (wholeCells (nodesOf t)) x (whole-cells tt (omega arith) (reads-own t e .body) .0)
 
 -- ---- nodes that cannot hold it
 
@@ -110,64 +109,3 @@ module _ (from to : ℕ) where
   in-behind (listed c is ns) l d lo a z g h =
       let k : from < a + c * z = omega (arith, mul-le-mul-right z (g .0)) in
       ap₂ _||_ (in-behind is Digits (room l c d - 1) 0 (a + c * z) (z / 9) (g .5) (omega arith)) (in-behind ns l d (suc c) a z (g .6) (omega (arith, suc-mul c z)))
-
--- ---- past a list
-
--- how many lists are open behind a byte
-unfoldable pub openPast : ℕ → ℕ → ℕ
-openPast d b = cond (eqb b 40) (d + 1) (cond (eqb b 41) (d - 1) d)
-
--- how many bytes it takes until d lists are shut
-unfoldable pub shutIn : ℕ → List ℕ → ℕ
-unfolding openPast
-shutIn d [] = 0
-shutIn d (b ∷ bs) = 1 + cond (eqb (openPast d b) 0) 0 (shutIn (openPast d b) bs)
-
-shut-step : (d b e : ℕ) (bs : List ℕ) → openPast d b ≡ suc e → shutIn d (b ∷ bs) ≡ 1 + shutIn (suc e) bs
-unfolding shutIn
-shut-step d b e bs p =
-    ap (λ (x : ℕ). 1 + cond (eqb x 0) 0 (shutIn x bs)) p
-    ∙ ap (λ (y : Bool). 1 + cond y 0 (shutIn (suc e) bs)) (ne-eqb (suc e) 0 (omega arith))
-
-past-name : (c : ℕ) (l : Level) (d : ℕ) → openPast d (first l + c) ≡ d
-unfolding openPast
-past-name c l d = rw (not-open c l, not-shut c l)
-
-past-open : (d : ℕ) → openPast d 40 ≡ suc d
-unfolding openPast
-past-open d = add-one d
-
-past-shut : (d : ℕ) → openPast (suc d) 41 ≡ d
-unfolding openPast
-past-shut d = omega arith
-
-shut-nodes : (ns : Nodes) (l : Level) (d : ℕ) (rest : List ℕ) → shutIn (suc d) (render l ns ++ rest) ≡ length (render l ns) + shutIn (suc d) rest
-shut-nodes end l d rest = omega arith
-shut-nodes (whole c ns) l d rest =
-    omega (arith, shut-step (suc d) (first l + c) d (render l ns ++ rest) (past-name c l (suc d)), shut-nodes ns l d rest)
-shut-nodes (listed c is ns) l d rest =
-    let tail : List ℕ = 41 ∷ (render l ns ++ rest) in
-    let body : List ℕ = render Digits is ++ tail in
-    let e : shutIn (suc d) (render l (listed c is ns) ++ rest) ≡ shutIn (suc d) ((first l + c) ∷ 40 ∷ body) =
-    ap (λ (x : List ℕ). shutIn (suc d) ((first l + c) ∷ 40 ∷ x)) (append-assoc (render Digits is) (41 ∷ render l ns) rest) in
-    omega (
-      arith,
-      e,
-      shut-step (suc d) (first l + c) d (40 ∷ body) (past-name c l (suc d)),
-      shut-step (suc d) 40 (suc d) body (past-open (suc d)),
-      shut-nodes is Digits (suc d) tail,
-      shut-step (suc (suc d)) 41 d (render l ns ++ rest) (past-shut (suc d)),
-      shut-nodes ns l d rest,
-      length-append (render Digits is) (41 ∷ render l ns),
-    )
-
-pub shut-list : (is : Nodes) (rest : List ℕ) → shutIn 1 (render Digits is ++ (41 ∷ rest)) ≡ length (render Digits is) + 1
-unfolding shutIn
-shut-list is rest =
-    let e : shutIn 1 (41 ∷ rest) ≡ 1 = ap (λ (x : ℕ). 1 + cond (eqb x 0) 0 (shutIn x rest)) (past-shut 0) in
-    omega (arith, shut-nodes is Digits 0 (41 ∷ rest))
-
--- the bytes of the node that stands here
-unfoldable pub nodeIn : List ℕ → ℕ
-unfolding shutIn
-nodeIn bs = cond (wholeAt bs) 1 (2 + shutIn 1 (drop 2 bs))

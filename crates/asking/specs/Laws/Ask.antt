@@ -1,44 +1,31 @@
 -- A text answers yes for a cell exactly when every finest cell inside the cell is covered (01 "The coverage text": asking). Assumes nothing.
-use mathlib.Core.Path.{_≡_, refl, sym, ap, ap₂}
+use mathlib.Core.Path.{_≡_, refl, sym, ap}
 use mathlib.Core.Logic.{inl, inr, ⊎-elim}
-use mathlib.Core.Bool.{Bool, true, false, _&&_, _||_}
+use mathlib.Core.Bool.{Bool, true, false, _||_}
 use mathlib.Core.List.{List, [], _∷_}
 use Prim.Native.Nat.{ℕ, _≤_}
 use native.Mathlib.Omega.{arith}
-use lib.Dec.{leb}
-use borrow.Author.Tests.{le-leb, leb-true}
-use Rattle.logic.specs.Laws.Bools.{and-left, and-right, or-either, clash}
+use Rattle.logic.specs.Laws.Bools.{or-either, clash}
 use Rattle.cell.specs.declared.Cell.{Cell}
 use Rattle.cell.specs.Cell.{IsCell}
-use Rattle.code.specs.Inside.{Inside, startOf, endOf}
-use Rattle.code.specs.Laws.Inside.{inside-within, within-inside}
+use Rattle.code.specs.Inside.{liesWithin}
+use Rattle.code.specs.Laws.Inside.{lies-inside, inside-lies}
 use Rattle.reading.specs.declared.Level.{Level}
 use Rattle.reading.specs.Reading.{Nodes, OfFaces}
-use Rattle.reading.specs.Ground.{wholeCells, Finest, Covers, Cells}
+use Rattle.reading.specs.Ground.{wholeCells, Covers, Cells}
 use Rattle.reading.specs.Text.{Reads}
 use Rattle.reading.specs.TextReading.{nodesOf, isText}
+use Rattle.reading.specs.Laws.TextReading.{reads-own}
 use Rattle.reading.specs.Laws.Demand.{whole-cells, one-cell, all-covered}
-use Rattle.walk.specs.Laws.Walk.{text-reads}
-use Rattle.asking.specs.Ask.{within, anyWithin}
+use Rattle.asking.specs.Ask.{AllCovered, anyWithin}
 
 -- ---- one whole cell has the cell inside
-
-within-cell : (q x : Cell) → IsCell q → IsCell x → within q x ≡ true → Inside q x
-unfolding within
-within-cell q x v w e =
-    within-inside q x v w
-    (record { from = leb-true _ _ (and-left (leb (startOf q) (startOf x)) (leb (endOf x) (endOf q)) e); to = leb-true _ _ (and-right (leb (startOf q) (startOf x)) (leb (endOf x) (endOf q)) e) })
-
-cell-within : (q x : Cell) → IsCell q → IsCell x → Inside q x → within q x ≡ true
-unfolding within
-cell-within q x v w i =
-    let k = inside-within q x v w i in ap₂ _&&_ (le-leb (startOf q) (startOf x) (k .from)) (le-leb (endOf x) (endOf q) (k .to))
 
 any-covers : (qs : List Cell) (x : Cell) → Cells qs → IsCell x → anyWithin qs x ≡ true → Covers qs x
 unfolding anyWithin
 any-covers [] x c w e = clash (sym e)
 any-covers (q ∷ qs) x c w e =
-    ⊎-elim (λ f. inl (within-cell q x (c .0) w f)) (λ f. inr (any-covers qs x (c .1) w f)) (or-either (within q x) (anyWithin qs x) e)
+    ⊎-elim (λ f. inl (lies-inside q x (c .0) w f)) (λ f. inr (any-covers qs x (c .1) w f)) (or-either (liesWithin q x) (anyWithin qs x) e)
 
 or-true : (a b : Bool) → b ≡ true → (a || b) ≡ true
 or-true true b e = refl
@@ -47,14 +34,10 @@ or-true false b e = e
 covers-any : (qs : List Cell) (x : Cell) → Cells qs → IsCell x → Covers qs x → anyWithin qs x ≡ true
 unfolding anyWithin
 covers-any [] x c w h = absurd h
-covers-any (q ∷ qs) x c w (inl h) = ap (λ (b : Bool). b || anyWithin qs x) (cell-within q x (c .0) w h)
-covers-any (q ∷ qs) x c w (inr h) = or-true (within q x) (anyWithin qs x) (covers-any qs x (c .1) w h)
+covers-any (q ∷ qs) x c w (inl h) = ap (λ (b : Bool). b || anyWithin qs x) (inside-lies q x (c .0) w h)
+covers-any (q ∷ qs) x c w (inr h) = or-true (liesWithin q x) (anyWithin qs x) (covers-any qs x (c .1) w h)
 
 -- ---- "whether all of one cell's finest cells are covered"
-
--- every finest cell inside x is in the ground
-abbrev pub AllCovered : List Cell → Cell → Type 0
-AllCovered qs x = (y : Cell) → Finest y → Inside x y → Covers qs y
 
 module _ {h : List ℕ} {l : Level} {d : ℕ} {t : List ℕ} {ns : Nodes} (f : OfFaces l) (m : d ≤ 15) (r : Reads h l d t ns) where
   -- yes exactly then
@@ -77,4 +60,4 @@ module _ {h : List ℕ} {l : Level} {d : ℕ} {t : List ℕ} {ns : Nodes} (f : O
 pub text-asked :
     (t : List ℕ) → isText t ≡ true → (x : Cell) → IsCell x →
     (anyWithin (wholeCells (nodesOf t)) x ≡ true → AllCovered (wholeCells (nodesOf t)) x) × (AllCovered (wholeCells (nodesOf t)) x → anyWithin (wholeCells (nodesOf t)) x ≡ true)
-text-asked t e x v = asked-exactly tt (omega arith) (text-reads t e .2 .body) x v
+text-asked t e x v = asked-exactly tt (omega arith) (reads-own t e .body) x v

@@ -1,10 +1,13 @@
 -- Lying inside is an order of ranges: a cell lies inside another exactly when its finest cells are among the other's. Assumes nothing.
 use mathlib.Core.Path.{_≡_, refl, sym, ap, ap₂, _∙_}
 use Prim.Native.Nat.{ℕ, suc, _+_, _-_, _*_, _/_, _^_, _≤_, _<_}
-use mathlib.Core.Bool.{true}
+use mathlib.Core.Bool.{true, false, _&&_}
 use native.Mathlib.Nat.{add-mul, suc-mul, mul-assoc, mul-le-mul-right, div-eq-of-lt-le, div-mul-le-self, lt-div-mul-add, le-of-mul-le-mul-right, one-mul, div-lt-iff-lt-mul, le-trans}
 use native.Mathlib.Omega.{arith}
 use mathlib.Core.Logic.{_⊎_, inl, inr, ⊎-elim}
+use lib.Dec.{leb}
+use borrow.Author.Tests.{le-leb, leb-true}
+use Rattle.logic.specs.Laws.Bools.{and-left, and-right, clash}
 use Rattle.logic.specs.Laws.Order.{lt-or, three-ways}
 use Rattle.ternary.specs.Laws.Powers.{nine-pos, nine-le, nine-lt, nine-split, nine-add, power-add, power-pos}
 use Rattle.ternary.specs.Weave.{weave}
@@ -13,7 +16,7 @@ use Rattle.cell.specs.declared.Cell.{Cell}
 use Rattle.cell.specs.Cell.{IsCell}
 use Rattle.code.specs.Code.{pathOf, codeAt, codeOf, cellOf, isCode, sizeOf}
 use Rattle.code.specs.Laws.Code.{path-weave, path-small, code-is-cell, code-cell}
-use Rattle.code.specs.Inside.{Inside, startOf, endOf, Within}
+use Rattle.code.specs.Inside.{Inside, startOf, endOf, Within, liesWithin}
 
 -- a code without its resolution is the number of the first finest cell
 pub start-code : (c : Cell) → IsCell c → codeOf c ≡ startOf c * 16 + c .resolution
@@ -98,7 +101,9 @@ module _ (c x : Cell) (v : IsCell c) (w : IsCell x) where
       ap (λ (n : ℕ). 9 ^ n) e ∙ nine-add (x .resolution - c .resolution) (15 - x .resolution)
 
   -- the path of x without its last digits
-  prefix : c .resolution ≤ x .resolution → pathOf x / 9 ^ (x .resolution - c .resolution) ≡ weave (c .resolution) (x .row / 3 ^ (x .resolution - c .resolution)) (x .column / 3 ^ (x .resolution - c .resolution))
+  prefix :
+      c .resolution ≤ x .resolution →
+      pathOf x / 9 ^ (x .resolution - c .resolution) ≡ weave (c .resolution) (x .row / 3 ^ (x .resolution - c .resolution)) (x .column / 3 ^ (x .resolution - c .resolution))
   prefix h =
       let e : x .resolution ≡ c .resolution + (x .resolution - c .resolution) = omega arith in
       ap (λ (y : ℕ). y / 9 ^ (x .resolution - c .resolution)) (path-weave x ∙ ap (λ (k : ℕ). weave k (x .row) (x .column)) e)
@@ -190,3 +195,44 @@ module _ (c x : Cell) (v : IsCell c) (w : IsCell x) where
       ⊎-elim (λ l. inr (inl (apart x c w l)))
       (⊎-elim (λ e. same-face h e) (λ l. inr (inr (apart c x v l))))
       (three-ways (x .face) (c .face))
+
+-- the test tells exactly that
+module _ (c x : Cell) where
+  pub lies-within : liesWithin c x ≡ true → Within c x
+  unfolding liesWithin
+  lies-within e =
+      record {
+        from = leb-true _ _ (and-left (leb (startOf c) (startOf x)) (leb (endOf x) (endOf c)) e);
+        to = leb-true _ _ (and-right (leb (startOf c) (startOf x)) (leb (endOf x) (endOf c)) e);
+      }
+
+  pub within-lies : Within c x → liesWithin c x ≡ true
+  unfolding liesWithin
+  within-lies w = ap₂ _&&_ (le-leb _ _ (w .from)) (le-leb _ _ (w .to))
+
+  module _ (v : IsCell c) (w : IsCell x) where
+    pub lies-inside : liesWithin c x ≡ true → Inside c x
+    lies-inside e = within-inside c x v w (lies-within e)
+
+    pub inside-lies : Inside c x → liesWithin c x ≡ true
+    inside-lies i = within-lies (inside-within c x v w i)
+
+    -- ---- code order: by the first finest cell, and of one start the coarser cell first
+
+    pub code-start : codeOf c ≤ codeOf x → startOf c ≤ startOf x
+    code-start h = omega (arith, v .fine, w .fine, start-code c v, start-code x w)
+
+    -- the finest cells of a cell that comes next in code order, and not inside, come after those of the first
+    pub next-before : codeOf c < codeOf x → liesWithin c x ≡ false → endOf c ≤ startOf x
+    unfolding endOf
+    next-before l e =
+        ⊎-elim
+        (λ h. ⊎-elim
+        (λ i. absurd (let k = inside-within x c w v i in omega (arith, k .from, start-code c v, start-code x w)))
+        (⊎-elim (λ a. a) (λ a. absurd (omega (arith, code-start (omega arith), size-pos x))))
+        (nested-or-apart x c w v (omega arith)))
+        (λ h. ⊎-elim
+        (λ i. clash (sym (inside-lies i) ∙ e))
+        (⊎-elim (λ a. absurd (omega (arith, code-start (omega arith), size-pos x))) (λ a. a))
+        (nested-or-apart c x v w h))
+        (lt-or (x .resolution) (c .resolution))

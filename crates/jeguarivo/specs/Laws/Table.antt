@@ -1,6 +1,6 @@
 -- 01's proved table: its twelve lines as one table, over what the entries answer, and one statement. Assumes nothing.
 use mathlib.Core.Path.{_≡_, refl}
-use mathlib.Core.List.{List, [], _∷_, _++_}
+use mathlib.Core.List.{List, [], _∷_, _++_, map}
 use Prim.Native.Nat.{ℕ, _*_, _^_}
 use lib.IntN.{ℤ, pos, negℤ}
 use Rattle.ternary.specs.Digits.{value}
@@ -12,16 +12,17 @@ use Rattle.cell.specs.Neighbour.{neighbourOf}
 use Rattle.code.specs.Code.{codeOf, cellOf, codeRefusal, coded}
 use Rattle.plane.specs.Plane.{pointRefusal}
 use Rattle.locate.specs.Fix.{fixCell, fixRefusal}
-use Rattle.name.specs.Name.{nameRefusal, nameCode}
+use Rattle.name.specs.Name.{nameCode}
 use Rattle.reading.specs.Text.{heading}
 use Rattle.reading.specs.Parse.{parse}
 use Rattle.reading.specs.Scan.{scan}
-use Rattle.reading.specs.Heading.{lead}
 use Rattle.reading.specs.Place.{placeOf}
-use Rattle.reading.specs.TextReading.{toEnd, readText, isText}
-use Rattle.reader.specs.Check.{textRefusal}
-use Rattle.jeguarivo.specs.Entries.{fixCode, pointCode, neighbourCode, nameAnswer, codeAnswer}
-use Rattle.jeguarivo.specs.Texts.{checkedText}
+use Rattle.reading.specs.Heading.{lead}
+use Rattle.reading.specs.TextReading.{isText, toEnd, readText}
+use Rattle.reader.specs.Check.{textRefusal, checkedOf}
+use Rattle.jeguarivo.specs.Entries.{fixCode, pointCode, neighbourCode, codeAnswer}
+use Rattle.jeguarivo.specs.Texts.{checkNumbers}
+use Rattle.jeguarivo.specs.declared.CodeAnswer.{CodeAnswer}
 
 -- A line of the table. Names and bodies are bytes; n, s, k, then what is asked, then what 01 says.
 pub data Line : Type 0 where
@@ -30,16 +31,22 @@ pub data Line : Type 0 where
   body : (n s : ℕ) (bytes : List ℕ) (refusal place : ℕ) → Line
   point : (n s k : ℕ) (x y : ℤ) (refusal : ℕ) → Line
 
--- what the line says of the entries' answers
-abbrev pub Holds : Line → Type 0
-Holds (fix n s k L z name) = (nameRefusal name ≡ 0) × (fixCode n s k L z ≡ nameAnswer name)
-Holds (step n s name d next) = (nameRefusal next ≡ 0) × (neighbourCode n s (nameCode name) d ≡ nameAnswer next)
-Holds (body n s bytes refusal place) = checkedText (heading n s ++ bytes) ≡ record { refusal = refusal; place = place; cells = 0; size = 0 }
-Holds (point n s k x y refusal) = pointCode n s k x y ≡ record { refusal = refusal; code = 0 }
+-- the numbers that the entry answers, refusal first, and those that 01 says
+abbrev codeNumbers : CodeAnswer → List ℕ
+codeNumbers r = r .refusal ∷ r .code ∷ []
 
-abbrev pub AllHold : List Line → Type 0
-AllHold [] = Unit {0}
-AllHold (l ∷ ls) = Holds l × AllHold ls
+unfoldable pub answered : Line → List ℕ
+answered (fix n s k L z name) = codeNumbers (fixCode n s k L z)
+answered (step n s name d next) = codeNumbers (neighbourCode n s (nameCode name) d)
+answered (body n s bytes refusal place) =
+    checkNumbers (checkedOf (heading n s ++ bytes)) .refusal ∷ checkNumbers (checkedOf (heading n s ++ bytes)) .place ∷ []
+answered (point n s k x y refusal) = codeNumbers (pointCode n s k x y)
+
+unfoldable pub said : Line → List ℕ
+said (fix n s k L z name) = 0 ∷ nameCode name ∷ []
+said (step n s name d next) = 0 ∷ nameCode next ∷ []
+said (body n s bytes refusal place) = refusal ∷ place ∷ []
+said (point n s k x y refusal) = refusal ∷ 0 ∷ []
 
 abbrev west : ℕ → ℤ
 west L = negℤ (pos L)
@@ -64,7 +71,6 @@ table =
     point 0 0 0 (pos (4 * 28697814)) (pos 0) 7 ∷  -- 12: X 4M, Y 0
     []
 
-pub proved-table : AllHold table
-unfolding table _otherwise_ given value rowIn columnIn codeAnswer coded codeOf cellOf codeRefusal arrangementRefusal nameAnswer nameRefusal nameCode fixCode fixRefusal fixCell rootFloor neighbourCode neighbourOf pointCode pointRefusal checkedText textRefusal isText readText toEnd parse placeOf lead scan
-proved-table =
-    ((refl, refl), ((refl, refl), ((refl, refl), ((refl, refl), ((refl, refl), ((refl, refl), ((refl, refl), ((refl, refl), ((refl, refl), ((refl, refl), ((refl, refl), ((refl, refl), (refl, (refl, (refl, tt)))))))))))))))
+pub proved-table : map answered table ≡ map said table
+unfolding answered said table _otherwise_ given value rowIn columnIn codeAnswer coded codeOf cellOf codeRefusal arrangementRefusal nameCode fixCode fixRefusal fixCell rootFloor neighbourCode neighbourOf pointCode pointRefusal checkedOf textRefusal isText readText toEnd parse placeOf lead scan
+proved-table = refl

@@ -1,5 +1,5 @@
 -- The codes that listing gives are those of the reading's whole cells, strictly rising, none inside another. Assumes nothing.
-use mathlib.Core.Path.{_≡_, refl, sym, ap, ap₂, _∙_}
+use mathlib.Core.Path.{_≡_, refl, ap, ap₂, _∙_}
 use mathlib.Core.Bool.{true}
 use mathlib.Core.List.{List, [], _∷_, map}
 use Prim.Native.Nat.{ℕ, _<_}
@@ -12,11 +12,12 @@ use Rattle.code.specs.Laws.Code.{cell-code}
 use Rattle.code.specs.Number.{codeAs}
 use Rattle.code.specs.Laws.Number.{code-as}
 use Rattle.reading.specs.Ground.{wholeCells, Cells, All, Rising, Apart}
-use Rattle.reading.specs.TextReading.{nodesOf, isText}
+use Rattle.reading.specs.TextReading.{nodesOf, isText, bodyStart}
+use Rattle.reading.specs.Laws.TextReading.{reads-own}
 use Rattle.reading.specs.Laws.Demand.{whole-cells}
 use Rattle.walk.specs.declared.Spot.{Spot}
 use Rattle.walk.specs.Walk.{origin, spotOf, walk}
-use Rattle.walk.specs.Laws.Walk.{text-reads, walk-text}
+use Rattle.walk.specs.Laws.Walk.{walk-text}
 use Rattle.listing.specs.List.{codesOf}
 
 -- the code of the cell where the walk stands
@@ -42,10 +43,10 @@ codes-rise (c ∷ cs) h = (below-all (codeOf c) cs (h .0), codes-rise cs (h .1))
 
 module _ (t : List ℕ) (e : isText t ≡ true) where
   cells : Cells (wholeCells (nodesOf t)) × Rising (wholeCells (nodesOf t)) × Apart (wholeCells (nodesOf t))
-  cells = whole-cells tt (omega arith) (text-reads t e .2 .body)
+  cells = whole-cells tt (omega arith) (reads-own t e .body)
 
   -- the codes along the walk
-  pub walk-codes : map spotCode (walk origin (drop 7 t)) ≡ codesOf t
+  pub walk-codes : map spotCode (walk origin (drop (bodyStart t) t)) ≡ codesOf t
   unfolding codesOf
   walk-codes = ap (map spotCode) (walk-text t e) ∙ spot-codes (wholeCells (nodesOf t)) (cells .0)
 

@@ -45,7 +45,8 @@ returns-2 : tie.Need-returns-2
 returns-2 c =
     let a = c .before .before .before .before .before .before .before .before in
     c .refused2 .ensures ∙ ap (λ (x : ℕ). Refused 9 x) (c .before .place2 .ensures)
-    ∙ body-more (a .args .text .now) (a .pre .0) (a .pre .1) (c .before .before .before .before .before .before .nodes .ensures) (c .before .before .before .before .next .given .1) (c .before .before .if1 .taken)
+    ∙ body-more (a .args .text .now) (a .pre .0) (a .pre .1) (c .before .before .before .before .before .before .nodes .ensures) (c .before .before .before .before .next .given .1)
+    (c .before .before .if1 .taken)
 
 shared-slice-read-t16 : tie.Need-shared-slice-read-t16
 shared-slice-read-t16 c =
@@ -80,7 +81,8 @@ cast-t22 c =
 returns-3 : tie.Need-returns-3
 returns-3 c =
     let a = c .before .before .before .before .before .before .before .before in
-    body-all (a .args .text .now) (a .pre .0) (a .pre .1) (c .before .before .before .before .before .before .nodes .ensures) (c .before .before .before .before .next .given .1) (c .before .before .if1 .left)
+    body-all (a .args .text .now) (a .pre .0) (a .pre .1) (c .before .before .before .before .before .before .nodes .ensures) (c .before .before .before .before .next .given .1)
+    (c .before .before .if1 .left)
 
 pub check-body-spec : {M : Type 1} → statement M
 check-body-spec =

@@ -1,6 +1,6 @@
 -- What an answer of checking says of the text. Assumes nothing.
 use mathlib.Core.Path.{_≡_, refl, sym, ap, _∙_}
-use mathlib.Core.Bool.{Bool, true, false, not}
+use mathlib.Core.Bool.{true}
 use mathlib.Core.List.{List}
 use Prim.Native.Nat.{ℕ, zero, suc}
 use native.Mathlib.Omega.{arith}
@@ -8,43 +8,43 @@ use lib.ListN.{length}
 use borrow.Author.Tests.{not-false}
 use Rattle.logic.specs.Laws.Refusal.{both, allowed}
 use Rattle.reading.specs.Ground.{wholeCells, sizeSum}
-use Rattle.reading.specs.TextReading.{nodesOf, northOf, southOf, isText}
-use Rattle.reader.specs.declared.Checked.{Checked}
+use Rattle.reading.specs.TextReading.{nodesOf, northOf, southOf, isText, bodyStart}
 use Rattle.reader.specs.declared.Checked.the-variants.{Text, Refused}
 use Rattle.reader.specs.Check.{textRefusal, placeWith, answer, checkedOf}
 
 -- nothing was refused
-pub record Read (t : List ℕ) (n s cells size : ℕ) : Type 0 where
+pub record TextAnswer (t : List ℕ) (n s cells size body : ℕ) : Type 0 where
   pub allowed : textRefusal t ≡ 0
   pub text : isText t ≡ true
   pub north : n ≡ northOf t
   pub south : s ≡ southOf t
   pub count : cells ≡ length (wholeCells (nodesOf t))
   pub sum : size ≡ sizeSum (wholeCells (nodesOf t))
+  pub start : body ≡ bodyStart t
 
 text-read : (t : List ℕ) → textRefusal t ≡ 0 → isText t ≡ true
 unfolding textRefusal
 text-read t e = not-false (isText t) (allowed 8 _ (both _ _ (both _ _ e .1) .1))
 
-pub answered : {n s c z : ℕ} (t : List ℕ) → Text n s c z ≡ checkedOf t → Read t n s c z
+pub text-answer : {n s c z b : ℕ} (t : List ℕ) → Text n s c z b ≡ checkedOf t → TextAnswer t n s c z b
 unfolding checkedOf
-answered {n} {s} {c} {z} t e = go (textRefusal t) refl e
+text-answer {n} {s} {c} {z} {b} t e = go (textRefusal t) refl e
   where
-    go : (r : ℕ) → textRefusal t ≡ r → Text n s c z ≡ answer r t → Read t n s c z
-    go zero q e = record { allowed = q; text = text-read t q; north = cc; south = cc; count = cc; sum = cc }
+    go : (r : ℕ) → textRefusal t ≡ r → Text n s c z b ≡ answer r t → TextAnswer t n s c z b
+    go zero q e = record { allowed = q; text = text-read t q; north = cc; south = cc; count = cc; sum = cc; start = cc }
     go (suc r) q e = let k : _≡_ {A = ℕ} 0 1 = cc in absurd (omega arith)
 
 -- the refusal, and the place
-pub record Unread (t : List ℕ) (r p : ℕ) : Type 0 where
+pub record RefusalAnswer (t : List ℕ) (r p : ℕ) : Type 0 where
   pub refusal : textRefusal t ≡ r
   pub some : r ≡ 0 → ⊥
   pub place : p ≡ placeWith r t
 
-pub refused : {r p : ℕ} (t : List ℕ) → Refused r p ≡ checkedOf t → Unread t r p
+pub refusal-answer : {r p : ℕ} (t : List ℕ) → Refused r p ≡ checkedOf t → RefusalAnswer t r p
 unfolding checkedOf
-refused {r} {p} t e = go (textRefusal t) refl e
+refusal-answer {r} {p} t e = go (textRefusal t) refl e
   where
-    go : (q : ℕ) → textRefusal t ≡ q → Refused r p ≡ answer q t → Unread t r p
+    go : (q : ℕ) → textRefusal t ≡ q → Refused r p ≡ answer q t → RefusalAnswer t r p
     go zero h e = let k : _≡_ {A = ℕ} 0 1 = cc in absurd (omega arith)
     go (suc q) h e =
         let i : r ≡ suc q = cc in

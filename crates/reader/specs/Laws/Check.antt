@@ -16,16 +16,16 @@ use Rattle.reading.specs.Laws.Reading.{eq-or}
 use Rattle.reading.specs.declared.Level.the-variants.{Faces}
 use Rattle.reading.specs.Ground.{wholeCells, sizeSum}
 use Rattle.reading.specs.Text.{ReadsAs, Accepted}
-use Rattle.reading.specs.Heading.{least, greatest, lead}
-use Rattle.reading.specs.Laws.Heading.{lead-head}
 use Rattle.reading.specs.Place.{Longest, placeOf}
+use Rattle.reading.specs.Heading.{least, greatest, lead}
 use Rattle.reading.specs.Laws.Place.{place-longest}
+use Rattle.reading.specs.Laws.Heading.{lead-head}
 use Rattle.reading.specs.Report.{count, sizeAlong}
+use Rattle.reading.specs.Laws.TextReading.{read-text, reads-own, read-accepted}
 use Rattle.reading.specs.Laws.Demand.{count-whole, size-whole}
-use Rattle.reading.specs.TextReading.{TextRead, noText, asText, readText, wasRead, nodesOf, northOf, southOf, isText}
-use Rattle.reading.specs.Laws.TextReading.{accepted-read, read-accepted}
+use Rattle.reading.specs.TextReading.{nodesOf, northOf, southOf, isText, bodyStart}
 use Rattle.reader.specs.declared.Checked.the-variants.{Text, Refused}
-use Rattle.reader.specs.Check.{otherVersion, textRefusal, answer, checkedOf}
+use Rattle.reader.specs.Check.{WrongVersion, otherVersion, textRefusal, answer, checkedOf}
 
 -- ---- from the tests to the number, and back
 
@@ -79,10 +79,6 @@ tests-13 false false true e = absurd (omega arith)
 tests-13 false false false e = absurd (omega arith)
 
 -- ---- the version
-
--- 10: "five bytes or more, mark right, version not 1"
-abbrev pub WrongVersion : List ℕ → Type 0
-WrongVersion t = (d : ℕ) × (e : ℕ) × (u : List ℕ) × (t ≡ 67 ∷ 86 ∷ 82 ∷ d ∷ e ∷ u) × ((d ≡ 0) × (e ≡ 1) → ⊥)
 
 lead-same : (x z : ℕ) (a b t : List ℕ) → z ≡ x → lead (x ∷ a) (x ∷ b) (z ∷ t) ≡ suc (lead a b t)
 unfolding lead
@@ -219,14 +215,6 @@ bytes-version t v =
 
 -- ---- texts of the grammar
 
-read-taken : (x : TextRead) → wasRead x ≡ true → (n : ℕ) × (s : ℕ) × (ns : Nodes) × (x ≡ asText n s ns)
-read-taken noText e = clash (sym e)
-read-taken (asText n s ns) e = (n, s, ns, refl)
-
-pub read-none : (x : TextRead) → wasRead x ≡ false → x ≡ noText
-read-none noText e = refl
-read-none (asText n s ns) e = clash e
-
 module _ (t : List ℕ) where
   -- 13: "text longer than 65,536 bytes"
   pub long-exactly : (textRefusal t ≡ 13 → 65536 < length t) × (65536 < length t → textRefusal t ≡ 13)
@@ -244,12 +232,10 @@ module _ (t : List ℕ) where
   )
 
   accepted-is : Accepted t → isText t ≡ true
-  unfolding isText
-  accepted-is a = ap wasRead (read-accepted (a .3))
+  accepted-is a = read-text (a .3)
 
   is-accepted : isText t ≡ true → Accepted t
-  unfolding isText
-  is-accepted e = let k = read-taken (readText t) e in (k .0, k .1, k .2, accepted-read (k .3))
+  is-accepted e = (northOf t, southOf t, nodesOf t, reads-own t e)
 
   is-not : isText t ≡ false → Accepted t → ⊥
   is-not e a = clash (sym (accepted-is a) ∙ e)
@@ -300,42 +286,11 @@ module _ (t : List ℕ) where
 
   module _ (h : length t ≤ 65536) {n s : ℕ} {ns : Nodes} (r : ReadsAs n s t ns) where
     -- "the number of whole cells and the sum of sizes that the reader reports are those of that reading"
-    pub accepted-answer : checkedOf t ≡ Text n s (length (wholeCells ns)) (sizeSum (wholeCells ns))
+    pub accepted-answer : checkedOf t ≡ Text n s (length (wholeCells ns)) (sizeSum (wholeCells ns)) (bodyStart t)
     unfolding checkedOf nodesOf northOf southOf
     accepted-answer =
         ap (λ (x : ℕ). answer x t) (accepted-exactly .1 (h, (n, s, ns, r))) ∙ rw (read-accepted r)
 
     -- as the reader counts them
-    pub counted-answer : Text n s (count ns) (sizeAlong (9 ^ 15) ns) ≡ checkedOf t
+    pub counted-answer : Text n s (count ns) (sizeAlong (9 ^ 15) ns) (bodyStart t) ≡ checkedOf t
     counted-answer = rw (count-whole tt (omega arith) (r .body), size-whole tt (omega arith) (r .body)) (sym accepted-answer)
-
--- ---- texts by bytes
-
-empty : checkedOf [] ≡ Refused 9 0
-unfolding checkedOf _otherwise_ isText readText placeOf lead
-empty = refl
-
--- `CVR 01`
-cut-3 : checkedOf (67 ∷ 86 ∷ 82 ∷ 1 ∷ []) ≡ Refused 9 3
-unfolding checkedOf _otherwise_ isText readText placeOf lead
-cut-3 = refl
-
--- `CVR 00`
-cut-4 : checkedOf (67 ∷ 86 ∷ 82 ∷ 0 ∷ []) ≡ Refused 9 4
-unfolding checkedOf _otherwise_ isText readText placeOf lead
-cut-4 = refl
-
--- `CVR 01 01`
-other : checkedOf (67 ∷ 86 ∷ 82 ∷ 1 ∷ 1 ∷ []) ≡ Refused 10 0
-unfolding checkedOf _otherwise_ isText readText placeOf lead
-other = refl
-
--- `CVX 00 02`
-mark : checkedOf (67 ∷ 86 ∷ 88 ∷ 0 ∷ 2 ∷ []) ≡ Refused 9 2
-unfolding checkedOf _otherwise_ isText readText placeOf lead
-mark = refl
-
--- n = `4`
-turn-4 : checkedOf (67 ∷ 86 ∷ 82 ∷ 0 ∷ 1 ∷ 52 ∷ 48 ∷ []) ≡ Refused 9 5
-unfolding checkedOf _otherwise_ isText readText placeOf lead
-turn-4 = refl

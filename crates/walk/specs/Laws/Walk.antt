@@ -1,8 +1,8 @@
--- The walk over an accepted text gives its whole cells. Assumes nothing.
+-- The walk over an accepted text gives its whole cells. Over nodes it needs no order of theirs: these are laws of the looser form. Assumes nothing.
 use mathlib.Core.Path.{_≡_, refl, sym, ap, ap₂, _∙_}
 use mathlib.Core.Bool.{Bool, true, false, _&&_, not, cond}
 use mathlib.Core.List.{List, [], _∷_, _++_, map, map-append, append-nil, append-assoc}
-use Prim.Native.Nat.{ℕ, zero, suc, _+_, _-_, _*_, _/_, _^_, _≤_, _<_}
+use Prim.Native.Nat.{ℕ, suc, _+_, _-_, _*_, _/_, _^_, _≤_, _<_}
 use native.Mathlib.Numerals.{add-one}
 use native.Mathlib.Nat.{pow-suc, add-mul, mul-assoc, mul-comm, zero-mul}
 use native.Mathlib.Omega.{arith}
@@ -10,30 +10,30 @@ use lib.ListN.{length, drop, getD, drop-of-length-le}
 use lib.Seq.{drop-cons}
 use lib.Dec.{eqb, ltb}
 use borrow.Author.Tests.{ne-eqb, lt-ltb, le-ltb, ltb-true}
-use Rattle.logic.specs.Laws.Bools.{clash, and-left, and-right}
+use Rattle.logic.specs.Laws.Bools.{and-left, and-right}
 use Rattle.ternary.specs.Digits.{value}
 use Rattle.cell.specs.declared.Cell.{Cell}
 use Rattle.code.specs.Code.{pathOf, digitsOf}
 use Rattle.code.specs.Number.{numberOf}
 use Rattle.reading.specs.declared.Level.{Level}
 use Rattle.reading.specs.declared.Level.the-variants.{Faces, Belt, Digits}
-use Rattle.reading.specs.Reading.{Nodes, end, whole, listed, first, many, room, render, Good, names}
-use Rattle.reading.specs.Laws.Reading.{room-le}
+use Rattle.reading.specs.Reading.{Nodes, end, whole, listed, first, many, render, names}
+use Rattle.reading.specs.Loose.{Loose}
 use Rattle.reading.specs.Ground.{cellNamed, wholeCells}
 use Rattle.reading.specs.Prefix.{Name, numbersOf, IsName, AreNames}
 use Rattle.reading.specs.Laws.Named.{name-named}
 use Rattle.reading.specs.Laws.Fewest.{names-good}
-use Rattle.reading.specs.Text.{ReadsAs}
-use Rattle.reading.specs.TextReading.{TextRead, noText, asText, readText, nodesIn, wasRead, nodesOf, isText}
-use Rattle.reading.specs.Laws.TextReading.{accepted-read}
+use Rattle.reading.specs.TextReading.{nodesOf, isText, bodyStart}
+use Rattle.reading.specs.Laws.TextReading.{good-nodes, body-within, body-nodes}
+use Rattle.reading.specs.Laws.Loose.{good-loose}
 use Rattle.walk.specs.declared.Spot.{Spot}
-use Rattle.walk.specs.Walk.{spot, origin, spotOf, Fits, numberIn, after, goesOn, opens, wholeAt, walk, goes, Walks}
+use Rattle.walk.specs.Walk.{spot, origin, spotOf, Fits, numberIn, after, goesOn, opens, wholeAt, walk, goes, Walks, spotsIn, lastIn}
 
 -- ---- over one byte
 
 -- a letter or digit of number c
 module _ (c : ℕ) where
-  name-number : (l : Level) → c < many l → numberIn (first l + c) ≡ c
+  pub name-number : (l : Level) → c < many l → numberIn (first l + c) ≡ c
   unfolding numberIn
   name-number Faces h = rw (le-ltb (78 + c) 78 (omega arith)) (omega arith)
   name-number Belt h = rw (le-ltb (78 + c) 78 (omega arith)) (omega arith)
@@ -49,13 +49,17 @@ module _ (c : ℕ) where
   not-shut Belt = ne-eqb (78 + c) 41 (omega arith)
   not-shut Digits = ne-eqb (48 + c) 41 (omega arith)
 
-  below-nine : (l : Level) → c < many l → c < 9
+  pub whole-name : (l : Level) (bs : List ℕ) → wholeAt ((first l + c) ∷ bs) ≡ not (opens bs)
+  unfolding wholeAt
+  whole-name l bs = rw (not-open l, not-shut l)
+
+  pub below-nine : (l : Level) → c < many l → c < 9
   below-nine Faces h = omega arith
   below-nine Belt h = omega arith
   below-nine Digits h = h
 
   module _ (l : Level) (h : c < many l) (k p : ℕ) where
-    after-name : after (spot k p) (first l + c) ≡ spot k (p / 9 * 9 + c)
+    pub after-name : after (spot k p) (first l + c) ≡ spot k (p / 9 * 9 + c)
     unfolding after
     after-name = rw (not-open l, not-shut l, name-number l h)
 
@@ -63,18 +67,14 @@ module _ (c : ℕ) where
     unfolding goesOn
     goes-on-name = rw (not-open l, not-shut l, name-number l h) (lt-ltb c 9 (below-nine l h))
 
-    pub whole-name : (bs : List ℕ) → wholeAt ((first l + c) ∷ bs) ≡ not (opens bs)
-    unfolding wholeAt
-    whole-name bs = rw (not-open l, not-shut l)
-
     -- the walk over it, where it is whole and where it has a list
     walk-whole : (bs : List ℕ) → opens bs ≡ false → walk (spot k p) ((first l + c) ∷ bs) ≡ spot k (p / 9 * 9 + c) ∷ walk (spot k (p / 9 * 9 + c)) bs
     unfolding walk
-    walk-whole bs e = rw (whole-name bs, e, after-name)
+    walk-whole bs e = rw (whole-name l bs, e, after-name)
 
     walk-listed : (bs : List ℕ) → walk (spot k p) ((first l + c) ∷ 40 ∷ bs) ≡ walk (spot (k + 1) ((p / 9 * 9 + c) * 9)) bs
     unfolding walk
-    walk-listed bs = rw (whole-name (40 ∷ bs), after-name)
+    walk-listed bs = rw (whole-name l (40 ∷ bs), after-name)
 
     goes-name : (bs : List ℕ) → goes (spot k p) ((first l + c) ∷ bs) ≡ goes (spot k (p / 9 * 9 + c)) bs
     unfolding goes
@@ -94,78 +94,63 @@ goes-shut k p bs = let e : k + 1 - 1 ≡ k = omega arith in rw (lt-ltb 0 (k + 1)
 
 -- ---- over nodes
 
--- the spots of the whole cells in nodes of resolution k, in a cell of number p
-unfoldable pub spotsIn : ℕ → ℕ → Nodes → List Spot
-spotsIn k p end = []
-spotsIn k p (whole c ns) = spot k (p * 9 + c) ∷ spotsIn k p ns
-spotsIn k p (listed c is ns) = spotsIn (k + 1) (p * 9 + c) is ++ spotsIn k p ns
-
--- the number at which the walk stands behind them
-last : ℕ → Nodes → ℕ
-last p end = p
-last p (whole c ns) = last (p / 9 * 9 + c) ns
-last p (listed c is ns) = last (p / 9 * 9 + c) ns
-
-last-in : (ns : Nodes) (l : Level) (d lo p : ℕ) → Good l d lo ns → last p ns / 9 ≡ p / 9
-unfolding last
-last-in end l d lo p g = refl
-last-in (whole c ns) l d lo p g =
-    let e = last-in ns l d (suc c) (p / 9 * 9 + c) (g .2) in omega (arith, below-nine c l (g .1))
-last-in (listed c is ns) l d lo p g =
-    let e = last-in ns l d (suc c) (p / 9 * 9 + c) (g .6) in omega (arith, below-nine c l (g .1))
+pub last-in : (ns : Nodes) (l : Level) (d p : ℕ) → Loose l d ns → lastIn p ns / 9 ≡ p / 9
+unfolding lastIn
+last-in end l d p g = refl
+last-in (whole c ns) l d p g = let e = last-in ns l d (p / 9 * 9 + c) (g .1) in omega (arith, below-nine c l (g .0))
+last-in (listed c is ns) l d p g = let e = last-in ns l d (p / 9 * 9 + c) (g .3) in omega (arith, below-nine c l (g .0))
 
 pub opens-nodes : (ns : Nodes) (l : Level) (rest : List ℕ) → opens rest ≡ false → opens (render l ns ++ rest) ≡ false
 opens-nodes end l rest e = e
 opens-nodes (whole c ns) l rest e = not-open c l
 opens-nodes (listed c is ns) l rest e = not-open c l
 
-walk-nodes :
-    (ns : Nodes) (l : Level) (d lo k p : ℕ) (rest : List ℕ) → Good l d lo ns → opens rest ≡ false →
-    walk (spot k p) (render l ns ++ rest) ≡ spotsIn k (p / 9) ns ++ walk (spot k (last p ns)) rest
-unfolding spotsIn last
-walk-nodes end l d lo k p rest g e = refl
-walk-nodes (whole c ns) l d lo k p rest g e =
+pub walk-nodes :
+    (ns : Nodes) (l : Level) (d k p : ℕ) (rest : List ℕ) → Loose l d ns → opens rest ≡ false →
+    walk (spot k p) (render l ns ++ rest) ≡ spotsIn k (p / 9) ns ++ walk (spot k (lastIn p ns)) rest
+unfolding spotsIn lastIn
+walk-nodes end l d k p rest g e = refl
+walk-nodes (whole c ns) l d k p rest g e =
     let n : ℕ = p / 9 * 9 + c in
-    let q : n / 9 ≡ p / 9 = omega (arith, below-nine c l (g .1)) in
-    walk-whole c l (g .1) k p (render l ns ++ rest) (opens-nodes ns l rest e)
+    let q : n / 9 ≡ p / 9 = omega (arith, below-nine c l (g .0)) in
+    walk-whole c l (g .0) k p (render l ns ++ rest) (opens-nodes ns l rest e)
     ∙ ap (λ (x : List Spot). spot k n ∷ x)
-    (walk-nodes ns l d (suc c) k n rest (g .2) e ∙ ap (λ (x : ℕ). spotsIn k x ns ++ walk (spot k (last n ns)) rest) q)
-walk-nodes (listed c is ns) l d lo k p rest g e =
+    (walk-nodes ns l d k n rest (g .1) e ∙ ap (λ (x : ℕ). spotsIn k x ns ++ walk (spot k (lastIn n ns)) rest) q)
+walk-nodes (listed c is ns) l d k p rest g e =
     let n : ℕ = p / 9 * 9 + c in
-    let q : n / 9 ≡ p / 9 = omega (arith, below-nine c l (g .1)) in
+    let q : n / 9 ≡ p / 9 = omega (arith, below-nine c l (g .0)) in
     let r : n * 9 / 9 ≡ n = omega arith in
     let tail : List ℕ = 41 ∷ (render l ns ++ rest) in
-    let shut : last (n * 9) is / 9 ≡ n = last-in is Digits (room l c d - 1) 0 (n * 9) (g .5) ∙ r in
+    let shut : lastIn (n * 9) is / 9 ≡ n = last-in is Digits (d - 1) (n * 9) (g .2) ∙ r in
     ap (λ (x : List ℕ). walk (spot k p) ((first l + c) ∷ 40 ∷ x)) (append-assoc (render Digits is) (41 ∷ render l ns) rest)
-    ∙ walk-listed c l (g .1) k p (render Digits is ++ tail)
-    ∙ walk-nodes is Digits (room l c d - 1) 0 (k + 1) (n * 9) tail (g .5) refl
+    ∙ walk-listed c l (g .0) k p (render Digits is ++ tail)
+    ∙ walk-nodes is Digits (d - 1) (k + 1) (n * 9) tail (g .2) refl
     ∙ ap₂ (λ (x : ℕ) (y : List Spot). spotsIn (k + 1) x is ++ y) r
-    (walk-shut k (last (n * 9) is) (render l ns ++ rest)
+    (walk-shut k (lastIn (n * 9) is) (render l ns ++ rest)
     ∙ ap (λ (x : ℕ). walk (spot k x) (render l ns ++ rest)) shut
-    ∙ walk-nodes ns l d (suc c) k n rest (g .6) e
-    ∙ ap (λ (x : ℕ). spotsIn k x ns ++ walk (spot k (last n ns)) rest) q)
-    ∙ sym (append-assoc (spotsIn (k + 1) n is) (spotsIn k (p / 9) ns) (walk (spot k (last n ns)) rest))
+    ∙ walk-nodes ns l d k n rest (g .3) e
+    ∙ ap (λ (x : ℕ). spotsIn k x ns ++ walk (spot k (lastIn n ns)) rest) q)
+    ∙ sym (append-assoc (spotsIn (k + 1) n is) (spotsIn k (p / 9) ns) (walk (spot k (lastIn n ns)) rest))
 
-goes-nodes :
-    (ns : Nodes) (l : Level) (d lo k p : ℕ) (rest : List ℕ) → Good l d lo ns → k + d ≤ 15 →
-    goes (spot k p) (render l ns ++ rest) ≡ goes (spot k (last p ns)) rest
-unfolding last
-goes-nodes end l d lo k p rest g h = refl
-goes-nodes (whole c ns) l d lo k p rest g h =
-    goes-name c l (g .1) k p (render l ns ++ rest) ∙ goes-nodes ns l d (suc c) k (p / 9 * 9 + c) rest (g .2) h
-goes-nodes (listed c is ns) l d lo k p rest g h =
+pub goes-nodes :
+    (ns : Nodes) (l : Level) (d k p : ℕ) (rest : List ℕ) → Loose l d ns → k + d ≤ 15 →
+    goes (spot k p) (render l ns ++ rest) ≡ goes (spot k (lastIn p ns)) rest
+unfolding lastIn
+goes-nodes end l d k p rest g h = refl
+goes-nodes (whole c ns) l d k p rest g h =
+    goes-name c l (g .0) k p (render l ns ++ rest) ∙ goes-nodes ns l d k (p / 9 * 9 + c) rest (g .1) h
+goes-nodes (listed c is ns) l d k p rest g h =
     let n : ℕ = p / 9 * 9 + c in
     let r : n * 9 / 9 ≡ n = omega arith in
-    let m = room-le l c d in
     let tail : List ℕ = 41 ∷ (render l ns ++ rest) in
-    let shut : last (n * 9) is / 9 ≡ n = last-in is Digits (room l c d - 1) 0 (n * 9) (g .5) ∙ r in
+    let shut : lastIn (n * 9) is / 9 ≡ n = last-in is Digits (d - 1) (n * 9) (g .2) ∙ r in
     ap (λ (x : List ℕ). goes (spot k p) ((first l + c) ∷ 40 ∷ x)) (append-assoc (render Digits is) (41 ∷ render l ns) rest)
-    ∙ goes-name c l (g .1) k p (40 ∷ (render Digits is ++ tail))
-    ∙ goes-open k n (render Digits is ++ tail) (omega (arith, g .2))
-    ∙ goes-nodes is Digits (room l c d - 1) 0 (k + 1) (n * 9) tail (g .5) (omega (arith, g .2))
-    ∙ goes-shut k (last (n * 9) is) (render l ns ++ rest)
+    ∙ goes-name c l (g .0) k p (40 ∷ (render Digits is ++ tail))
+    ∙ goes-open k n (render Digits is ++ tail) (omega (arith, g .1))
+    ∙ goes-nodes is Digits (d - 1) (k + 1) (n * 9) tail (g .2) (omega (arith, g .1))
+    ∙ goes-shut k (lastIn (n * 9) is) (render l ns ++ rest)
     ∙ ap (λ (x : ℕ). goes (spot k x) (render l ns ++ rest)) shut
-    ∙ goes-nodes ns l d (suc c) k n rest (g .6) h
+    ∙ goes-nodes ns l d k n rest (g .3) h
 
 -- ---- the spots are those of the whole cells
 
@@ -215,47 +200,42 @@ named-cells : (qs : List Name) → AreNames 6 15 qs → map (named 0 0) qs ≡ m
 named-cells [] h = refl
 named-cells (q ∷ qs) h = ap₂ _∷_ (named-cell q (h .0)) (named-cells qs (h .1))
 
+pub spots-cells : (ns : Nodes) → AreNames 6 15 (names ns) → spotsIn 0 0 ns ≡ map spotOf (wholeCells ns)
+unfolding wholeCells
+spots-cells ns h = spots-named ns 0 0 ∙ named-cells (names ns) h
+
+-- ---- over a body
+
+module _ (ns : Nodes) (g : Loose Faces 15 ns) where
+  pub walk-body : walk origin (render Faces ns) ≡ spotsIn 0 0 ns
+  unfolding walk
+  walk-body =
+      ap (walk origin) (sym (append-nil (render Faces ns))) ∙ walk-nodes ns Faces 15 0 0 [] g refl ∙ append-nil (spotsIn 0 0 ns)
+
+  pub goes-body : goes origin (render Faces ns) ≡ true
+  unfolding goes
+  goes-body = ap (goes origin) (sym (append-nil (render Faces ns))) ∙ goes-nodes ns Faces 15 0 0 [] g (omega arith)
+
 -- ---- over an accepted text
 
-pub text-reads : (t : List ℕ) → isText t ≡ true → (n : ℕ) × (s : ℕ) × ReadsAs n s t (nodesOf t)
-unfolding isText nodesOf
-text-reads t e = go (readText t) refl e
-  where
-    go : (x : TextRead) → readText t ≡ x → wasRead x ≡ true → (n : ℕ) × (s : ℕ) × ReadsAs n s t (nodesIn x)
-    go noText q h = clash (sym h)
-    go (asText n s ns) q h = (n, s, accepted-read q)
-
 module _ (t : List ℕ) (e : isText t ≡ true) where
-  pub body : drop 7 t ≡ render Faces (nodesOf t)
-  body = ap (drop 7) (text-reads t e .2 .body .all)
-
-  pub good : Good Faces 15 0 (nodesOf t)
-  good = text-reads t e .2 .body .good
+  loose : Loose Faces 15 (nodesOf t)
+  loose = good-loose (nodesOf t) Faces 15 15 0 (omega arith) (good-nodes t e)
 
   pub spots-text : spotsIn 0 0 (nodesOf t) ≡ map spotOf (wholeCells (nodesOf t))
-  unfolding wholeCells
-  spots-text =
-      spots-named (nodesOf t) 0 0 ∙ named-cells (names (nodesOf t)) (names-good (nodesOf t) Faces 15 0 15 good (omega arith))
+  spots-text = spots-cells (nodesOf t) (names-good (nodesOf t) Faces 15 0 15 (good-nodes t e) (omega arith))
 
   -- "with the whole cells in the order they stand"
-  pub walk-text : walk origin (drop 7 t) ≡ map spotOf (wholeCells (nodesOf t))
-  unfolding walk
-  walk-text =
-      ap (walk origin) (body ∙ sym (append-nil (render Faces (nodesOf t))))
-      ∙ walk-nodes (nodesOf t) Faces 15 0 0 0 [] good refl
-      ∙ append-nil (spotsIn 0 0 (nodesOf t))
-      ∙ spots-text
+  pub walk-text : walk origin (drop (bodyStart t) t) ≡ map spotOf (wholeCells (nodesOf t))
+  walk-text = ap (walk origin) (body-nodes t e) ∙ walk-body (nodesOf t) loose ∙ spots-text
 
   -- the walk starts behind the heading
-  pub walks-start : Walks t 7 origin
-  unfolding goes
+  pub walks-start : Walks t (bodyStart t) origin
   walks-start =
       record {
-        within = omega (arith, ap length (text-reads t e .2 .body .all));
+        within = body-within t e;
         fits = record { fine = omega arith; small = omega arith; beside = refl };
-        goes =
-            ap (goes origin) (body ∙ sym (append-nil (render Faces (nodesOf t))))
-            ∙ goes-nodes (nodesOf t) Faces 15 0 0 0 [] good (omega arith);
+        goes = ap (goes origin) (body-nodes t e) ∙ goes-body (nodesOf t) loose;
       }
 
 -- ---- one step on

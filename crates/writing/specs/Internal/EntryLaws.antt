@@ -1,11 +1,10 @@
 -- The two passes over a good list, from the faces on: the length of its text, and the text. Assumes nothing.
 use mathlib.Core.Path.{_≡_, refl, sym, ap, ap₂, _∙_}
-use mathlib.Core.Bool.{true}
 use mathlib.Core.Logic.{_⊎_, inl, inr, ⊎-elim}
 use mathlib.Core.List.{List, [], _∷_, _++_, map}
-use Prim.Native.Nat.{ℕ, suc, _+_, _-_, _*_, _^_, _≤_, _<_}
+use Prim.Native.Nat.{ℕ, _+_, _-_, _*_, _≤_}
 use native.Mathlib.Omega.{arith}
-use lib.ListN.{length, drop, length-append}
+use lib.ListN.{length, drop}
 use lib.Seq.{sets, sets-eq}
 use Rattle.logic.specs.Laws.Stores.{sets-append}
 use Rattle.logic.specs.Laws.Order.{lt-or, three-ways}
@@ -13,24 +12,24 @@ use Rattle.ternary.specs.Digits.{value}
 use Rattle.cell.specs.declared.Cell.{Cell}
 use Rattle.cell.specs.declared.Arrangement.{Arrangement}
 use Rattle.cell.specs.Cell.{IsCell}
-use Rattle.code.specs.Code.{digitsOf, pathOf, codeAt, codeOf, cellOf, sizeOf}
+use Rattle.code.specs.Code.{digitsOf, pathOf, cellOf}
 use Rattle.code.specs.Inside.{startOf, endOf}
 use Rattle.code.specs.Laws.Inside.{size-pos, inside-within}
 use Rattle.reading.specs.declared.Level.the-variants.{Faces}
 use Rattle.reading.specs.Reading.{Nodes, render}
 use Rattle.reading.specs.Text.{heading}
 use Rattle.reading.specs.Ground.{cellNamed, Cells}
-use Rattle.reading.specs.Prefix.{Name, numbersOf, Prefix, IsName, AreNames, Ahead, AheadAll, InOrder}
+use Rattle.reading.specs.Prefix.{Name, numbersOf, Prefix, AreNames, Ahead, AheadAll, InOrder}
 use Rattle.reading.specs.Laws.Named.{prefix-inside, names-of-cells}
 use Rattle.reading.specs.Laws.Rising.{ahead-before}
-use Rattle.writing.specs.declared.Placed.{Placed}
+use Rattle.writing.specs.declared.Ends.{Ends}
 use Rattle.reading.specs.Written.{side, built, writtenText, under}
-use Rattle.writing.specs.Write.{allCodes, codesRefusal, textOf, textIn}
+use Rattle.writing.specs.Write.{GoodList, InTurn, codesRefusal, textOf, textIn}
 use Rattle.reading.specs.Laws.Built.{built-side}
-use Rattle.writing.specs.Laws.List.{GoodList, InTurn, good-list, in-turn, codes-cells}
-use Rattle.writing.specs.Internal.Take.{restsOf, Since, Each, Standing}
+use Rattle.writing.specs.Laws.List.{good-list, in-turn, codes-cells}
+use Rattle.writing.specs.Internal.Take.{restsOf, Since, Each}
 use Rattle.writing.specs.Internal.Measure.{namesFrom, ListAt, ListTakes}
-use Rattle.writing.specs.Internal.Put.{Wrote, ListWrote}
+use Rattle.writing.specs.Internal.Put.{ListWrote}
 
 -- ---- cells in turn have names in turn
 
@@ -70,9 +69,9 @@ since-faces [] n = tt
 since-faces ([] ∷ qs) n = absurd (n .0)
 since-faces ((x ∷ q) ∷ qs) n = (⊎-elim (λ l. inr (inl l)) (λ l. inl (omega arith, tt)) (lt-or 0 x), since-faces qs (n .1))
 
-face-code : (b : ℕ) → codeOf (cellNamed (b ∷ [])) ≡ 0 + (b - 0) * (16 * 205891132094649)
-unfolding codeOf codeAt pathOf cellNamed digitsOf value
-face-code b = omega arith
+face-start : (b : ℕ) → startOf (cellNamed (b ∷ [])) ≡ 0 + (b - 0) * 205891132094649
+unfolding startOf pathOf cellNamed digitsOf value
+face-start b = omega arith
 
 module _ (codes : List ℕ) (e : codesRefusal codes ≡ 0) where
   good : GoodList codes
@@ -87,7 +86,7 @@ module _ (codes : List ℕ) (e : codesRefusal codes ≡ 0) where
       record {
         coded = good .coded;
         standing = record { named = n; rising = in-turn-rise (map cellOf codes) cells (in-turn codes e); since = since-faces (namesFrom codes 0) n };
-        numbered = λ b l u. ((omega arith, omega arith, tt), face-code b);
+        numbered = λ b l u. ((omega arith, omega arith, tt), face-start b);
         sized = refl;
         depth = refl;
       }
@@ -99,10 +98,6 @@ faces-nodes codes = sym (built-side 15 6 (map numbersOf (map cellOf codes)))
 
 -- ---- the length, whatever n and s are
 
-pub record LengthIs (codes : List ℕ) (r : ℕ) : Type 0 where
-  pub is : (a : Arrangement) → r ≡ length (textOf a codes)
-  pub small : r ≤ 2 ^ 62
-
 pub top-length : (codes : List ℕ) (next bytes count : ℕ) → ListTakes codes 0 [] 0 6 15 next bytes count → (a : Arrangement) → bytes + 7 ≡ length (textOf a codes)
 unfolding textOf writtenText
 top-length codes next bytes count t a =
@@ -112,7 +107,7 @@ top-length codes next bytes count t a =
 -- ---- the text
 
 pub top-text :
-    (a : Arrangement) (codes text mid later : List ℕ) (r : Placed) → length (textOf a codes) ≤ length text → mid ≡ sets text 0 (heading (a .north) (a .south)) →
+    (a : Arrangement) (codes text mid later : List ℕ) (r : Ends) → length (textOf a codes) ≤ length text → mid ≡ sets text 0 (heading (a .north) (a .south)) →
     ListWrote codes 0 [] 15 7 Faces 0 6 mid later r → later ≡ textIn a codes text
 unfolding textOf writtenText textIn
 top-text a codes text mid later r h e u =

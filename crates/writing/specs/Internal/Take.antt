@@ -2,8 +2,7 @@
 use mathlib.Core.Path.{_≡_}
 use mathlib.Core.Logic.{_⊎_}
 use mathlib.Core.List.{List, [], _∷_, _++_}
-use Prim.Native.Nat.{ℕ, _+_}
-use Rattle.reading.specs.Prefix.{Name, Prefix, Ahead, AheadAll, AreNames, InOrder}
+use Rattle.reading.specs.Prefix.{Name, Prefix, Ahead, AreNames, InOrder}
 use Rattle.reading.specs.Written.{tails}
 
 -- what follows the name w in the names that begin with it

@@ -1,18 +1,18 @@
 -- Taking names in turn gives the nodes that are built of them. Assumes nothing.
 use mathlib.Core.Path.{_≡_, refl, sym, ap, ap₂, _∙_}
-use mathlib.Core.Bool.{Bool, true, false, _||_, cond}
-use mathlib.Core.Logic.{_⊎_, inl, inr, ⊎-elim}
+use mathlib.Core.Bool.{Bool, false, _||_, cond}
+use mathlib.Core.Logic.{inl, inr, ⊎-elim}
 use mathlib.Core.List.{List, [], _∷_, _++_, append-assoc}
-use Prim.Native.Nat.{ℕ, zero, suc, _+_, _-_, _≤_, _<_}
+use Prim.Native.Nat.{ℕ, zero, suc, _≤_, _<_}
 use native.Mathlib.Omega.{arith}
 use lib.Dec.{eqb}
 use lib.ListN.{length, length-append}
-use borrow.Author.Tests.{eq-eqb, ne-eqb, eqb-true, eqb-false}
-use Rattle.logic.specs.Laws.Bools.{by-cond, clash}
+use borrow.Author.Tests.{eq-eqb, eqb-true}
+use Rattle.logic.specs.Laws.Bools.{by-cond}
 use Rattle.logic.specs.Laws.Order.{lt-or}
 use Rattle.ternary.specs.Digits.{Below}
-use Rattle.reading.specs.Reading.{Nodes, end, whole, listed, wholes}
-use Rattle.reading.specs.Prefix.{Name, Prefix, IsName, AreNames, Ahead, AheadAll, InOrder}
+use Rattle.reading.specs.Reading.{Nodes, whole, listed, wholes}
+use Rattle.reading.specs.Prefix.{Name, Prefix, AreNames, Ahead, AheadAll, InOrder}
 use Rattle.reading.specs.Written.{tails, anyEnds, nodeOf, side}
 use Rattle.writing.specs.Internal.Take.{restsOf, Since, Each, Standing, Took}
 

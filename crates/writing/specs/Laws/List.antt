@@ -1,25 +1,24 @@
 -- A list of codes that is not refused is one of rising cells, none inside another, and neighbouring pairs decide it. Assumes nothing.
-use mathlib.Core.Path.{_≡_, refl, sym, ap, ap₂, _∙_}
+use mathlib.Core.Path.{_≡_, refl, sym, ap₂, _∙_}
 use mathlib.Core.Bool.{Bool, true, false, _&&_, not}
-use mathlib.Core.Logic.{_⊎_, inl, inr, ⊎-elim}
+use mathlib.Core.Logic.{inl, inr}
 use mathlib.Core.List.{List, [], _∷_, map}
-use Prim.Native.Nat.{ℕ, zero, suc, _+_, _*_, _≤_, _<_}
+use Prim.Native.Nat.{ℕ, _+_, _≤_, _<_}
 use native.Mathlib.Omega.{arith}
 use lib.Dec.{leb, ltb}
-use borrow.Author.Tests.{lt-ltb, le-leb, lt-leb, ltb-true, leb-true, not-true, not-false}
+use borrow.Author.Tests.{lt-ltb, le-leb, lt-leb, ltb-true, not-true, not-false}
 use Rattle.logic.specs.Laws.Bools.{and-left, and-right, clash}
-use Rattle.logic.specs.Laws.Order.{lt-or}
 use Rattle.logic.specs.Refusal.{refuse, _otherwise_}
 use Rattle.logic.specs.Laws.Refusal.{allowed, both}
 use Rattle.cell.specs.declared.Cell.{Cell}
 use Rattle.cell.specs.Cell.{IsCell}
 use Rattle.code.specs.Code.{cellOf, codeOf, isCode, sizeOf}
 use Rattle.code.specs.Laws.Code.{code-is-cell, code-cell}
-use Rattle.code.specs.Inside.{Inside, Within, startOf, endOf}
-use Rattle.code.specs.Laws.Inside.{start-code, size-pos, inside-within, within-inside, nested-or-apart}
+use Rattle.code.specs.Inside.{Inside, startOf, endOf, liesWithin}
+use Rattle.code.specs.Laws.Inside.{size-pos, lies-within, lies-inside, next-before}
 use Rattle.reading.specs.Ground.{Cells, All, Rising, Apart}
 use Rattle.reading.specs.Laws.Rising.{code-before, apart-before}
-use Rattle.writing.specs.Write.{allCodes, lies, ordered, codesRefusal}
+use Rattle.writing.specs.Write.{allCodes, Stray, Earlier, InTurn, GoodList, ordered, codesRefusal}
 
 -- ---- every code is a cell's
 
@@ -27,11 +26,6 @@ pub codes-cells : (codes : List ℕ) → allCodes codes ≡ true → Cells (map 
 unfolding allCodes
 codes-cells [] t = tt
 codes-cells (c ∷ cs) t = (code-is-cell c (and-left (isCode c) (allCodes cs) t), codes-cells cs (and-right (isCode c) (allCodes cs) t))
-
--- 4 is for a code somewhere in the list that is no cell's
-abbrev pub Stray : List ℕ → Type 0
-Stray [] = ⊥
-Stray (c ∷ cs) = (isCode c ≡ false) ⊎ Stray cs
 
 pub stray : (codes : List ℕ) → (allCodes codes ≡ false → Stray codes) × (Stray codes → allCodes codes ≡ false)
 unfolding allCodes
@@ -49,55 +43,21 @@ stray (c ∷ cs) = let k = stray cs in (to (isCode c) refl (k .0), from (isCode 
 
 -- ---- two neighbours
 
-lies-within : (c x : Cell) → lies c x ≡ true → Within c x
-unfolding lies
-lies-within c x e =
-    record {
-      from = leb-true _ _ (and-left (leb (startOf c) (startOf x)) (leb (endOf x) (endOf c)) e);
-      to = leb-true _ _ (and-right (leb (startOf c) (startOf x)) (leb (endOf x) (endOf c)) e);
-    }
-
-within-lies : (c x : Cell) → Within c x → lies c x ≡ true
-unfolding lies
-within-lies c x w = ap₂ _&&_ (le-leb _ _ (w .from)) (le-leb _ _ (w .to))
-
 is-not : (b : Bool) → (b ≡ true → ⊥) → not b ≡ true
 is-not true h = absurd (h refl)
 is-not false h = refl
 
--- the finest cells of x come after those of c
+-- the test of two codes that rise
 module _ (c x : Cell) (v : IsCell c) (w : IsCell x) where
-  pub next-before : codeOf c < codeOf x → lies c x ≡ false → endOf c ≤ startOf x
+  pub not-lies : codeOf c < codeOf x → not (liesWithin c x) ≡ leb (endOf c) (startOf x)
   unfolding endOf
-  next-before l e =
-      ⊎-elim
-      (λ h. ⊎-elim
-      (λ i. absurd (let k = inside-within x c w v i in omega (arith, k .from, start-code c v, start-code x w)))
-      (⊎-elim (λ a. a) (λ a. absurd (omega (arith, v .fine, w .fine, size-pos x, start-code c v, start-code x w))))
-      (nested-or-apart x c w v (omega arith)))
-      (λ h. ⊎-elim
-      (λ i. clash (sym (within-lies c x (inside-within c x v w i)) ∙ e))
-      (⊎-elim (λ a. absurd (omega (arith, v .fine, w .fine, size-pos x, start-code c v, start-code x w))) (λ a. a))
-      (nested-or-apart c x v w h))
-      (lt-or (x .resolution) (c .resolution))
-
-  -- the test of two codes that rise
-  pub not-lies : codeOf c < codeOf x → not (lies c x) ≡ leb (endOf c) (startOf x)
-  unfolding endOf
-  not-lies l = go (lies c x) refl
+  not-lies l = go (liesWithin c x) refl
     where
-      go : (b : Bool) → lies c x ≡ b → not b ≡ leb (startOf c + sizeOf c) (startOf x)
+      go : (b : Bool) → liesWithin c x ≡ b → not b ≡ leb (startOf c + sizeOf c) (startOf x)
       go true e = let k = lies-within c x e in sym (lt-leb (startOf c + sizeOf c) (startOf x) (omega (arith, k .to, size-pos x)))
-      go false e = sym (le-leb (startOf c + sizeOf c) (startOf x) (next-before l e))
+      go false e = sym (le-leb (startOf c + sizeOf c) (startOf x) (next-before c x v w l e))
 
 -- ---- each cell's finest cells come before those of all later ones
-
-abbrev Earlier : ℕ → List Cell → Type 0
-Earlier n xs = All (λ (x : Cell). n ≤ startOf x) xs
-
-abbrev pub InTurn : List Cell → Type 0
-InTurn [] = Unit {0}
-InTurn (c ∷ cs) = Earlier (endOf c) cs × InTurn cs
 
 earlier : (m n : ℕ) (xs : List Cell) → m ≤ n → Earlier n xs → Earlier m xs
 earlier m n [] h e = tt
@@ -112,10 +72,10 @@ ordered-in-turn (c ∷ x ∷ cs) a o =
     let i : isCode c ≡ true = and-left (isCode c) (isCode x && allCodes cs) a in
     let r : (isCode x && allCodes cs) ≡ true = and-right (isCode c) (isCode x && allCodes cs) a in
     let j : isCode x ≡ true = and-left (isCode x) (allCodes cs) r in
-    let l : c < x = ltb-true c x (and-left (ltb c x) (not (lies (cellOf c) (cellOf x)) && ordered (x ∷ cs)) o) in
-    let s = and-right (ltb c x) (not (lies (cellOf c) (cellOf x)) && ordered (x ∷ cs)) o in
-    let n : lies (cellOf c) (cellOf x) ≡ false = not-true _ (and-left (not (lies (cellOf c) (cellOf x))) (ordered (x ∷ cs)) s) in
-    let k = ordered-in-turn (x ∷ cs) r (and-right (not (lies (cellOf c) (cellOf x))) (ordered (x ∷ cs)) s) in
+    let l : c < x = ltb-true c x (and-left (ltb c x) (not (liesWithin (cellOf c) (cellOf x)) && ordered (x ∷ cs)) o) in
+    let s = and-right (ltb c x) (not (liesWithin (cellOf c) (cellOf x)) && ordered (x ∷ cs)) o in
+    let n : liesWithin (cellOf c) (cellOf x) ≡ false = not-true _ (and-left (not (liesWithin (cellOf c) (cellOf x))) (ordered (x ∷ cs)) s) in
+    let k = ordered-in-turn (x ∷ cs) r (and-right (not (liesWithin (cellOf c) (cellOf x))) (ordered (x ∷ cs)) s) in
     let b : endOf (cellOf c) ≤ startOf (cellOf x) =
     next-before (cellOf c) (cellOf x) (code-is-cell c i) (code-is-cell x j) (omega (arith, code-cell c i, code-cell x j)) n in
     ((b, earlier (endOf (cellOf c)) (endOf (cellOf x)) (map cellOf cs) (omega arith) (k .0)), k)
@@ -143,17 +103,11 @@ list-ordered (c ∷ x ∷ cs) a r p =
     let q : (isCode x && allCodes cs) ≡ true = and-right (isCode c) (isCode x && allCodes cs) a in
     let j : isCode x ≡ true = and-left (isCode x) (allCodes cs) q in
     let l : c < x = omega (arith, r .0 .0, code-cell c i, code-cell x j) in
-    let n : not (lies (cellOf c) (cellOf x)) ≡ true =
-    is-not (lies (cellOf c) (cellOf x)) (λ e. p .0 .0 .0 (within-inside (cellOf c) (cellOf x) (code-is-cell c i) (code-is-cell x j) (lies-within (cellOf c) (cellOf x) e))) in
+    let n : not (liesWithin (cellOf c) (cellOf x)) ≡ true =
+    is-not (liesWithin (cellOf c) (cellOf x)) (λ e. p .0 .0 .0 (lies-inside (cellOf c) (cellOf x) (code-is-cell c i) (code-is-cell x j) e)) in
     ap₂ _&&_ (lt-ltb c x l) (ap₂ _&&_ n (list-ordered (x ∷ cs) q (r .1) (p .1)))
 
 -- ---- "rising codes, none inside another": exactly those are not refused
-
--- a list of codes as 01 wants it
-pub record GoodList (codes : List ℕ) : Type 0 where
-  pub coded : allCodes codes ≡ true
-  pub rising : Rising (map cellOf codes)
-  pub apart : Apart (map cellOf codes)
 
 pub good-list : (codes : List ℕ) → codesRefusal codes ≡ 0 → GoodList codes
 unfolding codesRefusal

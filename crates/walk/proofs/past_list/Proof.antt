@@ -1,11 +1,11 @@
--- `asking::past_list` meets its contract: the bytes gone over, and those that it takes from here on, are the list's. Assumes nothing.
+-- `walk::past_list` meets its contract: the bytes gone over, and those that it takes from here on, are the list's. Assumes nothing.
 use native.Mathlib.Omega.{arith}
 use Prim.Native.Nat.{_-_}
 use lib.ListN.{length}
 use borrow.Author.Needs.{needs}
-use Rattle.asking.proofs.Laws.{Shuts, shuts-start, shuts-end, shuts-done, shuts-on}
-use Rattle.asking.proofs.past_list.Statement.{statement}
-use Rattle.asking.proofs.past_list.Tie as tie
+use Rattle.walk.proofs.Past.{Shuts, shuts-start, shuts-end, shuts-done, shuts-on}
+use Rattle.walk.proofs.past_list.Statement.{statement}
+use Rattle.walk.proofs.past_list.Tie as tie
 
 abbrev Inv-loop : tie.InvT-loop
 Inv-loop text at depth₀ i₀ depth i = Shuts text at depth i

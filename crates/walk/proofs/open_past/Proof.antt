@@ -1,9 +1,9 @@
--- `asking::open_past` meets its contract. Assumes nothing.
+-- `walk::open_past` meets its contract. Assumes nothing.
 use native.Mathlib.Omega.{arith}
 use borrow.Author.Tests.{eq-eqb, ne-eqb}
-use Rattle.asking.specs.Internal.AskNodes.{openPast}
-use Rattle.asking.proofs.open_past.Statement.{statement}
-use Rattle.asking.proofs.open_past.Tie as tie
+use Rattle.walk.specs.Past.{openPast}
+use Rattle.walk.proofs.open_past.Statement.{statement}
+use Rattle.walk.proofs.open_past.Tie as tie
 
 add-result : tie.Need-add-result
 add-result c = omega arith
