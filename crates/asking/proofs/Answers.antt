@@ -14,7 +14,7 @@ use Rattle.code.specs.Code.{cellOf, codeRefusal}
 use Rattle.reading.specs.Ground.{wholeCells}
 use Rattle.reading.specs.TextReading.{nodesOf, northOf, southOf}
 use Rattle.reader.specs.Check.{placeWith}
-use Rattle.reader.specs.Laws.Answer.{TextAnswer, RefusalAnswer}
+use Rattle.reader.specs.Laws.Answer.{TextChecked, TextRefused}
 use Rattle.asking.specs.declared.Asked.the-variants.{Covered, Refused}
 use Rattle.asking.specs.Ask.{anyWithin, askRefusal, asked, askedAs}
 
@@ -39,13 +39,13 @@ module _ (a : Arrangement) (t : List ℕ) (code : ℕ) where
 
     module _ (f : codeRefusal code ≡ 0) where
       -- the text's
-      pub not-read : {q p : ℕ} → RefusalAnswer t q p → Refused q p ≡ asked (askRefusal a t code) t code
+      pub not-read : {q p : ℕ} → TextRefused t q p → Refused q p ≡ asked (askRefusal a t code) t code
       unfolding askRefusal
       not-read u =
           refusal t code (passes _ (sym e ∙ z) ∙ passes _ f ∙ stops _ _ (λ y. u .some (sym (u .refusal) ∙ y)) ∙ u .refusal) (u .some) (u .place)
 
       -- 14, or the answer
-      pub read-to : {n s c y b : ℕ} → TextAnswer t n s c y b → askedAs a n s (anyWithin (wholeCells (nodesOf t)) (cellOf code)) ≡ asked (askRefusal a t code) t code
+      pub read-to : {n s c y b : ℕ} → TextChecked t n s c y b → askedAs a n s (anyWithin (wholeCells (nodesOf t)) (cellOf code)) ≡ asked (askRefusal a t code) t code
       unfolding askRefusal askedAs asked
       read-to r =
           ap₂ (λ (x y : ℕ). cond (eqb (a .north) x && eqb (a .south) y) (Covered (anyWithin (wholeCells (nodesOf t)) (cellOf code))) (Refused 14 0)) (r .north) (r .south)

@@ -9,12 +9,12 @@ use borrow.Author.Tests.{lt-ltb, le-ltb}
 use Rattle.logic.specs.Refusal.{refuse, given}
 use Rattle.logic.specs.Laws.Refusal.{stops, passes}
 use Rattle.reader.specs.Check.{placeWith}
-use Rattle.reader.specs.Laws.Answer.{TextAnswer, RefusalAnswer}
+use Rattle.reader.specs.Laws.Answer.{TextChecked, TextRefused}
 use Rattle.listing.specs.declared.Listed.the-variants.{Count, Refused}
 use Rattle.listing.specs.List.{codesOf, listingRefusal, listed}
 use Rattle.listing.specs.Laws.List.{listed-count}
 
-module _ {t : List ℕ} {n s c z b : ℕ} (r : TextAnswer t n s c z b) where
+module _ {t : List ℕ} {n s c z b : ℕ} (r : TextChecked t n s c z b) where
   pub counted : c ≡ length (codesOf t)
   counted = r .count ∙ sym (listed-count t)
 
@@ -30,7 +30,7 @@ module _ {t : List ℕ} {n s c z b : ℕ} (r : TextAnswer t n s c z b) where
       let e = counted in
       passes _ (r .allowed) ∙ ap (λ (b : Bool). refuse b 8) (le-ltb room (length (codesOf t)) (omega arith))
 
-pub unread : {t : List ℕ} {r p : ℕ} (room : ℕ) → RefusalAnswer t r p → listingRefusal t room ≡ r
+pub unread : {t : List ℕ} {r p : ℕ} (room : ℕ) → TextRefused t r p → listingRefusal t room ≡ r
 unfolding listingRefusal
 unread room u = stops _ _ (λ z. u .some (sym (u .refusal) ∙ z)) ∙ u .refusal
 

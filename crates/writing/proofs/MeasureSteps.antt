@@ -10,7 +10,7 @@ use Rattle.code.specs.Code.{sizeOf}
 use Rattle.code.specs.Inside.{startOf}
 use Rattle.logic.specs.Laws.Order.{lt-or}
 use Rattle.writing.specs.declared.Measure.{Measure}
-use Rattle.writing.specs.Internal.Measure.{cellAt, StartAtPlace, NodeAt, NodeTakes, NodeMeasured, ListMeasured}
+use Rattle.writing.specs.Internal.Measure.{nextCell, StartAtPlace, NodeAt, NodeTakes, NodeMeasured, ListMeasured}
 use Rattle.writing.specs.Internal.MeasureLaws.{node-finest, node-same, node-list, node-nine, node-held, list-none, list-node, list-rest, list-in, all-later, list-skip, list-out}
 
 -- ---- a node
@@ -19,11 +19,11 @@ pub n-finest : {codes : List ℕ} {at start size : ℕ} → at < length codes �
 n-finest {codes} {at} {start} {size} h z l =
     record { is = λ w k s. node-finest codes at w start size k s h l; inside = omega arith; short = omega arith; few = omega arith }
 
-pub n-same : {codes : List ℕ} {at start size : ℕ} → at < length codes → 0 < size → sizeOf (cellAt codes at) ≡ size → NodeMeasured codes at start size (record { next = at + 1; bytes = 1; wholes = 1 })
+pub n-same : {codes : List ℕ} {at start size : ℕ} → at < length codes → 0 < size → sizeOf (nextCell codes at) ≡ size → NodeMeasured codes at start size (record { next = at + 1; bytes = 1; wholes = 1 })
 n-same {codes} {at} {start} {size} h z e =
     record { is = λ w k s. node-same codes at w start size k s h e; inside = omega arith; short = omega arith; few = omega arith }
 
-module _ {codes : List ℕ} {at start size : ℕ} {r : Measure} (h : at < length codes) (z : 9 ≤ size) (n : sizeOf (cellAt codes at) ≡ size → ⊥) (m : ListMeasured codes at 9 start (size / 9) r) where
+module _ {codes : List ℕ} {at start size : ℕ} {r : Measure} (h : at < length codes) (z : 9 ≤ size) (n : sizeOf (nextCell codes at) ≡ size → ⊥) (m : ListMeasured codes at 9 start (size / 9) r) where
   pub n-nine : r .wholes ≡ 9 → NodeMeasured codes at start size (record { next = r .next; bytes = 1; wholes = 1 })
   n-nine e = record { is = go; inside = m .inside; short = omega arith; few = omega arith }
     where
@@ -49,7 +49,7 @@ pub less : (n : ℕ) → suc n - 1 ≡ n
 less n = omega arith
 
 l-in-suc :
-    (codes : List ℕ) (at left start size : ℕ) (n r : Measure) → at < length codes → startOf (cellAt codes at) < start + size →
+    (codes : List ℕ) (at left start size : ℕ) (n r : Measure) → at < length codes → startOf (nextCell codes at) < start + size →
     NodeMeasured codes at start size n → ListMeasured codes (n .next) left (start + size) size r →
     ListMeasured codes at (suc left) start size (record { next = r .next; bytes = n .bytes + r .bytes; wholes = n .wholes + r .wholes })
 l-in-suc codes at left start size n r h l m u =
@@ -64,14 +64,14 @@ l-in-suc codes at left start size n r h l m u =
     }
 
 pub l-in :
-    {codes : List ℕ} {at : ℕ} (left : ℕ) {start size : ℕ} {n r : Measure} → at < length codes → (left ≡ 0 → ⊥) → startOf (cellAt codes at) < start + size →
+    {codes : List ℕ} {at : ℕ} (left : ℕ) {start size : ℕ} {n r : Measure} → at < length codes → (left ≡ 0 → ⊥) → startOf (nextCell codes at) < start + size →
     NodeMeasured codes at start size n → ListMeasured codes (n .next) (left - 1) (start + size) size r →
     ListMeasured codes at left start size (record { next = r .next; bytes = n .bytes + r .bytes; wholes = n .wholes + r .wholes })
 l-in zero h z l m u = absurd (z refl)
 l-in {codes} {at} (suc left) {start} {size} {n} {r} h z l m u = l-in-suc codes at left start size n r h l m (rw (less left) at u)
 
 l-out-suc :
-    (codes : List ℕ) (at left start size : ℕ) (r : Measure) → 0 < size → (at < length codes → startOf (cellAt codes at) < start + size → ⊥) →
+    (codes : List ℕ) (at left start size : ℕ) (r : Measure) → 0 < size → (at < length codes → startOf (nextCell codes at) < start + size → ⊥) →
     ListMeasured codes at left (start + size) size r → ListMeasured codes at (suc left) start size r
 l-out-suc codes at left start size r z n u =
     record {
@@ -85,7 +85,7 @@ l-out-suc codes at left start size r z n u =
     }
 
 pub l-out :
-    {codes : List ℕ} {at : ℕ} (left : ℕ) {start size : ℕ} {r : Measure} → 0 < size → (left ≡ 0 → ⊥) → (at < length codes → startOf (cellAt codes at) < start + size → ⊥) →
+    {codes : List ℕ} {at : ℕ} (left : ℕ) {start size : ℕ} {r : Measure} → 0 < size → (left ≡ 0 → ⊥) → (at < length codes → startOf (nextCell codes at) < start + size → ⊥) →
     ListMeasured codes at (left - 1) (start + size) size r → ListMeasured codes at left start size r
 l-out zero z e n u = absurd (e refl)
 l-out {codes} {at} (suc left) {start} {size} {r} z e n u = l-out-suc codes at left start size r z n (rw (less left) at u)
@@ -100,13 +100,13 @@ one-less (suc n) z h = rw (less n) (suc-mul n z)
 
 pub hand-inside :
     {codes : List ℕ} {at first : ℕ} (start size : ℕ) → StartAtPlace codes at first → start + size ≤ 9 ^ 16 →
-    first < start + size → (at < length codes) × (startOf (cellAt codes at) < start + size)
+    first < start + size → (at < length codes) × (startOf (nextCell codes at) < start + size)
 hand-inside {codes} {at} {first} start size a c l =
     ⊎-elim (λ h. (h, omega (arith, a .some h))) (λ h. absurd (omega (arith, a .none h))) (lt-or at (length codes))
 
 pub hand-outside :
     {codes : List ℕ} {at first : ℕ} (start size : ℕ) → StartAtPlace codes at first → (first < start + size → ⊥) →
-    at < length codes → startOf (cellAt codes at) < start + size → ⊥
+    at < length codes → startOf (nextCell codes at) < start + size → ⊥
 hand-outside start size a n h l = n (omega (arith, a .some h))
 
 -- ---- a list, cell by cell

@@ -14,12 +14,12 @@ use Rattle.reading.specs.declared.Level.the-variants.{Digits}
 use Rattle.reading.specs.Reading.{Nodes, end, whole, listed, first, render, wholes}
 use Rattle.reading.specs.Prefix.{Name, numbersOf, Ahead}
 use Rattle.code.specs.Code.{sizeOf}
-use Rattle.writing.specs.declared.Ends.{Ends}
+use Rattle.writing.specs.declared.WrittenTo.{WrittenTo}
 use Rattle.reading.specs.Written.{anyEnds, nodeOf, side, under}
 use Rattle.reading.specs.Laws.Built.{built-side}
 use Rattle.writing.specs.Internal.Take.{restsOf, Each}
 use Rattle.writing.specs.Internal.TakeLaws.{rests-first, side-in, side-out, took-none, took-join, nine-past}
-use Rattle.writing.specs.Internal.Measure.{namesFrom, cellAt, NodeAt, ListAt, NodeTakes}
+use Rattle.writing.specs.Internal.Measure.{namesFrom, nextCell, NodeAt, ListAt, NodeTakes}
 use Rattle.writing.specs.Internal.MeasureLaws.{names-at, node-same}
 use Rattle.writing.specs.Internal.Put.{Wrote, NodeWrote, ListWrote}
 
@@ -77,14 +77,14 @@ module _
     (t : NodeTakes codes at w (suc k) next bytes count) (n : count ≡ 1 → ⊥)
   where
     -- a node that is not whole is of another cell than the code at hand
-    pub other-size : sizeOf (cellAt codes at) ≡ size → ⊥
+    pub other-size : sizeOf (nextCell codes at) ≡ size → ⊥
     other-size e =
         let u = node-same codes at w start size (suc k) s h e in
         n (omega (arith, t .whole 0 end, u .whole 0 end))
 
     held : (c : ℕ) → nodeOf (under (suc k)) c (restsOf w (namesFrom codes at)) end ≡ listed c (side (under k) 9 0 (restsOf w (namesFrom codes at))) end
     held c =
-        let f = rests-first w (namesFrom codes at) (numbersOf (cellAt codes at)) (namesFrom codes (at + 1)) (names-at codes at h) (s .inside) in
+        let f = rests-first w (namesFrom codes at) (numbersOf (nextCell codes at)) (namesFrom codes (at + 1)) (names-at codes at h) (s .inside) in
         let i : (wholes (nodeOf (under (suc k)) c (restsOf w (namesFrom codes at)) end) ≡ 1 → ⊥) = λ e. n (omega (arith, t .whole c end)) in
         let j : nodeOf (under (suc k)) c (restsOf w (namesFrom codes at)) end ≡ listed c (under (suc k) (restsOf w (namesFrom codes at))) end =
         rw (f .2) (node-listed (under (suc k)) c (f .0) (f .1) (rw (f .2) at i)) in
@@ -122,7 +122,7 @@ module _ (codes : List ℕ) (at : ℕ) (w : Name) (k place : ℕ) (l : Level) (c
   shift = omega arith
 
   pub in-wrote :
-      (text mid later : List ℕ) (n r : Ends) → NodeWrote codes at (w ++ (c ∷ [])) k place l c text mid n →
+      (text mid later : List ℕ) (n r : WrittenTo) → NodeWrote codes at (w ++ (c ∷ [])) k place l c text mid n →
       ListWrote codes (n .next) w k (n .place) l (suc c) left mid later r → ListWrote codes at w k place l c (suc left) text later r
   in-wrote text mid later n r t u =
       let ss : List Name = namesFrom codes at in
@@ -135,7 +135,7 @@ module _ (codes : List ℕ) (at : ℕ) (w : Name) (k place : ℕ) (l : Level) (c
       }
 
   pub out-wrote :
-      (text later : List ℕ) (r : Ends) → Each (Ahead (w ++ (c ∷ []))) (namesFrom codes at) → ListWrote codes at w k place l (suc c) left text later r →
+      (text later : List ℕ) (r : WrittenTo) → Each (Ahead (w ++ (c ∷ []))) (namesFrom codes at) → ListWrote codes at w k place l (suc c) left text later r →
       ListWrote codes at w k place l c (suc left) text later r
   out-wrote text later r p u =
       record { took = u .took; past = rw shift at (u .past); wrote = rw (side-out (under k) left c w (namesFrom codes at) p) (u .wrote) }

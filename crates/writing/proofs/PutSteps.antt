@@ -11,8 +11,8 @@ use Rattle.logic.specs.Laws.Order.{lt-or}
 use Rattle.reading.specs.declared.Level.{Level}
 use Rattle.reading.specs.declared.Level.the-variants.{Digits}
 use Rattle.reading.specs.Reading.{first}
-use Rattle.writing.specs.declared.Ends.{Ends}
-use Rattle.writing.specs.Internal.Measure.{cellAt, StartAtPlace, NodeAt}
+use Rattle.writing.specs.declared.WrittenTo.{WrittenTo}
+use Rattle.writing.specs.Internal.Measure.{nextCell, StartAtPlace, NodeAt}
 use Rattle.writing.specs.Internal.MeasureLaws.{node-list, list-node, next-list, all-later, list-skip}
 use Rattle.writing.specs.Internal.Whole.{WholeUntil}
 use Rattle.writing.specs.Internal.Put.{NodeWrote, ListWrote, NodePut, ListPut}
@@ -36,7 +36,7 @@ pub has-children : {codes : List ℕ} {at start size r : ℕ} → WholeUntil cod
 has-children {codes} {at} {start} {size} {r} m e = ⊎-elim (λ l. absurd (m .finest l e)) (λ l. l) (lt-or size 9)
 
 pub held-put :
-    {codes : List ℕ} {at start size place byte q : ℕ} {text one two three later : List ℕ} {r : Ends} → at < length codes → WholeUntil codes at start size q →
+    {codes : List ℕ} {at start size place byte q : ℕ} {text one two three later : List ℕ} {r : WrittenTo} → at < length codes → WholeUntil codes at start size q →
     q ≡ at → one ≡ set text place byte → two ≡ set one (place + 1) 40 → ListPut codes at 9 start (size / 9) (place + 2) 48 two three r →
     later ≡ set three (r .place) 41 → NodePut codes at start size place byte text later (record { next = r .next; place = r .place + 1 })
 held-put {codes} {at} {start} {size} {place} {byte} {q} {text} {one} {two} {three} {later} {r} h m n a b u d =
@@ -61,7 +61,7 @@ none-put {codes} {at} {left} {start} {size} {place} {byte} {text} h e =
     (record { is = λ l w c k b s. none-wrote codes at w start size k place l c text s; inside = h; short = omega arith })
 
 in-suc :
-    (codes : List ℕ) (at left start size place byte : ℕ) (text mid later : List ℕ) (n r : Ends) → at < length codes → startOf (cellAt codes at) < start + size →
+    (codes : List ℕ) (at left start size place byte : ℕ) (text mid later : List ℕ) (n r : WrittenTo) → at < length codes → startOf (nextCell codes at) < start + size →
     NodePut codes at start size place byte text mid n → ListPut codes (n .next) left (start + size) size (n .place) (byte + 1) mid later r →
     ListPut codes at (suc left) start size place byte text later r
 in-suc codes at left start size place byte text mid later n r h i m u =
@@ -76,15 +76,15 @@ in-suc codes at left start size place byte text mid later n r h i m u =
     }
 
 pub in-put :
-    {codes : List ℕ} {at : ℕ} (left : ℕ) {start size place byte : ℕ} {text mid later : List ℕ} {n r : Ends} → at < length codes → (left ≡ 0 → ⊥) →
-    startOf (cellAt codes at) < start + size → NodePut codes at start size place byte text mid n →
+    {codes : List ℕ} {at : ℕ} (left : ℕ) {start size place byte : ℕ} {text mid later : List ℕ} {n r : WrittenTo} → at < length codes → (left ≡ 0 → ⊥) →
+    startOf (nextCell codes at) < start + size → NodePut codes at start size place byte text mid n →
     ListPut codes (n .next) (left - 1) (start + size) size (n .place) (byte + 1) mid later r → ListPut codes at left start size place byte text later r
 in-put zero h z i m u = absurd (z refl)
 in-put {codes} {at} (suc left) {start} {size} {place} {byte} {text} {mid} {later} {n} {r} h z i m u =
     in-suc codes at left start size place byte text mid later n r h i m (rw (less left) at u)
 
 out-suc :
-    (codes : List ℕ) (at left start size place byte : ℕ) (text later : List ℕ) (r : Ends) → (at < length codes → startOf (cellAt codes at) < start + size → ⊥) →
+    (codes : List ℕ) (at left start size place byte : ℕ) (text later : List ℕ) (r : WrittenTo) → (at < length codes → startOf (nextCell codes at) < start + size → ⊥) →
     ListPut codes at left (start + size) size place (byte + 1) text later r → ListPut codes at (suc left) start size place byte text later r
 out-suc codes at left start size place byte text later r n u =
     record {
@@ -97,8 +97,8 @@ out-suc codes at left start size place byte text later r n u =
     }
 
 pub out-put :
-    {codes : List ℕ} {at : ℕ} (left : ℕ) {start size place byte : ℕ} {text later : List ℕ} {r : Ends} → (left ≡ 0 → ⊥) →
-    (at < length codes → startOf (cellAt codes at) < start + size → ⊥) → ListPut codes at (left - 1) (start + size) size place (byte + 1) text later r →
+    {codes : List ℕ} {at : ℕ} (left : ℕ) {start size place byte : ℕ} {text later : List ℕ} {r : WrittenTo} → (left ≡ 0 → ⊥) →
+    (at < length codes → startOf (nextCell codes at) < start + size → ⊥) → ListPut codes at (left - 1) (start + size) size place (byte + 1) text later r →
     ListPut codes at left start size place byte text later r
 out-put zero z n u = absurd (z refl)
 out-put {codes} {at} (suc left) {start} {size} {place} {byte} {text} {later} {r} z n u =
@@ -108,7 +108,7 @@ out-put {codes} {at} (suc left) {start} {size} {place} {byte} {text} {later} {r}
 
 -- what is written of the cells that are left completes what is to be written
 pub record Putting (codes : List ℕ) (at left start size place byte : ℕ) (text : List ℕ) (next finest child ends name more : ℕ) (now : List ℕ) : Type 0 where
-  pub rest : (later : List ℕ) (r : Ends) → ListPut codes next more child size ends name now later r → ListPut codes at left start size place byte text later r
+  pub rest : (later : List ℕ) (r : WrittenTo) → ListPut codes next more child size ends name now later r → ListPut codes at left start size place byte text later r
   pub inside : next ≤ length codes
   pub few : more ≤ 9
   pub cells : child + more * size ≤ 9 ^ 16
@@ -134,7 +134,7 @@ module _
   where
     -- the cell has the code at hand inside
     pub put-in :
-        {mid later : List ℕ} {n : Ends} {first last from to : ℕ} → finest < child + size → NodePut codes next child size ends name now mid n →
+        {mid later : List ℕ} {n : WrittenTo} {first last from to : ℕ} → finest < child + size → NodePut codes next child size ends name now mid n →
         length mid ≡ length now → StartAtPlace codes (n .next) first → later ≡ mid → last ≡ n .next → from ≡ first → to ≡ n .place →
         Putting codes at left start size place byte text last from (child + size) to (name + 1) (more - 1) later
     put-in {mid} {later} {n} {first} l m e a e₁ e₂ e₃ e₄ =

@@ -18,7 +18,7 @@ use Rattle.reading.specs.Laws.Rising.{ahead-before}
 use Rattle.reading.specs.Laws.Named.{named-cell, name-named, prefix-inside}
 use Rattle.writing.specs.Write.{allCodes}
 use Rattle.writing.specs.Internal.Take.{Each, Took}
-use Rattle.writing.specs.Internal.Measure.{namesFrom, cellAt, sizeFrom, NodeAt, ListAt, NodeTakes, ListTakes}
+use Rattle.writing.specs.Internal.Measure.{namesFrom, nextCell, sizeFrom, NodeAt, ListAt, NodeTakes, ListTakes}
 use Rattle.writing.specs.Internal.MeasureLaws.{code-at, names-at, size-at, end-named, node-finest, node-same, node-list, node-nine}
 use Rattle.writing.specs.Internal.MeasureLaws.{node-held, list-none, list-node, list-rest, list-in, all-later, list-skip, list-out}
 use Rattle.writing.specs.Internal.Whole.{CoveredTo}
@@ -48,10 +48,10 @@ MakesLists k left =
 
 one-more : (k left : ℕ) → Makes k → MakesLists k left → MakesLists k (suc left)
 one-more k left f g codes at w c start size s h =
-    ⊎-elim (λ i. ⊎-elim (λ l. taken i l) (λ l. skipped (λ j n. omega arith)) (lt-or (startOf (cellAt codes at)) (start + size))) (λ i. skipped (λ j n. omega arith))
+    ⊎-elim (λ i. ⊎-elim (λ l. taken i l) (λ l. skipped (λ j n. omega arith)) (lt-or (startOf (nextCell codes at)) (start + size))) (λ i. skipped (λ j n. omega arith))
     (lt-or at (length codes))
   where
-    taken : at < length codes → startOf (cellAt codes at) < start + size → ListMade codes at w c (suc left) k
+    taken : at < length codes → startOf (nextCell codes at) < start + size → ListMade codes at w c (suc left) k
     taken i l =
         let m = f codes at (w ++ (c ∷ [])) start size (list-node codes at w c left start size k s i l) i in
         let u = g codes (m .next) w (suc c) (start + size) size (list-rest codes at w c left start size k s (m .takes)) (m .inside) in
@@ -63,7 +63,7 @@ one-more k left f g codes at w c start size s h =
           takes = list-in codes at w c left start size k s (m .takes) (u .takes);
         }
 
-    skipped : (at < length codes → startOf (cellAt codes at) < start + size → ⊥) → ListMade codes at w c (suc left) k
+    skipped : (at < length codes → startOf (nextCell codes at) < start + size → ⊥) → ListMade codes at w c (suc left) k
     skipped n =
         let p = all-later codes at w c left start size k s n in
         let u = g codes at w (suc c) (start + size) size (list-skip codes at w c left start size k s p) h in
@@ -76,9 +76,9 @@ list-made k (suc left) f = one-more k left f (list-made k left f)
 one-level : (k : ℕ) → MakesLists k 9 → Makes (suc k)
 one-level k g codes at w start size s h =
     ⊎-elim (λ e. record { next = at + 1; bytes = 1; count = 1; inside = omega arith; takes = node-same codes at w start size (suc k) s h e }) other
-    (eq-or (sizeOf (cellAt codes at)) size)
+    (eq-or (sizeOf (nextCell codes at)) size)
   where
-    other : (sizeOf (cellAt codes at) ≡ size → ⊥) → NodeMade codes at w (suc k)
+    other : (sizeOf (nextCell codes at) ≡ size → ⊥) → NodeMade codes at w (suc k)
     other n =
         let u = g codes at w 0 start (size / 9) (node-list codes at w start size k s h n) (omega arith) in
         ⊎-elim
@@ -119,7 +119,7 @@ unfolding sizeSum
 size-end codes i h = ap (λ (cs : List ℕ). sizeSum (map cellOf cs)) (drop-of-length-le codes h)
 
 size-less : (codes : List ℕ) (i j : ℕ) → i < j → i < length codes → sizeFrom codes j < sizeFrom codes i
-size-less codes i j h l = omega (arith, size-at codes i l, size-pos (cellAt codes i), size-later codes (i + 1) j (omega arith))
+size-less codes i j h l = omega (arith, size-at codes i l, size-pos (nextCell codes i), size-later codes (i + 1) j (omega arith))
 
 -- ---- places of codes and of their finest cells
 
@@ -131,7 +131,7 @@ rise-later codes at (suc d) r h =
 
 in-turn-at :
     (codes : List ℕ) (at i : ℕ) → allCodes codes ≡ true → InOrder (namesFrom codes at) → at ≤ i → i + 1 < length codes →
-    endOf (cellAt codes i) ≤ startOf (cellAt codes (i + 1))
+    endOf (nextCell codes i) ≤ startOf (nextCell codes (i + 1))
 in-turn-at codes at i a r l h =
     let x : ℕ = getD codes i 0 in
     let y : ℕ = getD codes (i + 1) 0 in
@@ -166,11 +166,11 @@ module _ (codes : List ℕ) (at : ℕ) (w : Name) (start size k : ℕ) (s : Node
     names-length : (j : ℕ) → length (namesFrom codes j) ≡ length codes - j
     names-length j = length-map (map cellOf (drop j codes)) numbersOf ∙ length-map (drop j codes) cellOf ∙ length-drop j codes
 
-    took-at : (j : ℕ) (front : List Name) (i : ℕ) → namesFrom codes i ≡ front ++ namesFrom codes next → Each (Prefix w) front → i ≤ j → j < next → Prefix w (numbersOf (cellAt codes j))
+    took-at : (j : ℕ) (front : List Name) (i : ℕ) → namesFrom codes i ≡ front ++ namesFrom codes next → Each (Prefix w) front → i ≤ j → j < next → Prefix w (numbersOf (nextCell codes j))
     took-at j [] i e p a b = absurd (omega (arith, ap length e, names-length i, names-length next))
     took-at j (q ∷ front) i e p a b =
-        let f : numbersOf (cellAt codes i) ∷ namesFrom codes (i + 1) ≡ q ∷ (front ++ namesFrom codes next) = sym (names-at codes i (omega arith)) ∙ e in
-        let g : numbersOf (cellAt codes i) ≡ q = cc in
+        let f : numbersOf (nextCell codes i) ∷ namesFrom codes (i + 1) ≡ q ∷ (front ++ namesFrom codes next) = sym (names-at codes i (omega arith)) ∙ e in
+        let g : numbersOf (nextCell codes i) ≡ q = cc in
         let g₂ : namesFrom codes (i + 1) ≡ front ++ namesFrom codes next = cc in
         ⊎-elim (λ z. took-at j front (i + 1) g₂ (p .1) (omega arith) b)
         (λ z. let o : j ≡ i = omega arith in rw (o, g) (p .0))
@@ -184,7 +184,7 @@ module _ (codes : List ℕ) (at : ℕ) (w : Name) (start size k : ℕ) (s : Node
 
     module _ (t : Took w (namesFrom codes at) (namesFrom codes next)) (p : Each (Ahead w) (namesFrom codes next)) where
       -- from a code inside to the last, they find room to the end of the cell
-      room : (d i : ℕ) → i + suc d ≡ next → at ≤ i → startOf (cellAt codes i) + sizeFrom codes i ≤ start + size + sizeFrom codes next
+      room : (d i : ℕ) → i + suc d ≡ next → at ≤ i → startOf (nextCell codes i) + sizeFrom codes i ≤ start + size + sizeFrom codes next
       unfolding endOf
       room zero i e a =
           let o : i + 1 ≡ next = omega arith in
@@ -203,7 +203,7 @@ module _ (codes : List ℕ) (at : ℕ) (w : Name) (start size k : ℕ) (s : Node
           )
 
       -- a code that begins before the end of the cell is inside
-      before-next : (j : ℕ) → j < length codes → startOf (cellAt codes j) < start + size → j < next
+      before-next : (j : ℕ) → j < length codes → startOf (nextCell codes j) < start + size → j < next
       before-next j b c =
           ⊎-elim (λ z. z)
           (λ z.
@@ -219,7 +219,7 @@ module _ (codes : List ℕ) (at : ℕ) (w : Name) (start size k i position : ℕ
       ⊎-elim (λ f. absurd (n (omega (arith, f .1)))) (λ f. let z : m .count ≡ 0 = omega arith in (m .next, m .bytes, rw z at (m .takes))) (m .takes .fills)
 
   -- the next code begins after the position
-  pub gap-held : i < length codes → position < startOf (cellAt codes i) → (next : ℕ) × (bytes : ℕ) × NodeTakes codes at w k next bytes 0
+  pub gap-held : i < length codes → position < startOf (nextCell codes i) → (next : ℕ) × (bytes : ℕ) × NodeTakes codes at w k next bytes 0
   gap-held b g =
       let m = node-made k codes at w start size s h in
       held-made m
@@ -237,7 +237,7 @@ module _ (codes : List ℕ) (at : ℕ) (w : Name) (start size k i position : ℕ
 
   -- the code at hand reaches the end of the cell
   pub all-whole :
-      i < length codes → startOf (cellAt codes i) ≤ position → start + size ≤ position + sizeOf (cellAt codes i) →
+      i < length codes → startOf (nextCell codes i) ≤ position → start + size ≤ position + sizeOf (nextCell codes i) →
       (bytes : ℕ) × NodeTakes codes at w k (i + 1) bytes 1
   all-whole b g r =
       let m = node-made k codes at w start size s h in

@@ -6,7 +6,7 @@ use native.Mathlib.Omega.{arith}
 use lib.ListN.{length}
 use Rattle.code.specs.Code.{sizeOf}
 use Rattle.code.specs.Inside.{startOf}
-use Rattle.writing.specs.Internal.Measure.{cellAt}
+use Rattle.writing.specs.Internal.Measure.{nextCell}
 use Rattle.writing.specs.Internal.MeasureLaws.{size-at, node-finest, node-same}
 use Rattle.writing.specs.Internal.Whole.{WholeUntil, CoveredTo}
 use Rattle.writing.proofs.WholeLaws.{gap-held, end-held, all-whole}
@@ -20,7 +20,7 @@ finest {codes} {at} {start} {size} h l =
       finest = λ z e. omega arith;
     }
 
-pub same : {codes : List ℕ} {at start size : ℕ} → at < length codes → sizeOf (cellAt codes at) ≡ size → WholeUntil codes at start size (at + 1)
+pub same : {codes : List ℕ} {at start size : ℕ} → at < length codes → sizeOf (nextCell codes at) ≡ size → WholeUntil codes at start size (at + 1)
 same {codes} {at} {start} {size} h l =
     record {
       whole = λ n w k s. (1, node-same codes at w start size k s h l);
@@ -33,7 +33,7 @@ pub starts : {codes : List ℕ} {at start size : ℕ} → at < length codes → 
 starts h z = record { from = omega arith; to = omega arith; left = omega arith; sum = refl }
 
 module _ {codes : List ℕ} {at start size i position : ℕ} (h : at < length codes) (z : 9 ≤ size) (v : CoveredTo codes at start size i position) where
-  pub gap : i < length codes → position < startOf (cellAt codes i) → WholeUntil codes at start size at
+  pub gap : i < length codes → position < startOf (nextCell codes i) → WholeUntil codes at start size at
   gap b g =
       record {
         whole = λ n. absurd (n refl);
@@ -52,7 +52,7 @@ module _ {codes : List ℕ} {at start size i position : ℕ} (h : at < length co
       }
 
   pub reached :
-      {p : ℕ} → i < length codes → startOf (cellAt codes i) ≤ position → p ≡ sizeOf (cellAt codes i) → start + size ≤ position + p →
+      {p : ℕ} → i < length codes → startOf (nextCell codes i) ≤ position → p ≡ sizeOf (nextCell codes i) → start + size ≤ position + p →
       WholeUntil codes at start size (i + 1)
   reached b g e r =
       record {
@@ -63,5 +63,5 @@ module _ {codes : List ℕ} {at start size i position : ℕ} (h : at < length co
       }
 
   pub goes-on :
-      {p : ℕ} → i < length codes → p ≡ sizeOf (cellAt codes i) → position + p < start + size → CoveredTo codes at start size (i + 1) (position + p)
+      {p : ℕ} → i < length codes → p ≡ sizeOf (nextCell codes i) → position + p < start + size → CoveredTo codes at start size (i + 1) (position + p)
   goes-on b e r = record { from = omega (arith, v .from); to = omega arith; left = r; sum = omega (arith, v .sum, size-at codes i b, e) }

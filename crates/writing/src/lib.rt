@@ -142,7 +142,7 @@ fn put(text: &mut [u8], place: usize, byte: u8)
 }
 
 // Where writing ends: the place of the next code, and the place of the next byte.
-struct Ends {
+struct WrittenTo {
     next: usize,
     place: usize,
 }
@@ -156,14 +156,14 @@ fn put_node(
     text: &mut [u8],
     place: usize,
     byte: u8,
-) -> Ends
+) -> WrittenTo
     requires { ⌜ (allCodes (now codes) ≡ true) × (at < length (now codes)) × (0 < size) × (start + size ≤ 9 ^ 16) × (place + (2 * size - 1) ≤ 2 ^ 63) ⌝ }
     ensures { λ r. ⌜ NodePut (now (codes .entry)) at start size place byte (now (text .entry)) (now (text .exit)) r ⌝ }
 {
     put(text, place, byte);
     let next = whole_until(codes, at, start, size);
     if next != at {
-        return Ends {
+        return WrittenTo {
             next,
             place: place + 1,
         };
@@ -171,7 +171,7 @@ fn put_node(
     put(text, place + 1, b'(');
     let list = put_list(codes, at, 9, start, size / 9, text, place + 2, b'0');
     put(text, list.place, b')');
-    Ends {
+    WrittenTo {
         next: list.next,
         place: list.place + 1,
     }
@@ -187,7 +187,7 @@ fn put_list(
     text: &mut [u8],
     place: usize,
     byte: u8,
-) -> Ends
+) -> WrittenTo
     requires { ⌜ (allCodes (now codes) ≡ true) × (at ≤ length (now codes)) × (left ≤ 9) × (0 < size) × (start + left * size ≤ 9 ^ 16) × (place + left * (2 * size - 1) ≤ 2 ^ 63) × (byte + left ≤ 255) ⌝ }
     ensures { λ r. ⌜ ListPut (now (codes .entry)) at left start size place byte (now (text .entry)) (now (text .exit)) r ⌝ }
 {
@@ -209,7 +209,7 @@ fn put_list(
         name = name + 1;
         more = more - 1;
     }
-    Ends { next, place: ends }
+    WrittenTo { next, place: ends }
 }
 
 // 4 or 11, or 0 where the codes make a good list: a code that is no cell's comes before all else. A cell that starts where the one before it

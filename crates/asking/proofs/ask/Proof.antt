@@ -5,7 +5,7 @@ use borrow.Author.Needs.{needs}
 use borrow.Author.Tests.{not-true, not-false}
 use Rattle.code.specs.Code.{isCode}
 use Rattle.code.specs.Laws.Code.{code-passes, code-stops}
-use Rattle.reader.specs.Laws.Answer.{text-answer, refusal-answer}
+use Rattle.reader.specs.Laws.Answer.{text-checked, text-refused}
 use Rattle.asking.proofs.Answers.{not-arranged, no-code, not-read, read-to}
 use Rattle.asking.proofs.ask.Statement.{statement}
 use Rattle.asking.proofs.ask.Tie as tie
@@ -43,7 +43,7 @@ enum-known-north c = search needs
 answered-requires : tie.Need-answered-requires
 answered-requires c κs =
     let k = c .before .before .before in
-    let r = text-answer _ (sym (c .before .north .given .1) ∙ k .check .ensures) in
+    let r = text-checked _ (sym (c .before .north .given .1) ∙ k .check .ensures) in
     (r .text, r .start, a-code (k .before))
 
 returns-3 : tie.Need-returns-3
@@ -52,7 +52,7 @@ returns-3 c =
     let f = k .before .before .before in
     let a = f .before .before .before .args in
     not-read (a .arrangement) (a .text .now) (a .code) (f .before .refusal .ensures) (f .if1 .left) (code-passes (a .code) (a-code (k .before)))
-    (refusal-answer (a .text .now) (sym (c .before .refusal2 .given .1) ∙ k .check .ensures))
+    (text-refused (a .text .now) (sym (c .before .refusal2 .given .1) ∙ k .check .ensures))
 
 returns-4 : tie.Need-returns-4
 returns-4 c =
@@ -62,7 +62,7 @@ returns-4 c =
     let a = f .before .before .before .args in
     c .answered .ensures
     ∙ read-to (a .arrangement) (a .text .now) (a .code) (f .before .refusal .ensures) (f .if1 .left) (code-passes (a .code) (a-code (k .before)))
-    (text-answer (a .text .now) (sym (w .north .given .1) ∙ k .check .ensures))
+    (text-checked (a .text .now) (sym (w .north .given .1) ∙ k .check .ensures))
 
 pub ask-spec : {M : Type 1} → statement M
 ask-spec =

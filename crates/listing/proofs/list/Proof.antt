@@ -2,7 +2,7 @@
 use mathlib.Core.Path.{refl, sym, _∙_}
 use lib.ListN.{length}
 use Rattle.listing.specs.List.{codesIn}
-use Rattle.reader.specs.Laws.Answer.{TextAnswer, text-answer, refusal-answer}
+use Rattle.reader.specs.Laws.Answer.{TextChecked, text-checked, text-refused}
 use Rattle.listing.proofs.Answers.{counted, short, enough, unread, nothing-listed, all-listed}
 use native.Mathlib.Omega.{arith}
 use borrow.Author.Needs.{needs}
@@ -12,8 +12,8 @@ use Rattle.listing.proofs.list.Tie as tie
 -- the text was read
 read-in :
     (c : tie.After-cells) →
-    let t = c .before .before .before .before .before .args .text .now in let g = c .cells .given .0 in TextAnswer t (g .0) (g .1 .0) (g .1 .1 .0) (g .1 .1 .1 .0) (g .1 .1 .1 .1 .0)
-read-in c = text-answer _ (sym (c .cells .given .1) ∙ c .before .before .check .ensures)
+    let t = c .before .before .before .before .before .args .text .now in let g = c .cells .given .0 in TextChecked t (g .0) (g .1 .0) (g .1 .1 .0) (g .1 .1 .1 .0) (g .1 .1 .1 .1 .0)
+read-in c = text-checked _ (sym (c .cells .given .1) ∙ c .before .before .check .ensures)
 
 check-requires : tie.Need-check-requires
 check-requires c κs = search needs
@@ -39,7 +39,7 @@ put-codes-requires c κs =
 returns-2 : tie.Need-returns-2
 returns-2 c =
     let a = c .before .before .before .before .before .before .args in
-    let u = refusal-answer (a .text .now) (sym (c .before .refusal .given .1) ∙ c .before .before .before .check .ensures) in
+    let u = text-refused (a .text .now) (sym (c .before .refusal .given .1) ∙ c .before .before .before .check .ensures) in
     nothing-listed (a .text .now) _ (a .codes .now) (unread (length (a .codes .now)) u) (u .some) (u .place)
 
 same-length : tie.Need-same-length

@@ -13,7 +13,7 @@ use Rattle.reader.specs.declared.Checked.the-variants.{Text, Refused}
 use Rattle.reader.specs.Check.{textRefusal, placeWith, answer, checkedOf}
 
 -- nothing was refused
-pub record TextAnswer (t : List ℕ) (n s cells size body : ℕ) : Type 0 where
+pub record TextChecked (t : List ℕ) (n s cells size body : ℕ) : Type 0 where
   pub allowed : textRefusal t ≡ 0
   pub text : isText t ≡ true
   pub north : n ≡ northOf t
@@ -26,25 +26,25 @@ text-read : (t : List ℕ) → textRefusal t ≡ 0 → isText t ≡ true
 unfolding textRefusal
 text-read t e = not-false (isText t) (allowed 8 _ (both _ _ (both _ _ e .1) .1))
 
-pub text-answer : {n s c z b : ℕ} (t : List ℕ) → Text n s c z b ≡ checkedOf t → TextAnswer t n s c z b
+pub text-checked : {n s c z b : ℕ} (t : List ℕ) → Text n s c z b ≡ checkedOf t → TextChecked t n s c z b
 unfolding checkedOf
-text-answer {n} {s} {c} {z} {b} t e = go (textRefusal t) refl e
+text-checked {n} {s} {c} {z} {b} t e = go (textRefusal t) refl e
   where
-    go : (r : ℕ) → textRefusal t ≡ r → Text n s c z b ≡ answer r t → TextAnswer t n s c z b
+    go : (r : ℕ) → textRefusal t ≡ r → Text n s c z b ≡ answer r t → TextChecked t n s c z b
     go zero q e = record { allowed = q; text = text-read t q; north = cc; south = cc; count = cc; sum = cc; start = cc }
     go (suc r) q e = let k : _≡_ {A = ℕ} 0 1 = cc in absurd (omega arith)
 
 -- the refusal, and the place
-pub record RefusalAnswer (t : List ℕ) (r p : ℕ) : Type 0 where
+pub record TextRefused (t : List ℕ) (r p : ℕ) : Type 0 where
   pub refusal : textRefusal t ≡ r
   pub some : r ≡ 0 → ⊥
   pub place : p ≡ placeWith r t
 
-pub refusal-answer : {r p : ℕ} (t : List ℕ) → Refused r p ≡ checkedOf t → RefusalAnswer t r p
+pub text-refused : {r p : ℕ} (t : List ℕ) → Refused r p ≡ checkedOf t → TextRefused t r p
 unfolding checkedOf
-refusal-answer {r} {p} t e = go (textRefusal t) refl e
+text-refused {r} {p} t e = go (textRefusal t) refl e
   where
-    go : (q : ℕ) → textRefusal t ≡ q → Refused r p ≡ answer q t → RefusalAnswer t r p
+    go : (q : ℕ) → textRefusal t ≡ q → Refused r p ≡ answer q t → TextRefused t r p
     go zero h e = let k : _≡_ {A = ℕ} 0 1 = cc in absurd (omega arith)
     go (suc q) h e =
         let i : r ≡ suc q = cc in

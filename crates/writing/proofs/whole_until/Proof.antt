@@ -5,7 +5,7 @@ use Prim.Native.Nat.{_-_}
 use lib.ListN.{length}
 use borrow.Author.Needs.{needs}
 use Rattle.code.specs.Laws.Inside.{size-small}
-use Rattle.writing.specs.Internal.Measure.{cellAt}
+use Rattle.writing.specs.Internal.Measure.{nextCell}
 use Rattle.writing.specs.Internal.MeasureLaws.{code-at}
 use Rattle.writing.specs.Internal.Whole.{CoveredTo}
 use Rattle.writing.proofs.WholeSteps as ws
@@ -68,7 +68,7 @@ add-position : tie.Need-add-position Inv-loop μ-loop
 add-position c =
     let l = c .before .before .before .before .before in
     let s = l .before .before .before .before .before .before in
-    omega (arith, l .loop .inv .left, c .size-in2 .ensures, size-small (cellAt (s .args .codes .now) (l .loop .i)))
+    omega (arith, l .loop .inv .left, c .size-in2 .ensures, size-small (nextCell (s .args .codes .now) (l .loop .i)))
 
 add-i : tie.Need-add-i Inv-loop μ-loop
 add-i c = search needs

@@ -22,7 +22,7 @@ use Rattle.reading.specs.Ground.{cellNamed, Cells}
 use Rattle.reading.specs.Prefix.{Name, numbersOf, Prefix, AreNames, Ahead, AheadAll, InOrder}
 use Rattle.reading.specs.Laws.Named.{prefix-inside, names-of-cells}
 use Rattle.reading.specs.Laws.Rising.{ahead-before}
-use Rattle.writing.specs.declared.Ends.{Ends}
+use Rattle.writing.specs.declared.WrittenTo.{WrittenTo}
 use Rattle.reading.specs.Written.{side, built, writtenText, under}
 use Rattle.writing.specs.Write.{GoodList, InTurn, codesRefusal, textOf, textIn}
 use Rattle.reading.specs.Laws.Built.{built-side}
@@ -107,7 +107,7 @@ top-length codes next bytes count t a =
 -- ---- the text
 
 pub top-text :
-    (a : Arrangement) (codes text mid later : List ℕ) (r : Ends) → length (textOf a codes) ≤ length text → mid ≡ sets text 0 (heading (a .north) (a .south)) →
+    (a : Arrangement) (codes text mid later : List ℕ) (r : WrittenTo) → length (textOf a codes) ≤ length text → mid ≡ sets text 0 (heading (a .north) (a .south)) →
     ListWrote codes 0 [] 15 7 Faces 0 6 mid later r → later ≡ textIn a codes text
 unfolding textOf writtenText textIn
 top-text a codes text mid later r h e u =

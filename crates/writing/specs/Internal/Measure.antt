@@ -22,8 +22,8 @@ abbrev pub namesFrom : List ℕ → ℕ → List Name
 namesFrom codes at = map numbersOf (map cellOf (drop at codes))
 
 -- the cell of the code at a place
-abbrev pub cellAt : List ℕ → ℕ → Cell
-cellAt codes at = cellOf (getD codes at 0)
+abbrev pub nextCell : List ℕ → ℕ → Cell
+nextCell codes at = cellOf (getD codes at 0)
 
 -- the sum of the sizes of the codes from a place on
 abbrev pub sizeFrom : List ℕ → ℕ → ℕ
@@ -41,7 +41,7 @@ pub record NodeAt (codes : List ℕ) (at : ℕ) (w : Name) (start size k : ℕ) 
   pub starts : startOf (cellNamed w) ≡ start
   pub sized : size ≡ 9 ^ k
   pub depth : length w + k ≡ 16
-  pub inside : Prefix w (numbersOf (cellAt codes at))
+  pub inside : Prefix w (numbersOf (nextCell codes at))
 
 -- so do the cells behind w of the numbers from c on
 pub record ListAt (codes : List ℕ) (at : ℕ) (w : Name) (c left start size k : ℕ) : Type 0 where
@@ -71,7 +71,7 @@ pub record ListTakes (codes : List ℕ) (at : ℕ) (w : Name) (c left k next byt
 
 -- the first finest cell of the code at a place, or a number above all of them
 pub record StartAtPlace (codes : List ℕ) (at first : ℕ) : Type 0 where
-  pub some : at < length codes → first ≡ startOf (cellAt codes at)
+  pub some : at < length codes → first ≡ startOf (nextCell codes at)
   pub none : length codes ≤ at → first ≡ 2 ^ 60
 
 pub record NodeMeasured (codes : List ℕ) (at start size : ℕ) (r : Measure) : Type 0 where

@@ -34,7 +34,7 @@ use Rattle.reading.specs.Laws.Built.{built-side}
 use Rattle.writing.specs.Internal.Take.{restsOf, Since, Each, Took}
 use Rattle.writing.specs.Internal.TakeLaws.{prefix-same, prefix-both, side-in, side-out, took-none, took-join, standing-next}
 use Rattle.writing.specs.Internal.TakeLaws.{all-ahead, self-node, self-took, self-past, deeper, deeper-node, nine-past}
-use Rattle.writing.specs.Internal.Measure.{namesFrom, cellAt, sizeFrom, Fills, NodeAt, ListAt, NodeTakes, ListTakes}
+use Rattle.writing.specs.Internal.Measure.{namesFrom, nextCell, sizeFrom, Fills, NodeAt, ListAt, NodeTakes, ListTakes}
 
 -- ---- codes, cells and names at a place
 
@@ -44,12 +44,12 @@ code-at [] at a h = absurd (omega arith)
 code-at (c ∷ cs) zero a h = and-left (isCode c) (allCodes cs) a
 code-at (c ∷ cs) (suc at) a h = code-at cs at (and-right (isCode c) (allCodes cs) a) (omega arith)
 
-pub names-at : (codes : List ℕ) (at : ℕ) → at < length codes → namesFrom codes at ≡ numbersOf (cellAt codes at) ∷ namesFrom codes (at + 1)
+pub names-at : (codes : List ℕ) (at : ℕ) → at < length codes → namesFrom codes at ≡ numbersOf (nextCell codes at) ∷ namesFrom codes (at + 1)
 names-at codes at h =
     let e : drop at codes ≡ getD codes at 0 ∷ drop (at + 1) codes = rw (add-one, drop-cons codes at 0) in
     ap (λ (cs : List ℕ). map numbersOf (map cellOf cs)) e
 
-pub size-at : (codes : List ℕ) (at : ℕ) → at < length codes → sizeFrom codes at ≡ sizeOf (cellAt codes at) + sizeFrom codes (at + 1)
+pub size-at : (codes : List ℕ) (at : ℕ) → at < length codes → sizeFrom codes at ≡ sizeOf (nextCell codes at) + sizeFrom codes (at + 1)
 unfolding sizeSum
 size-at codes at h =
     let e : drop at codes ≡ getD codes at 0 ∷ drop (at + 1) codes = rw (add-one, drop-cons codes at 0) in
@@ -110,16 +110,16 @@ module _ (codes : List ℕ) (at : ℕ) (w : Name) (start size k : ℕ) (s : Node
   first-code = code-at codes at (s .coded) h
 
   abbrev q : Name
-  q = numbersOf (cellAt codes at)
+  q = numbersOf (nextCell codes at)
 
   q-named : IsName 6 15 q
   q-named = cell-is-named _ (code-is-cell (getD codes at 0) first-code)
 
-  q-cell : cellNamed q ≡ cellAt codes at
-  q-cell = cell-named (cellAt codes at) (code-is-cell (getD codes at 0) first-code)
+  q-cell : cellNamed q ≡ nextCell codes at
+  q-cell = cell-named (nextCell codes at) (code-is-cell (getD codes at 0) first-code)
 
   -- of a cell that is among the codes
-  same-size : w ≡ q → sizeOf (cellAt codes at) ≡ 9 ^ k
+  same-size : w ≡ q → sizeOf (nextCell codes at) ≡ 9 ^ k
   same-size e = ap sizeOf (sym q-cell ∙ ap cellNamed (sym e)) ∙ size-named w k (s .named) (s .depth)
 
   self : length q ≤ length w → NodeTakes codes at w k (at + 1) 1 1
@@ -142,16 +142,16 @@ module _ (codes : List ℕ) (at : ℕ) (w : Name) (start size k : ℕ) (s : Node
       zero-depth (suc j) e l = absurd (omega (arith, pow-suc 9 j, nine-pos j))
 
   -- a code inside that has the cell's size is the cell's
-  pub node-same : sizeOf (cellAt codes at) ≡ size → NodeTakes codes at w k (at + 1) 1 1
+  pub node-same : sizeOf (nextCell codes at) ≡ size → NodeTakes codes at w k (at + 1) 1 1
   node-same e =
       let z : sizeOf (cellNamed q) ≡ 9 ^ (16 - length q) = size-named q (16 - length q) q-named (omega (arith, length-name q q-named)) in
-      let y : sizeOf (cellNamed q) ≡ sizeOf (cellAt codes at) = ap sizeOf q-cell in
+      let y : sizeOf (cellNamed q) ≡ sizeOf (nextCell codes at) = ap sizeOf q-cell in
       self
       (⊎-elim (λ l. absurd (omega (arith, nine-lt (16 - length q) k (omega (arith, length-name q q-named, s .depth)), s .sized))) (λ l. l)
       (lt-or (length w) (length q)))
 
   -- of one that is not
-  other : (sizeOf (cellAt codes at) ≡ size → ⊥) → Prefix q w → ⊥
+  other : (sizeOf (nextCell codes at) ≡ size → ⊥) → Prefix q w → ⊥
   other n p = n (same-size (prefix-both w q (s .inside) p) ∙ sym (s .sized))
 
 -- ---- the children of a cell, one after the other
@@ -188,13 +188,13 @@ module _ (w : Name) (k d : ℕ) (n : IsName 6 15 w) (l : length w + suc k ≡ 16
 
 module _
     (codes : List ℕ) (at : ℕ) (w : Name) (start size k : ℕ) (s : NodeAt codes at w start size (suc k)) (h : at < length codes)
-    (n : sizeOf (cellAt codes at) ≡ size → ⊥)
+    (n : sizeOf (nextCell codes at) ≡ size → ⊥)
   where
     ninth : size / 9 ≡ 9 ^ k
     ninth = omega (arith, s .sized, pow-suc 9 k)
 
     first : Name
-    first = numbersOf (cellAt codes at)
+    first = numbersOf (nextCell codes at)
 
     -- the list of such a cell
     pub node-list : ListAt codes at w 0 9 start (size / 9) k
@@ -312,11 +312,11 @@ module _ (codes : List ℕ) (at : ℕ) (w : Name) (c left start size k : ℕ) (s
         depth = s .depth;
       }
 
-  since-first-code : (h : at < length codes) → Since (w ++ (c ∷ [])) (numbersOf (cellAt codes at))
+  since-first-code : (h : at < length codes) → Since (w ++ (c ∷ [])) (numbersOf (nextCell codes at))
   since-first-code h = (rw (names-at codes at h) at (s .standing)) .since .0
 
   -- the first cell has the code at hand inside: its node, and then the rest
-  pub list-node : at < length codes → startOf (cellAt codes at) < start + size → NodeAt codes at (w ++ (c ∷ [])) start size k
+  pub list-node : at < length codes → startOf (nextCell codes at) < start + size → NodeAt codes at (w ++ (c ∷ [])) start size k
   list-node h l =
       record {
         coded = s .coded;
@@ -351,13 +351,13 @@ module _ (codes : List ℕ) (at : ℕ) (w : Name) (c left start size k : ℕ) (s
       }
 
   -- or it has not, and there is no node of its number
-  pub all-later : (at < length codes → startOf (cellAt codes at) < start + size → ⊥) → Each (Ahead (w ++ (c ∷ []))) (namesFrom codes at)
+  pub all-later : (at < length codes → startOf (nextCell codes at) < start + size → ⊥) → Each (Ahead (w ++ (c ∷ []))) (namesFrom codes at)
   all-later n =
       ⊎-elim
       (λ h.
       let f = names-at codes at h in
       rw f
-      (all-ahead (w ++ (c ∷ [])) (numbersOf (cellAt codes at)) (namesFrom codes (at + 1)) (rw f at (s .standing))
+      (all-ahead (w ++ (c ∷ [])) (numbersOf (nextCell codes at)) (namesFrom codes (at + 1)) (rw f at (s .standing))
       (test-out (w ++ (c ∷ [])) (getD codes at 0) k named-first (code-at codes at (s .coded) h) depth-first (since-first-code h)
       (λ l. n h (rw (start-first, ← s .sized) at l)))))
       (λ h. rw (names-end codes at h) tt)
