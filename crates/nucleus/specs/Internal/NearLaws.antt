@@ -14,7 +14,8 @@ use Rattle.division.specs.Laws.Division.{low, high}
 use Rattle.root.specs.Floor.{square, rootFloor}
 use Rattle.root.specs.Laws.Square.{square-le, square-mul, plus-under, plus-square, plus-not, minus-is, minus-over, minus-not}
 use Rattle.root.specs.Laws.Floor.{plus-exact, minus-exact}
-use Rattle.locate.specs.Fix.{CapPoint, quarter, turnedNorth, turnedSouth}
+use Rattle.locate.specs.Fix.{CapPoint, quarter, turnedNorth}
+use Rattle.nucleus.specs.Internal.Caps.{seen}
 
 -- a square of a product, sorted
 regroup : (m g t : ℕ) → square (m * g) * t ≡ square g * (m * m * t)
@@ -35,37 +36,31 @@ module _ (m h t g v : ℕ) (hm : m ≤ 14348907) (hh : h < m) (hg : g ≤ quarte
   scaled : (x : ℕ) → square (900000000000000000 * x) ≡ 1000000000000000000 * square (quarter * x)
   scaled x = ap square (mul-assoc 1000000000 quarter x) ∙ square-mul 1000000000 (quarter * x)
 
-  -- 9 x 10^17 (v - 1) is below m g √t
+  -- m m g g t is 10^18 g g h h, to within 3 g g m m
+  spans :
+      (1000000000000000000 * square (g * h) ≤ square (m * g) * t + 3 * (square g * (m * m))) ×
+      (square (m * g) * t ≤ 1000000000000000000 * square (g * h) + 3 * (square g * (m * m))) × (square g * (m * m) ≤ quarter * quarter * (14348907 * 14348907))
+  spans =
+      let b : square g * (1000000000000000000 * (h * h)) ≤ square g * (m * m * t + 3 * (m * m)) = mul-le-mul-left (square g) t-low in
+      let c : square g * (m * m * t) ≤ square g * (1000000000000000000 * (h * h) + 3 * (m * m)) = mul-le-mul-left (square g) t-high in
+      let d = mul-add (square g) (m * m * t) (3 * (m * m)) in
+      let n = mul-add (square g) (1000000000000000000 * (h * h)) (3 * (m * m)) in
+      let e = mul-left-comm (square g) 1000000000000000000 (h * h) in
+      let f = mul-left-comm (square g) 3 (m * m) in
+      let k : square (g * h) ≡ square g * (h * h) = square-mul g h in
+      let o = regroup m g t in
+      (omega arith, omega arith, mul-le-mul (mul-le-mul hg hg) (mul-le-mul hm hm))
+
+  -- 9 x 10^17 (v - 1) is below m g √t, and 9 x 10^17 (v + 1) is above it
   below : 0 < v → square (900000000000000000 * (v - 1)) < square (m * g) * t
   below v0 =
-      let s : quarter * (v - 1) + 871302188 ≤ g * h = omega arith in
-      let a : square (quarter * (v - 1) + 871302188) ≤ square (g * h) = square-le s in
-      let b = grow (quarter * (v - 1)) 871302188 in
-      let c : square g * (1000000000000000000 * (h * h)) ≤ square g * (m * m * t + 3 * (m * m)) = mul-le-mul-left (square g) t-low in
-      let d = mul-add (square g) (m * m * t) (3 * (m * m)) in
-      let e = mul-left-comm (square g) 1000000000000000000 (h * h) in
-      let f = mul-left-comm (square g) 3 (m * m) in
-      let k : square (g * h) ≡ square g * (h * h) = square-mul g h in
-      let l : square g * (m * m) ≤ quarter * quarter * (14348907 * 14348907) = mul-le-mul (mul-le-mul hg hg) (mul-le-mul hm hm) in
-      let n = scaled (v - 1) in
-      let o = regroup m g t in
-      omega arith
+      let a : square (quarter * (v - 1) + 871302188) ≤ square (g * h) = square-le (omega arith) in
+      omega (arith, spans, grow (quarter * (v - 1)) 871302188, scaled (v - 1))
 
-  -- 9 x 10^17 (v + 1) is above it
   above : square (m * g) * t < square (900000000000000000 * (v + 1))
   above =
-      let s : g * h + 871302188 ≤ quarter * (v + 1) = omega arith in
-      let a : square (g * h + 871302188) ≤ square (quarter * (v + 1)) = square-le s in
-      let b = grow (g * h) 871302188 in
-      let c : square g * (m * m * t) ≤ square g * (1000000000000000000 * (h * h) + 3 * (m * m)) = mul-le-mul-left (square g) t-high in
-      let d = mul-add (square g) (1000000000000000000 * (h * h)) (3 * (m * m)) in
-      let e = mul-left-comm (square g) 1000000000000000000 (h * h) in
-      let f = mul-left-comm (square g) 3 (m * m) in
-      let k : square (g * h) ≡ square g * (h * h) = square-mul g h in
-      let l : square g * (m * m) ≤ quarter * quarter * (14348907 * 14348907) = mul-le-mul (mul-le-mul hg hg) (mul-le-mul hm hm) in
-      let n = scaled (v + 1) in
-      let o = regroup m g t in
-      omega arith
+      let a : square (g * h + 871302188) ≤ square (quarter * (v + 1)) = square-le (omega arith) in
+      omega (arith, spans, grow (g * h) 871302188, scaled (v + 1))
 
   v-small : v ≤ h
   v-small = let k : g * h ≤ quarter * h = mul-le-mul-right h hg in omega arith
@@ -119,16 +114,18 @@ near-neg n =
       high = n .high;
     }
 
--- turning keeps what is near near
-pub near-north : (h r : ℕ) (a b : CapPoint) → Near h (a .0) (b .0) → Near h (a .1) (b .1) → Near h (turnedNorth r a .0) (turnedNorth r b .0) × Near h (turnedNorth r a .1) (turnedNorth r b .1)
-unfolding turnedNorth
-near-north h zero a b p q = (p, q)
-near-north h (suc r) a b p q = near-north h r (negℤ (a .1), a .0) (negℤ (b .1), b .0) (near-neg q) p
+-- turning, and the mirror, keep what is near near
+abbrev pub Nears : ℕ → CapPoint → CapPoint → Type 0
+Nears h a b = Near h (a .0) (b .0) × Near h (a .1) (b .1)
 
-pub near-south : (h r : ℕ) (a b : CapPoint) → Near h (a .0) (b .0) → Near h (a .1) (b .1) → Near h (turnedSouth r a .0) (turnedSouth r b .0) × Near h (turnedSouth r a .1) (turnedSouth r b .1)
-unfolding turnedSouth
-near-south h zero a b p q = (p, q)
-near-south h (suc r) a b p q = near-south h r (a .1, negℤ (a .0)) (b .1, negℤ (b .0)) q (near-neg p)
+pub near-turned : (h r : ℕ) (a b : CapPoint) → Nears h a b → Nears h (turnedNorth r a) (turnedNorth r b)
+unfolding turnedNorth
+near-turned h zero a b n = n
+near-turned h (suc r) a b n = near-turned h r (negℤ (a .1), a .0) (negℤ (b .1), b .0) (near-neg (n .1), n .0)
+
+pub near-seen : (south : Bool) {h : ℕ} (a b : CapPoint) → Nears h a b → Nears h (seen south a) (seen south b)
+near-seen true a b n = (n .0, near-neg (n .1))
+near-seen false a b n = n
 
 -- the row or column w whose middle lies (2w + 1 - m) / 2m from the centre
 module _ (m h t : ℕ) (hm : m ≤ 14348907) (hh : h < m)

@@ -1,26 +1,24 @@
 -- The rules, taken over fractions, send the computing form's fractions to the middle of the cell. Assumes nothing.
-use mathlib.Core.Path.{_≡_, refl, sym, ap, ap₂, _∙_, subst}
-use mathlib.Core.Bool.{Bool, true}
+use mathlib.Core.Path.{_≡_, refl, sym, ap, ap₂, _∙_}
+use mathlib.Core.Bool.{Bool}
 use Prim.Native.Nat.{ℕ, zero, suc, _+_, _-_, _*_, _/_, _%_, _^_, _≤_, _<_}
 use native.Mathlib.Nat.{mul-add, mul-assoc, mul-comm, mul-left-comm, mul-zero, mul-add-div-right}
 use native.Mathlib.Omega.{arith}
 use lib.Arith.{digits-lt, digits-div, digits-mod}
 use lib.IntN.{ℤ, pos, negℤ, natAbs, subℕ, zero-*ℤ, _+ℤ_, _-ℤ_, _*ℤ_}
-use lib.Dec.{T}
-use lib.Signed.{_<ℤ_, ltZ-yes}
-use borrow.Author.Tests.{lt-ltb}
 use Rattle.ternary.specs.Laws.Powers.{power-pos}
-use Rattle.signed.specs.Laws.Sign.{pos-sub, sub-same, sub-lt, sub-size}
+use Rattle.signed.specs.Laws.Sign.{pos-sub, sub-same, sub-size, sub-neg}
 use Rattle.signed.specs.Laws.Times.{sub-times, times-neg, pos-more, pos-less}
 use Rattle.cell.specs.declared.Cell.{Cell}
 use Rattle.cell.specs.Cell.{IsCell}
 use Rattle.cell.specs.Neighbour.{belt, rows, turnOf}
 use Rattle.cell.specs.Laws.Turns.{turn-of-face}
-use Rattle.locate.specs.Fix.{CapPoint, quarter, turnedNorth, turnedSouth}
-use Rattle.nucleus.specs.Nucleus.{quotient, remainder, SentToBelt, SentToCap, northPoint, southPoint}
+use Rattle.locate.specs.Fix.{CapPoint, quarter, turnedNorth}
+use Rattle.nucleus.specs.Nucleus.{quotient, remainder, SentToBelt, SentToCap, northPoint}
+use Rattle.nucleus.specs.Internal.Caps.{capPoint, Beyond, sided, seen, rowSeen, rise, times}
+use Rattle.nucleus.specs.Internal.MirrorLaws.{sided-size, sided-sign, seen-times, point-seen, middle-back}
 use Rattle.nucleus.specs.Internal.Triangle.{middle, IsStart}
 use Rattle.nucleus.specs.Internal.CapLaws.{room}
-use Rattle.nucleus.specs.Internal.StartLaws.{south-point}
 
 -- ---- a longitude in face b, x/d units from its western edge
 
@@ -94,22 +92,7 @@ module _ {c : Cell} (b : ℕ) (v : IsCell c) (hb : b < 4) (hf : c .face ≡ belt
             ∙ sym (pos-sub (4 * 10 ^ 18 * (3 * m) * i));
       }
 
--- ---- a point so many times
-
-abbrev pub times : ℕ → CapPoint → CapPoint
-times k x = (pos k *ℤ x .0, pos k *ℤ x .1)
-
-pub times-north : (k r : ℕ) (x : CapPoint) → turnedNorth r (times k x) ≡ times k (turnedNorth r x)
-unfolding turnedNorth
-times-north k zero x = refl
-times-north k (suc r) x = ap (turnedNorth r) (λ i. (times-neg k (x .1) i, pos k *ℤ x .0)) ∙ times-north k r (negℤ (x .1), x .0)
-
-pub times-south : (k r : ℕ) (x : CapPoint) → turnedSouth r (times k x) ≡ times k (turnedSouth r x)
-unfolding turnedSouth
-times-south k zero x = refl
-times-south k (suc r) x = ap (turnedSouth r) (λ i. (pos k *ℤ x .1, times-neg k (x .0) i)) ∙ times-south k r (x .1, negℤ (x .0))
-
--- ---- the caps: d = h, and z = 10^18 (3 m m - h h) / (3 m m) without its sign
+-- ---- the caps: d = h, and |z| = 10^18 (3 m m - h h) / (3 m m)
 
 -- m (1/2 + p) = j + 1/2 and m (1/2 - q) = i + 1/2, each times 2 (h Q m), where the point is the middle Q times
 column-even : (m h a : ℕ) → m * (h * quarter * m) + m * h * (quarter * a) + 0 ≡ a * (h * quarter * m) + m * h * (quarter * m)
@@ -118,108 +101,82 @@ column-even m h a =
     let f : m * h * (quarter * a) ≡ a * (h * quarter * m) = simp (mul-assoc, mul-comm, mul-left-comm) in
     omega arith
 
+even : (m h a : ℕ) (x : ℤ) → x ≡ pos quarter *ℤ subℕ a m → pos (m * (h * quarter * m)) +ℤ pos (m * h) *ℤ x ≡ pos (a * (h * quarter * m))
+even m h a x e =
+    let w : ℕ = m * (h * quarter * m) in
+    ap (λ (y : ℤ). pos w +ℤ pos (m * h) *ℤ y) (e ∙ sub-times quarter a m)
+    ∙ ap (λ (y : ℤ). pos w +ℤ y) (sub-times (m * h) (quarter * a) (quarter * m))
+    ∙ pos-more w (m * h * (quarter * a)) (m * h * (quarter * m))
+    ∙ sub-same (w + m * h * (quarter * a)) (m * h * (quarter * m)) (a * (h * quarter * m)) 0 (column-even m h a)
+    ∙ sym (pos-sub (a * (h * quarter * m)))
+
 height-even : (m h : ℕ) → h * h * (1000000000000000000 * (3 * (m * m))) ≡ 3 * (1000000000000000000 * (h * h)) * (m * m)
 height-even m h = simp (mul-assoc, mul-comm, mul-left-comm)
 
-module _ {c : Cell} (h : ℕ) (x : CapPoint) (u : ℤ) (v : IsCell c) (h0 : 0 < h) (hh : h < rows c)
-    (at : x ≡ times quarter (middle (rows c) (2 * c .column + 1) (2 * c .row + 1)))
-    (size : natAbs u ≡ 1000000000000000000 * (3 * (rows c * rows c)) - 1000000000000000000 * (h * h)) where
-  sent-cap : SentToCap c x h u (3 * (rows c * rows c)) h (rows c)
-  sent-cap =
-      let m : ℕ = rows c in
-      let i : ℕ = 2 * c .row + 1 in
-      let j : ℕ = 2 * c .column + 1 in
-      let r = room m h hh in
-      let w : ℕ = m * (h * quarter * m) in
-      record {
-        positive = power-pos (c .resolution);
-        far = omega arith;
-        within = omega arith;
-        height =
-            height-even m h
-            ∙ ap (λ (y : ℕ). 3 * y * (m * m)) (omega arith);
-        column =
-            ap (λ (y : CapPoint). pos w +ℤ pos (m * h) *ℤ y .0) at
-            ∙ ap (λ (y : ℤ). pos w +ℤ pos (m * h) *ℤ y) (sub-times quarter j m)
-            ∙ ap (λ (y : ℤ). pos w +ℤ y) (sub-times (m * h) (quarter * j) (quarter * m))
-            ∙ pos-more w (m * h * (quarter * j)) (m * h * (quarter * m))
-            ∙ sub-same (w + m * h * (quarter * j)) (m * h * (quarter * m)) (j * (h * quarter * m)) 0 (column-even m h j)
-            ∙ sym (pos-sub (j * (h * quarter * m)));
-        row =
-            ap (λ (y : CapPoint). pos w -ℤ pos (m * h) *ℤ y .1) at
-            ∙ ap (λ (y : ℤ). pos w -ℤ pos (m * h) *ℤ y) (sub-times quarter m i)
-            ∙ ap (λ (y : ℤ). pos w -ℤ y) (sub-times (m * h) (quarter * m) (quarter * i))
-            ∙ pos-less w (m * h * (quarter * m)) (m * h * (quarter * i))
-            ∙ sub-same (w + m * h * (quarter * i)) (m * h * (quarter * m)) (i * (h * quarter * m)) 0 (column-even m h i)
-            ∙ sym (pos-sub (i * (h * quarter * m)));
-      }
+sent-middle :
+    {c : Cell} (h : ℕ) (x : CapPoint) (u : ℤ) → h < rows c → x ≡ times quarter (middle (rows c) (2 * c .column + 1) (2 * c .row + 1)) →
+    natAbs u ≡ rise (rows c) h → SentToCap c x h u (3 * (rows c * rows c)) h (rows c)
+sent-middle {c} h x u hh at size =
+    let m : ℕ = rows c in
+    let i : ℕ = 2 * c .row + 1 in
+    let r = room m h hh in
+    record {
+      positive = power-pos (c .resolution);
+      far = omega arith;
+      within = omega arith;
+      height = height-even m h ∙ ap (λ (y : ℕ). 3 * y * (m * m)) (omega arith);
+      column = even m h (2 * c .column + 1) (x .0) (ap (λ (y : CapPoint). y .0) at);
+      row =
+          ap (λ (y : ℤ). pos (m * (h * quarter * m)) +ℤ y) (times-neg (m * h) (x .1))
+          ∙ even m h i (negℤ (x .1))
+          (ap (λ (y : CapPoint). negℤ (y .1)) at ∙ times-neg quarter (subℕ m i) ∙ ap (λ (y : ℤ). pos quarter *ℤ y) (sub-neg m i));
+    }
 
--- the two numbers of a start at a = 450,000,000 e / h
+-- a start at a = 450,000,000 e / h
 abbrev pub capEast : (n r h e : ℕ) → ℕ
 capEast n r h e = (n + r) % 4 * (h * quarter) + 450000000 * e
 
-across : (h e : ℕ) → subℕ (2 * (450000000 * e)) (h * quarter) ≡ pos quarter *ℤ subℕ e h
-across h e = sub-same (2 * (450000000 * e)) (h * quarter) (quarter * e) (quarter * h) (omega arith) ∙ sym (sub-times quarter e h)
+-- a start so many times
+pub times-start : (k h e r : ℕ) → times k (turnedNorth r (subℕ e h, negℤ (pos h))) ≡ turnedNorth r (subℕ (k * e) (k * h), negℤ (pos (k * h)))
+unfolding turnedNorth
+times-start k h e r =
+    sym (times-turned r (subℕ e h, negℤ (pos h))) ∙ ap (turnedNorth r) (λ i. (sub-times k e h i, sym (times-neg k (pos h)) i))
+  where
+    times-turned : (r : ℕ) (x : CapPoint) → turnedNorth r (times k x) ≡ times k (turnedNorth r x)
+    times-turned zero x = refl
+    times-turned (suc r) x = ap (turnedNorth r) (λ i. (times-neg k (x .1) i, pos k *ℤ x .0)) ∙ times-turned r (negℤ (x .1), x .0)
 
-module _ (n r h e : ℕ) (hn : n ≤ 3) (hr : r < 4) (l : 450000000 * e < h * quarter) where
-  turn-is : turnOf (quotient (capEast n r h e) h) n ≡ r
-  turn-is = ap (λ (y : ℕ). turnOf y n) (quotient-is ((n + r) % 4) h (450000000 * e) l) ∙ turn-of-face n r hn hr
+point-is :
+    (n r h e : ℕ) → n ≤ 3 → r < 4 → 450000000 * e < h * quarter →
+    northPoint n (capEast n r h e) h ≡ times quarter (turnedNorth r (subℕ e h, negℤ (pos h)))
+unfolding northPoint
+point-is n r h e hn hr l =
+    let q = quotient-is ((n + r) % 4) h (450000000 * e) l in
+    let x = remainder-is ((n + r) % 4) h (450000000 * e) l in
+    let s = sub-same (2 * (450000000 * e)) (h * quarter) (quarter * e) (quarter * h) (omega arith) in
+    ap₂ turnedNorth (ap (λ (y : ℕ). turnOf y n) q ∙ turn-of-face n r hn hr)
+    (λ i. ((ap (λ (y : ℕ). subℕ (2 * y) (h * quarter)) x ∙ s) i, ap (λ (y : ℕ). negℤ (pos y)) (mul-comm h quarter) i))
+    ∙ sym (times-start quarter h e r)
 
-  first-is : subℕ (2 * remainder (capEast n r h e) h) (h * quarter) ≡ pos quarter *ℤ subℕ e h
-  first-is = ap (λ (y : ℕ). subℕ (2 * y) (h * quarter)) (remainder-is ((n + r) % 4) h (450000000 * e) l) ∙ across h e
-
-  north-point-is : northPoint n (capEast n r h e) h ≡ times quarter (turnedNorth r (subℕ e h, negℤ (pos h)))
-  unfolding northPoint
-  north-point-is =
-      ap₂ turnedNorth turn-is (λ i. (first-is i, (ap (λ (y : ℕ). negℤ (pos y)) (mul-comm h quarter) ∙ times-neg quarter (pos h)) i))
-      ∙ times-north quarter r (subℕ e h, negℤ (pos h))
-
-  south-point-is : southPoint n (capEast n r h e) h ≡ times quarter (turnedSouth r (subℕ e h, pos h))
-  unfolding southPoint
-  south-point-is =
-      ap₂ turnedSouth turn-is (λ i. (first-is i, ap pos (mul-comm h quarter) i)) ∙ times-south quarter r (subℕ e h, pos h)
-
--- the fractions of z
-abbrev pub northRise : (m h : ℕ) → ℤ
-northRise m h = subℕ (1000000000000000000 * (3 * (m * m))) (1000000000000000000 * (h * h))
-
-abbrev pub southRise : (m h : ℕ) → ℤ
-southRise m h = subℕ (1000000000000000000 * (h * h)) (1000000000000000000 * (3 * (m * m)))
-
-true-is : {b : Bool} → b ≡ true → T b
-true-is e = subst T (sym e) tt
-
-module _ {c : Cell} (n r h e : ℕ) (v : IsCell c) (hn : n ≤ 3) where
-  pub sent-north :
-      IsStart (rows c) (2 * c .column + 1) (2 * c .row + 1) r h e →
-      (pos 0 <ℤ northRise (rows c) h) × SentToCap c (northPoint n (capEast n r h e) h) h (northRise (rows c) h) (3 * (rows c * rows c)) h (rows c)
-  sent-north s =
-      let m : ℕ = rows c in
-      let p : ℕ = 1000000000000000000 * (3 * (m * m)) in
-      let q : ℕ = 1000000000000000000 * (h * h) in
-      let g = room m h (s .low) in
-      let w = s .within in (
-        ltZ-yes (true-is (sub-lt 0 0 p q ∙ lt-ltb (0 + q) (p + 0) (omega arith))),
-        sent-cap h (northPoint n (capEast n r h e) h) (northRise m h) v (s .tall) (s .low)
-            (north-point-is n r h e hn (s .few) (omega arith) ∙ ap (times quarter) (s .point))
-            (omega (arith, sub-size p q)),
-      )
-
-  pub sent-south :
-      IsStart (rows c) (2 * c .column + 1) (2 * rows c - (2 * c .row + 1)) r h e →
-      (southRise (rows c) h <ℤ pos 0) × SentToCap c (southPoint n (capEast n r h e) h) h (southRise (rows c) h) (3 * (rows c * rows c)) h (rows c)
-  sent-south s =
-      let m : ℕ = rows c in
-      let p : ℕ = 1000000000000000000 * (3 * (m * m)) in
-      let q : ℕ = 1000000000000000000 * (h * h) in
-      let g = room m h (s .low) in
-      let w = s .within in
-      let i = v .rowed in (
-        ltZ-yes (true-is (sub-lt q p 0 0 ∙ lt-ltb (q + 0) (0 + p) (omega arith))),
-        sent-cap h (southPoint n (capEast n r h e) h) (southRise m h) v (s .tall) (s .low)
-            (south-point-is n r h e hn (s .few) (omega arith) ∙ ap (times quarter) (south-point m (2 * c .column + 1) (2 * c .row + 1) r h e (omega arith) s))
-            (omega (arith, sub-size q p)),
-      )
+pub sent-cap :
+    (south : Bool) {c : Cell} (n r h e : ℕ) → IsCell c → n ≤ 3 → IsStart (rows c) (2 * c .column + 1) (rowSeen south (rows c) (2 * c .row + 1)) r h e →
+    let u = sided south (pos (rise (rows c) h)) in Beyond south u × SentToCap c (capPoint south n (capEast n r h e) h) h u (3 * (rows c * rows c)) h (rows c)
+sent-cap south {c} n r h e v hn s =
+    let m : ℕ = rows c in
+    let a : ℕ = 2 * c .column + 1 in
+    let b : ℕ = 2 * c .row + 1 in
+    let x : ℕ = capEast n r h e in
+    let g = room m h (s .low) in
+    let w = s .within in
+    let i = v .rowed in (
+      sided-sign south (rise m h) (omega arith) .1,
+      sent-middle h (capPoint south n x h) (sided south (pos (rise m h))) (s .low)
+          (point-seen south n x h
+          ∙ ap (seen south) (point-is n r h e hn (s .few) (omega arith) ∙ ap (times quarter) (s .point))
+          ∙ seen-times south quarter (middle m a (rowSeen south m b))
+          ∙ ap (times quarter) (middle-back south m a b (omega arith)))
+          (sided-size south (pos (rise m h))),
+    )
 
 -- ---- the poles: h = 0, at any longitude
 

@@ -11,9 +11,9 @@ use lib.Dec.{leb, ltb}
 use borrow.Author.Tests.{le-leb, lt-leb, lt-ltb, le-ltb}
 use Rattle.logic.specs.Laws.Order.{lt-or, three-ways}
 use Rattle.signed.specs.Laws.Sign.{pos-sub, neg-sub, sub-same, sub-neg, sub-le, sub-lt}
-use Rattle.locate.specs.Fix.{CapPoint, turnedNorth, turnedSouth}
+use Rattle.locate.specs.Fix.{turnedNorth, turnedSouth}
 use Rattle.nucleus.specs.Nucleus.{startsNorth, turnsNorth}
-use Rattle.nucleus.specs.Internal.Triangle.{middle, InFace, OffCentre, IsStart}
+use Rattle.nucleus.specs.Internal.Triangle.{middle, OffCentre, IsStart}
 
 -- ---- a start's triangle, for differences of whole numbers
 
