@@ -2,7 +2,8 @@
 -- Assumes nothing.
 use mathlib.Core.Path.{_≡_, refl, sym, ap, ap₂, _∙_}
 use Prim.Native.Nat.{ℕ, zero, suc, _+_, _-_, _*_, _/_, _%_, _^_, _<_}
-use native.Mathlib.Nat.{add-comm, add-mul, suc-mul, mul-assoc, mul-comm, mul-le-mul-right, mul-add-div-right, mul-add-mod-self-right, pow-zero, pow-suc, zero-div, zero-mod, div-one, div-eq-of-lt, div-add-mod', div-div-eq-div-mul}
+use native.Mathlib.Nat.{add-comm, add-mul, suc-mul, mul-assoc, mul-comm, mul-le-mul-right, mul-add-div-right, mul-add-mod-self-right}
+use native.Mathlib.Nat.{pow-zero, pow-suc, zero-div, zero-mod, div-one, div-eq-of-lt, div-add-mod', div-div-eq-div-mul}
 use native.Mathlib.Omega.{arith}
 use lib.Arith.{digits-div}
 use Rattle.ternary.specs.Weave.{weave, rowIn, columnIn}
