@@ -55,22 +55,11 @@ floored-one s t =
     s .is ∙ sub-same (s .p) (s .q) (t .p) (t .q) (omega arith) ∙ sym (t .is)
 
 -- -n / d: rounded away from 0 where a rest is left
-module _ (n d : ℕ) (d0 : 0 < d) where
-  below-is : (q : ℕ) → n ≤ q * d → q * d < n + d → floorZ (negℤ (pos n)) d ≡ subℕ 0 q
-  below-is q h l =
-      let o = zero-mul d in
-      ap (λ (x : ℤ). floorZ x d) (neg-sub n)
-      ∙ floored-one (floored 0 n d d0) (record { p = 0; q = q; is = refl; below = omega arith; above = omega arith })
-
-  pub floor-even : n % d ≡ 0 → floorZ (negℤ (pos n)) d ≡ subℕ 0 (n / d)
-  floor-even e = let s = div-add-mod' n d in below-is (n / d) (omega arith) (omega arith)
-
-  pub floor-odd : (n % d ≡ 0 → ⊥) → floorZ (negℤ (pos n)) d ≡ subℕ 0 (n / d + 1)
-  floor-odd e =
-      let s = div-add-mod' n d in
-      let l = mod-lt n d0 in
-      let f : (n / d + 1) * d ≡ n / d * d + d = omega (arith, add-mul (n / d) 1 d) in
-      below-is (n / d + 1) (omega arith) (omega arith)
+below-is : (n d : ℕ) → 0 < d → (q : ℕ) → n ≤ q * d → q * d < n + d → floorZ (negℤ (pos n)) d ≡ subℕ 0 q
+below-is n d d0 q h l =
+    let o = zero-mul d in
+    ap (λ (x : ℤ). floorZ x d) (neg-sub n)
+    ∙ floored-one (floored 0 n d d0) (record { p = 0; q = q; is = refl; below = omega arith; above = omega arith })
 
 -- by sign and size: the size of the floor, to within one
 pub floor-size :
@@ -87,12 +76,16 @@ floor-sided true n a b d e = ap (λ (x : ℤ). floorZ x d) (neg-sub n ∙ sub-sa
 floor-sided false n a b d e = ap (λ (x : ℤ). floorZ x d) (pos-sub n ∙ sub-same n 0 a b (omega arith))
 
 -- by the quotient of the size
-pub floor-signed : (n d : ℕ) → 0 < d → (b : Bool) → cond b (subℕ 0 (n / d + cond (eqb (n % d) 0) 0 1)) (pos (n / d)) ≡ floorZ (cond b (negℤ (pos n)) (pos n)) d
+pub floor-signed :
+    (n d : ℕ) → 0 < d → (south : Bool) → cond south (subℕ 0 (n / d + cond (eqb (n % d) 0) 0 1)) (pos (n / d)) ≡ floorZ (sided south (pos n)) d
 unfolding floorZ
 floor-signed n d d0 false = refl
 floor-signed n d d0 true =
-    ⊎-elim (λ l. let e = ne-eqb (n % d) 0 (λ z. absurd (omega arith)) in rw e (sym (floor-odd n d d0 (λ z. absurd (omega arith)))))
-    (λ l. let z : n % d ≡ 0 = omega arith in rw z (ap (subℕ 0) (add-zero (n / d)) ∙ sym (floor-even n d d0 z)))
+    let s = div-add-mod' n d in
+    let k = mod-lt n d0 in
+    let f : (n / d + 1) * d ≡ n / d * d + d = omega (arith, add-mul (n / d) 1 d) in
+    ⊎-elim (λ l. rw (ne-eqb (n % d) 0 (λ z. absurd (omega arith))) (sym (below-is n d d0 (n / d + 1) (omega arith) (omega arith))))
+    (λ l. let z : n % d ≡ 0 = omega arith in rw z (ap (subℕ 0) (add-zero (n / d)) ∙ sym (below-is n d d0 (n / d) (omega arith) (omega arith))))
     (lt-or 0 (n % d))
 
 -- both numbers of a fraction times j

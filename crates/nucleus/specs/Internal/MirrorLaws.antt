@@ -1,7 +1,7 @@
 -- The south is the north in a mirror: numbers, points and rows of a cap, seen in it. Assumes nothing.
 use mathlib.Core.Path.{_≡_, refl, sym, ap, _∙_, subst}
 use mathlib.Core.Bool.{Bool, true, false, cond}
-use Prim.Native.Nat.{ℕ, zero, suc, _+_, _-_, _*_, _≤_, _<_}
+use Prim.Native.Nat.{ℕ, zero, suc, _-_, _*_, _≤_, _<_}
 use native.Mathlib.Omega.{arith}
 use lib.IntN.{ℤ, pos, negsuc, negℤ, natAbs, subℕ, negℤ-negℤ, _*ℤ_}
 use lib.Dec.{T, ltb→lt}
@@ -55,13 +55,34 @@ sided-fraction south k v n u h e =
 seen-twice : (south : Bool) (x : CapPoint) → seen south (seen south x) ≡ x
 seen-twice south x = λ i. (x .0, sided-twice south (x .1) i)
 
-pub seen-times : (south : Bool) (k : ℕ) (x : CapPoint) → seen south (times k x) ≡ times k (seen south x)
+seen-times : (south : Bool) (k : ℕ) (x : CapPoint) → seen south (times k x) ≡ times k (seen south x)
 seen-times south k x = λ i. (pos k *ℤ x .0, sided-times south k (x .1) i)
+
+-- an equation of multiples, seen in the mirror
+pub multiples-seen : (south : Bool) (k j : ℕ) (x y : CapPoint) → times k x ≡ times j y → times k (seen south x) ≡ times j (seen south y)
+multiples-seen south k j x y e = sym (seen-times south k x) ∙ ap (seen south) e ∙ seen-times south j y
 
 pub south-seen : (r : ℕ) (x : CapPoint) → seen true (turnedSouth r x) ≡ turnedNorth r (seen true x)
 unfolding turnedNorth turnedSouth
 south-seen zero x = refl
 south-seen (suc r) x = south-seen r (x .1, negℤ (x .0)) ∙ ap (turnedNorth r) (λ i. (sym (negℤ-negℤ (x .1)) i, negℤ-negℤ (x .0) i))
+
+-- turns undo each other
+pub turned-back : (r : ℕ) (x : CapPoint) → turnedSouth r (turnedNorth r x) ≡ x
+unfolding turnedNorth turnedSouth
+turned-back zero x = refl
+turned-back (suc r) x = ap (turnedSouth r) (past r (negℤ (x .1), x .0)) ∙ turned-back r (x .0, negℤ (negℤ (x .1))) ∙ (λ i. (x .0, negℤ-negℤ (x .1) i))
+  where
+    past : (r : ℕ) (y : CapPoint) → (turnedNorth r y .1, negℤ (turnedNorth r y .0)) ≡ turnedNorth r (y .1, negℤ (y .0))
+    past zero y = refl
+    past (suc r) y = past r (negℤ (y .1), y .0) ∙ ap (turnedNorth r) (λ i. (sym (negℤ-negℤ (y .0)) i, negℤ-negℤ (y .1) i))
+
+pub turned-forth : (r : ℕ) (x : CapPoint) → turnedNorth r (turnedSouth r x) ≡ x
+turned-forth r x =
+    ap (turnedNorth r) (sym (seen-twice true (turnedSouth r x)) ∙ ap (seen true) (south-seen r x))
+    ∙ sym (south-seen r (turnedNorth r (seen true x)))
+    ∙ ap (seen true) (turned-back r (seen true x))
+    ∙ seen-twice true x
 
 -- a start, turned
 pub start-seen :
@@ -74,10 +95,13 @@ pub point-seen : (south : Bool) (n e d : ℕ) → capPoint south n e d ≡ seen 
 unfolding northPoint southPoint
 point-seen south n e d = start-seen south (turnOf (quotient e d) n) (subℕ (2 * remainder e d) (d * quarter)) (d * quarter)
 
+pub point-back : (south : Bool) (n e d : ℕ) → seen south (capPoint south n e d) ≡ northPoint n e d
+point-back south n e d = ap (seen south) (point-seen south n e d) ∙ seen-twice south (northPoint n e d)
+
 -- ---- the middle of a cell
 
 module _ (south : Bool) (m a b : ℕ) (l : b ≤ 2 * m) where
-  middle-seen : seen south (middle m a b) ≡ middle m a (rowSeen south m b)
+  pub middle-seen : seen south (middle m a b) ≡ middle m a (rowSeen south m b)
   middle-seen = go south
     where
       go : (t : Bool) → seen t (middle m a b) ≡ middle m a (rowSeen t m b)
@@ -86,14 +110,3 @@ module _ (south : Bool) (m a b : ℕ) (l : b ≤ 2 * m) where
 
   pub middle-back : seen south (middle m a (rowSeen south m b)) ≡ middle m a b
   middle-back = ap (seen south) (sym middle-seen) ∙ seen-twice south (middle m a b)
-
-  -- a point that is the middle so many times, seen in the mirror
-  pub times-seen :
-      (k j n e d : ℕ) → times k (capPoint south n e d) ≡ times j (middle m a b) →
-      times k (northPoint n e d) ≡ times j (middle m a (rowSeen south m b))
-  times-seen k j n e d h =
-      ap (times k) (sym (seen-twice south (northPoint n e d)) ∙ ap (seen south) (sym (point-seen south n e d)))
-      ∙ sym (seen-times south k (capPoint south n e d))
-      ∙ ap (seen south) h
-      ∙ seen-times south j (middle m a b)
-      ∙ ap (times j) middle-seen

@@ -8,7 +8,7 @@ use native.Mathlib.Omega.{arith}
 use lib.IntN.{ℤ, pos, negℤ, subℕ, negℤ-negℤ}
 use Rattle.logic.specs.Laws.Order.{lt-or}
 use Rattle.signed.specs.Sign.{withSign}
-use Rattle.signed.specs.Laws.Sign.{pos-sub, neg-sub, sub-same}
+use Rattle.signed.specs.Laws.Sign.{pos-sub, neg-sub, sub-neg, sub-at}
 use Rattle.signed.specs.Laws.Times.{sub-cross}
 use Rattle.division.specs.Laws.Division.{low, high}
 use Rattle.root.specs.Floor.{square, rootFloor}
@@ -148,6 +148,16 @@ module _ (m h t : ℕ) (hm : m ≤ 14348907) (hh : h < m)
 
 -- ---- the two numbers of a start
 
+-- two differences that are not negative
+near-above :
+    (h p q s t : ℕ) →
+    (q ≤ p) × (t ≤ s) × (p ≤ q + quarter) × (quarter * s + q * h ≤ p * h + quarter * t + 2 * h) × (p * h + quarter * t ≤ quarter * s + q * h + 2 * h) →
+    Near h (subℕ p q) (subℕ s t)
+near-above h p q s t (u, v, w, l, k) =
+    let e : (p - q + q) * h ≡ (p - q) * h + q * h = add-mul (p - q) q h in
+    let f : (p - q + q) * h ≡ p * h = ap (λ (x : ℕ). x * h) (omega arith) in
+    record { minus = false; g = p - q; v = s - t; x-is = sub-at p q u; y-is = sub-at s t v; small = omega arith; low = omega arith; high = omega arith }
+
 -- the longitude, a = 450,000,000 e / h, floored
 module _ (h e : ℕ) (h0 : 0 < h) (he : e < 2 * h) where
   abbrev along : ℕ
@@ -167,38 +177,13 @@ module _ (h e : ℕ) (h0 : 0 < h) (he : e < 2 * h) where
       let a = low (450000000 * e) h in
       let b = high (450000000 * e) h h0 in
       let f : 2 * along * h ≡ 2 * (along * h) = mul-assoc 2 along h in
+      let k = along-lt in
       ⊎-elim
       (λ l.
       let w = west-side l in
-      let g : ℕ = quarter - 2 * along in
-      let c : (g + 2 * along) * h ≡ g * h + 2 * along * h = add-mul g (2 * along) h in
-      let d : (g + 2 * along) * h ≡ quarter * h = ap (λ (x : ℕ). x * h) (omega arith) in
-      record {
-        minus = true;
-        g = g;
-        v = h - e;
-        x-is = sym (neg-sub g ∙ sub-same 0 g (2 * along) quarter (omega arith));
-        y-is = sym (neg-sub (h - e) ∙ sub-same 0 (h - e) e h (omega arith));
-        small = omega arith;
-        low = omega arith;
-        high = omega arith;
-      })
-      (λ l.
-      let w = east-side l in
-      let k = along-lt in
-      let g : ℕ = 2 * along - quarter in
-      let c : (g + quarter) * h ≡ g * h + quarter * h = add-mul g quarter h in
-      let d : (g + quarter) * h ≡ 2 * along * h = ap (λ (x : ℕ). x * h) (omega arith) in
-      record {
-        minus = false;
-        g = g;
-        v = e - h;
-        x-is = sym (pos-sub g ∙ sub-same g 0 (2 * along) quarter (omega arith));
-        y-is = sym (pos-sub (e - h) ∙ sub-same (e - h) 0 e h (omega arith));
-        small = omega arith;
-        low = omega arith;
-        high = omega arith;
-      })
+      let n = near-neg (near-above h quarter (2 * along) h e (omega arith)) in
+      subst (λ (y : ℤ). Near h (subℕ (2 * along) quarter) y) (sub-neg h e) (subst (λ (x : ℤ). Near h x (negℤ (subℕ h e))) (sub-neg quarter (2 * along)) n))
+      (λ l. let w = east-side l in near-above h (2 * along) quarter e h (omega arith))
       (lt-or e h)
 
 -- the other number stands for the height itself

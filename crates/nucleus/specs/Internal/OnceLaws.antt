@@ -16,10 +16,10 @@ use Rattle.cell.specs.Laws.Turns.{face-of-turn}
 use Rattle.locate.specs.Fix.{CapPoint, quarter}
 use Rattle.nucleus.specs.Nucleus.{quotient, remainder, SentToBelt, SentToCap, northPoint}
 use Rattle.nucleus.specs.Internal.Caps.{capPoint, Beyond, sided, rowSeen, rise, times}
-use Rattle.nucleus.specs.Internal.MirrorLaws.{sided-fraction, times-seen}
+use Rattle.nucleus.specs.Internal.MirrorLaws.{sided-fraction, multiples-seen, point-back, middle-seen}
 use Rattle.nucleus.specs.Internal.Triangle.{middle, IsStart}
 use Rattle.nucleus.specs.Internal.CapLaws.{room}
-use Rattle.nucleus.specs.Internal.SentLaws.{capEast}
+use Rattle.nucleus.specs.Internal.SentLaws.{capEast, row-sides}
 use Rattle.nucleus.specs.Internal.OneStartLaws.{centre-flat, one-start}
 use Rattle.nucleus.specs.Internal.FractionLaws.{Known}
 
@@ -85,26 +85,6 @@ size-one m h g f w z y f0 e s k =
 
 -- ---- the belt
 
--- the row's equation, halved
-row-half : (m i w p q : ℕ) → 2 * m * (2000000000000000000 * w + 3 * q) + 0 ≡ 4000000000000000000 * w * i + 2 * m * (3 * p) → 3 * m * p + w * (2000000000000000000 * i) ≡ w * (2000000000000000000 * m) + 3 * m * q
-row-half m i w p q e =
-    omega (
-      arith,
-      mul-add (2 * m) (2000000000000000000 * w) (3 * q),
-      mul-assoc 2 m (2000000000000000000 * w),
-      mul-left-comm m 2000000000000000000 w,
-      mul-assoc 2 m (3 * q),
-      mul-left-comm m 3 q,
-      mul-assoc 4000000000000000000 w i,
-      mul-assoc 2 m (3 * p),
-      mul-left-comm m 3 p,
-      mul-assoc 3 m p,
-      mul-assoc 3 m q,
-      mul-left-comm w 2000000000000000000 i,
-      mul-left-comm w 2000000000000000000 m,
-      mul-comm m w,
-    )
-
 pub known-belt :
     {c : Cell} {e d : ℕ} {u : ℤ} {w : ℕ} (b : ℕ) → c .face ≡ belt b → SentToBelt c e d u w →
     Known (b * (rows c * quarter) + 450000000 * (2 * c .column + 1)) (rows c) (subℕ (2000000000000000000 * rows c) (2000000000000000000 * (2 * c .row + 1))) (3 * rows c) e d u w
@@ -137,7 +117,7 @@ known-belt {c} {e} {d} {u} {w} b f s =
       rise =
           ap (λ (z : ℤ). pos (3 * m) *ℤ z) (o .2)
           ∙ sub-times (3 * m) p q
-          ∙ sub-same (3 * m * p) (3 * m * q) (w * (2000000000000000000 * m)) (w * (2000000000000000000 * i)) (row-half m i w p q n)
+          ∙ sub-same (3 * m * p) (3 * m * q) (w * (2000000000000000000 * m)) (w * (2000000000000000000 * i)) (omega (arith, n, row-sides m i w p q))
           ∙ sym (sub-times w (2000000000000000000 * m) (2000000000000000000 * i));
     }
 
@@ -167,7 +147,10 @@ module _ (south : Bool) {c : Cell} {u : ℤ} {d v g f : ℕ} (n e : ℕ) (d0 : 0
 
   -- the point, seen in the north
   north-is : times (m * g) (northPoint n e d) ≡ times (d * quarter * f) (middle m a b)
-  north-is = times-seen south m a (2 * c .row + 1) (omega arith) (m * g) (d * quarter * f) n e d (point-is s)
+  north-is =
+      ap (times (m * g)) (sym (point-back south n e d))
+      ∙ multiples-seen south (m * g) (d * quarter * f) (capPoint south n e d) (middle m a (2 * c .row + 1)) (point-is s)
+      ∙ ap (times (d * quarter * f)) (middle-seen south m a (2 * c .row + 1) (omega arith))
 
   pub known-cap :
       (r h o : ℕ) → n ≤ 3 → e < 4 * (d * quarter) → Beyond south u → IsStart m a b r h o →

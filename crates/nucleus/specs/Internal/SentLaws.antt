@@ -1,5 +1,5 @@
 -- The rules, taken over fractions, send the computing form's fractions to the middle of the cell. Assumes nothing.
-use mathlib.Core.Path.{_≡_, refl, sym, ap, ap₂, _∙_}
+use mathlib.Core.Path.{_≡_, refl, sym, ap, _∙_}
 use mathlib.Core.Bool.{Bool}
 use Prim.Native.Nat.{ℕ, zero, suc, _+_, _-_, _*_, _/_, _%_, _^_, _≤_, _<_}
 use native.Mathlib.Nat.{mul-add, mul-assoc, mul-comm, mul-left-comm, mul-zero, mul-add-div-right}
@@ -15,8 +15,8 @@ use Rattle.cell.specs.Neighbour.{belt, rows, turnOf}
 use Rattle.cell.specs.Laws.Turns.{turn-of-face}
 use Rattle.locate.specs.Fix.{CapPoint, quarter, turnedNorth}
 use Rattle.nucleus.specs.Nucleus.{quotient, remainder, SentToBelt, SentToCap, northPoint}
-use Rattle.nucleus.specs.Internal.Caps.{capPoint, Beyond, sided, seen, rowSeen, rise, times}
-use Rattle.nucleus.specs.Internal.MirrorLaws.{sided-size, sided-sign, seen-times, point-seen, middle-back}
+use Rattle.nucleus.specs.Internal.Caps.{capPoint, Beyond, sided, rowSeen, rise, times}
+use Rattle.nucleus.specs.Internal.MirrorLaws.{sided-size, sided-sign, multiples-seen, point-seen, middle-back}
 use Rattle.nucleus.specs.Internal.Triangle.{middle, IsStart}
 use Rattle.nucleus.specs.Internal.CapLaws.{room}
 
@@ -42,26 +42,19 @@ module _ (b d x : ℕ) (l : x < d * quarter) where
 
 -- ---- the belt: d = m, z = 2 x 10^18 (m - (2i + 1)) / (3m)
 
-row-even : (m i : ℕ) → 2 * m * (2000000000000000000 * (3 * m) + 3 * (2000000000000000000 * i)) + 0 ≡ 4000000000000000000 * (3 * m) * i + 2 * m * (3 * (2000000000000000000 * m))
-row-even m i =
-    let x : ℕ = 2000000000000000000 * (3 * m) in
-    let q : ℕ = 2000000000000000000 * i in
-    let p : ℕ = 2000000000000000000 * m in
-    omega (
-      arith,
-      mul-add (2 * m) x (3 * q),
-      mul-assoc 2 m x,
-      mul-left-comm m 2000000000000000000 (3 * m),
-      mul-left-comm m 3 m,
-      mul-assoc 2 m (3 * q),
-      mul-left-comm m 3 q,
-      mul-left-comm m 2000000000000000000 i,
-      mul-assoc 2 m (3 * p),
-      mul-left-comm m 3 p,
-      mul-left-comm m 2000000000000000000 m,
-      mul-assoc 4000000000000000000 (3 * m) i,
-      mul-assoc 3 m i,
-    )
+-- the two sides of the row's equation for z = (p - q) / w
+pub row-sides :
+    (m i w p q : ℕ) →
+    (2 * m * (2000000000000000000 * w + 3 * q) ≡ 2 * (w * (2000000000000000000 * m) + 3 * m * q)) ×
+    (4000000000000000000 * w * i + 2 * m * (3 * p) ≡ 2 * (3 * m * p + w * (2000000000000000000 * i)))
+row-sides m i w p q =
+    let a : 2 * m * (3 * q) ≡ 2 * (3 * m * q) = omega (arith, mul-assoc 2 m (3 * q), mul-left-comm m 3 q, mul-assoc 3 m q) in
+    let b : 2 * m * (3 * p) ≡ 2 * (3 * m * p) = omega (arith, mul-assoc 2 m (3 * p), mul-left-comm m 3 p, mul-assoc 3 m p) in
+    let c : 2 * m * (2000000000000000000 * w) ≡ 2 * (w * (2000000000000000000 * m)) = simp (mul-assoc, mul-comm, mul-left-comm) in
+    let d : 4000000000000000000 * w * i ≡ 2 * (w * (2000000000000000000 * i)) =
+    omega (arith, mul-assoc 4000000000000000000 w i, mul-left-comm w 2000000000000000000 i)
+    in
+    (omega (arith, mul-add (2 * m) (2000000000000000000 * w) (3 * q)), omega arith)
 
 module _ {c : Cell} (b : ℕ) (v : IsCell c) (hb : b < 4) (hf : c .face ≡ belt b) where
   abbrev beltEast : ℕ
@@ -88,48 +81,41 @@ module _ {c : Cell} (b : ℕ) (v : IsCell c) (hb : b < 4) (hf : c .face ≡ belt
         row =
             ap (λ (y : ℤ). pos (2 * m) *ℤ y) (ap (λ (y : ℤ). pos x -ℤ y) (sub-times 3 p q) ∙ pos-less x (3 * p) (3 * q))
             ∙ sub-times (2 * m) (x + 3 * q) (3 * p)
-            ∙ sub-same (2 * m * (x + 3 * q)) (2 * m * (3 * p)) (4 * 10 ^ 18 * (3 * m) * i) 0 (row-even m i)
+            ∙ sub-same (2 * m * (x + 3 * q)) (2 * m * (3 * p)) (4 * 10 ^ 18 * (3 * m) * i) 0 (omega (arith, row-sides m i (3 * m) p q))
             ∙ sym (pos-sub (4 * 10 ^ 18 * (3 * m) * i));
       }
 
 -- ---- the caps: d = h, and |z| = 10^18 (3 m m - h h) / (3 m m)
 
--- m (1/2 + p) = j + 1/2 and m (1/2 - q) = i + 1/2, each times 2 (h Q m), where the point is the middle Q times
-column-even : (m h a : ℕ) → m * (h * quarter * m) + m * h * (quarter * a) + 0 ≡ a * (h * quarter * m) + m * h * (quarter * m)
-column-even m h a =
-    let e : m * (h * quarter * m) ≡ m * h * (quarter * m) = simp (mul-assoc, mul-comm, mul-left-comm) in
-    let f : m * h * (quarter * a) ≡ a * (h * quarter * m) = simp (mul-assoc, mul-comm, mul-left-comm) in
-    omega arith
-
-even : (m h a : ℕ) (x : ℤ) → x ≡ pos quarter *ℤ subℕ a m → pos (m * (h * quarter * m)) +ℤ pos (m * h) *ℤ x ≡ pos (a * (h * quarter * m))
-even m h a x e =
-    let w : ℕ = m * (h * quarter * m) in
-    ap (λ (y : ℤ). pos w +ℤ pos (m * h) *ℤ y) (e ∙ sub-times quarter a m)
-    ∙ ap (λ (y : ℤ). pos w +ℤ y) (sub-times (m * h) (quarter * a) (quarter * m))
-    ∙ pos-more w (m * h * (quarter * a)) (m * h * (quarter * m))
-    ∙ sub-same (w + m * h * (quarter * a)) (m * h * (quarter * m)) (a * (h * quarter * m)) 0 (column-even m h a)
-    ∙ sym (pos-sub (a * (h * quarter * m)))
+-- m (1/2 + p) = j + 1/2, times the denominators
+side-is : (m k a : ℕ) (z : ℤ) → z ≡ pos k *ℤ subℕ a m → pos (m * k) +ℤ z ≡ pos (a * k)
+side-is m k a z e =
+    ap (λ (y : ℤ). pos (m * k) +ℤ y) (e ∙ sub-times k a m)
+    ∙ pos-more (m * k) (k * a) (k * m)
+    ∙ sub-same (m * k + k * a) (k * m) (a * k) 0 (omega (arith, mul-comm m k, mul-comm a k))
+    ∙ sym (pos-sub (a * k))
 
 height-even : (m h : ℕ) → h * h * (1000000000000000000 * (3 * (m * m))) ≡ 3 * (1000000000000000000 * (h * h)) * (m * m)
 height-even m h = simp (mul-assoc, mul-comm, mul-left-comm)
 
 sent-middle :
-    {c : Cell} (h : ℕ) (x : CapPoint) (u : ℤ) → h < rows c → x ≡ times quarter (middle (rows c) (2 * c .column + 1) (2 * c .row + 1)) →
+    {c : Cell} (h : ℕ) (x : CapPoint) (u : ℤ) → h < rows c →
+    times (rows c * h) x ≡ times (h * quarter * rows c) (middle (rows c) (2 * c .column + 1) (2 * c .row + 1)) →
     natAbs u ≡ rise (rows c) h → SentToCap c x h u (3 * (rows c * rows c)) h (rows c)
 sent-middle {c} h x u hh at size =
     let m : ℕ = rows c in
     let i : ℕ = 2 * c .row + 1 in
+    let k : ℕ = h * quarter * m in
     let r = room m h hh in
     record {
       positive = power-pos (c .resolution);
       far = omega arith;
       within = omega arith;
       height = height-even m h ∙ ap (λ (y : ℕ). 3 * y * (m * m)) (omega arith);
-      column = even m h (2 * c .column + 1) (x .0) (ap (λ (y : CapPoint). y .0) at);
+      column = side-is m k (2 * c .column + 1) (pos (m * h) *ℤ x .0) (ap (λ (y : CapPoint). y .0) at);
       row =
-          ap (λ (y : ℤ). pos (m * (h * quarter * m)) +ℤ y) (times-neg (m * h) (x .1))
-          ∙ even m h i (negℤ (x .1))
-          (ap (λ (y : CapPoint). negℤ (y .1)) at ∙ times-neg quarter (subℕ m i) ∙ ap (λ (y : ℤ). pos quarter *ℤ y) (sub-neg m i));
+          side-is m k i (negℤ (pos (m * h) *ℤ x .1))
+          (ap (λ (y : CapPoint). negℤ (y .1)) at ∙ times-neg k (subℕ m i) ∙ ap (λ (y : ℤ). pos k *ℤ y) (sub-neg m i));
     }
 
 -- a start at a = 450,000,000 e / h
@@ -147,16 +133,20 @@ times-start k h e r =
     times-turned (suc r) x = ap (turnedNorth r) (λ i. (times-neg k (x .1) i, pos k *ℤ x .0)) ∙ times-turned r (negℤ (x .1), x .0)
 
 point-is :
-    (n r h e : ℕ) → n ≤ 3 → r < 4 → 450000000 * e < h * quarter →
-    northPoint n (capEast n r h e) h ≡ times quarter (turnedNorth r (subℕ e h, negℤ (pos h)))
+    (m n r h e : ℕ) → n ≤ 3 → r < 4 → 450000000 * e < h * quarter →
+    times (m * h) (northPoint n (capEast n r h e) h) ≡ times (h * quarter * m) (turnedNorth r (subℕ e h, negℤ (pos h)))
 unfolding northPoint
-point-is n r h e hn hr l =
+point-is m n r h e hn hr l =
     let q = quotient-is ((n + r) % 4) h (450000000 * e) l in
     let x = remainder-is ((n + r) % 4) h (450000000 * e) l in
-    let s = sub-same (2 * (450000000 * e)) (h * quarter) (quarter * e) (quarter * h) (omega arith) in
-    ap₂ turnedNorth (ap (λ (y : ℕ). turnOf y n) q ∙ turn-of-face n r hn hr)
-    (λ i. ((ap (λ (y : ℕ). subℕ (2 * y) (h * quarter)) x ∙ s) i, ap (λ (y : ℕ). negℤ (pos y)) (mul-comm h quarter) i))
-    ∙ sym (times-start quarter h e r)
+    let t = ap (λ (y : ℕ). turnOf y n) q ∙ turn-of-face n r hn hr in
+    let s = ap (λ (y : ℕ). subℕ (2 * y) (h * quarter)) x ∙ sub-same (2 * (450000000 * e)) (h * quarter) (quarter * e) (h * quarter) (omega arith) in
+    let u : m * h * (quarter * e) ≡ h * quarter * m * e = simp (mul-assoc, mul-comm, mul-left-comm) in
+    let v : m * h * (h * quarter) ≡ h * quarter * m * h = simp (mul-assoc, mul-comm, mul-left-comm) in
+    (λ i. times (m * h) (turnedNorth (t i) (s i, negℤ (pos (h * quarter)))))
+    ∙ times-start (m * h) (h * quarter) (quarter * e) r
+    ∙ (λ i. turnedNorth r (subℕ (u i) (v i), negℤ (pos (v i))))
+    ∙ sym (times-start (h * quarter * m) h e r)
 
 pub sent-cap :
     (south : Bool) {c : Cell} (n r h e : ℕ) → IsCell c → n ≤ 3 → IsStart (rows c) (2 * c .column + 1) (rowSeen south (rows c) (2 * c .row + 1)) r h e →
@@ -166,15 +156,15 @@ sent-cap south {c} n r h e v hn s =
     let a : ℕ = 2 * c .column + 1 in
     let b : ℕ = 2 * c .row + 1 in
     let x : ℕ = capEast n r h e in
+    let k : ℕ = h * quarter * m in
     let g = room m h (s .low) in
     let w = s .within in
     let i = v .rowed in (
       sided-sign south (rise m h) (omega arith) .1,
       sent-middle h (capPoint south n x h) (sided south (pos (rise m h))) (s .low)
-          (point-seen south n x h
-          ∙ ap (seen south) (point-is n r h e hn (s .few) (omega arith) ∙ ap (times quarter) (s .point))
-          ∙ seen-times south quarter (middle m a (rowSeen south m b))
-          ∙ ap (times quarter) (middle-back south m a b (omega arith)))
+          (ap (times (m * h)) (point-seen south n x h)
+          ∙ multiples-seen south (m * h) k (northPoint n x h) (middle m a (rowSeen south m b)) (point-is m n r h e hn (s .few) (omega arith) ∙ ap (times k) (s .point))
+          ∙ ap (times k) (middle-back south m a b (omega arith)))
           (sided-size south (pos (rise m h))),
     )
 

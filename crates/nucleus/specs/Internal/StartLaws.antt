@@ -1,7 +1,7 @@
 -- A cap's ground nucleus by its start: turned back, the middle of a cell is the start. The south is the north in a mirror. Assumes nothing.
 use mathlib.Core.Path.{_≡_, refl, sym, ap, ap₂, _∙_}
 use mathlib.Core.Bool.{Bool, true, false, _&&_, cond}
-use Prim.Native.Nat.{ℕ, zero, suc, _+_, _-_, _*_, _^_, _≤_}
+use Prim.Native.Nat.{ℕ, _+_, _-_, _*_, _≤_}
 use native.Mathlib.Omega.{arith}
 use lib.IntN.{ℤ, pos, negℤ, natAbs, subℕ, negℤ-negℤ, _+ℤ_}
 use lib.Signed.{leZ, ltZ}
@@ -15,25 +15,7 @@ use Rattle.nucleus.specs.declared.Fix.{Fix}
 use Rattle.nucleus.specs.Nucleus.{startsNorth, startsSouth, firstOf, turnsNorth, turnsSouth, tallOf, alongOf, centred, fix, capLongitude, southZ, northNucleus, southNucleus}
 use Rattle.nucleus.specs.Internal.Caps.{capZ, capNucleus, seen, rowSeen, poleOf}
 use Rattle.nucleus.specs.Internal.Triangle.{middle, OffCentre, IsStart}
-use Rattle.nucleus.specs.Internal.MirrorLaws.{south-seen, middle-back}
-
--- ---- turns undo each other
-
-abbrev stepNorth : CapPoint → CapPoint
-stepNorth x = (negℤ (x .1), x .0)
-
-abbrev stepSouth : CapPoint → CapPoint
-stepSouth x = (x .1, negℤ (x .0))
-
-past-north : (r : ℕ) (x : CapPoint) → stepSouth (turnedNorth r x) ≡ turnedNorth r (stepSouth x)
-unfolding turnedNorth
-past-north zero x = refl
-past-north (suc r) x = past-north r (stepNorth x) ∙ ap (turnedNorth r) (λ i. (sym (negℤ-negℤ (x .0)) i, negℤ-negℤ (x .1) i))
-
-pub turned-back : (r : ℕ) (x : CapPoint) → turnedSouth r (turnedNorth r x) ≡ x
-unfolding turnedNorth turnedSouth
-turned-back zero x = refl
-turned-back (suc r) x = ap (turnedSouth r) (past-north r (stepNorth x)) ∙ turned-back r (stepSouth (stepNorth x)) ∙ (λ i. (x .0, negℤ-negℤ (x .1) i))
+use Rattle.nucleus.specs.Internal.MirrorLaws.{turned-back, south-seen, middle-back}
 
 -- ---- a start in the mirror
 

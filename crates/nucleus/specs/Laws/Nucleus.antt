@@ -1,6 +1,6 @@
 -- The ground nucleus of every cell, in every arrangement and at every resolution: it names its cell again, and it is what the rules send to the
 -- nucleus, floored. Assumes nothing.
-use mathlib.Core.Path.{_≡_, refl, sym, ap, subst}
+use mathlib.Core.Path.{_≡_, refl, sym, ap, _∙_, subst}
 use mathlib.Core.Bool.{Bool, true, false}
 use Prim.Native.Nat.{ℕ, _+_, _-_, _*_, _/_, _%_, _^_, _≤_, _<_}
 use native.Mathlib.Nat.{mul-pos}
@@ -63,6 +63,20 @@ module _ (a : Arrangement) (c : Cell) (e d : ℕ) (u : ℤ) (v : ℕ) where
 side-pos : (c : Cell) → 0 < 3 * (rows c * rows c)
 side-pos c = let p = mul-pos (power-pos (c .resolution)) (power-pos (c .resolution)) in omega arith
 
+-- a longitude in face b of O to R, x/d units from its western edge, and a z
+is-sent :
+    (a : Arrangement) (c : Cell) (b d x : ℕ) (u : ℤ) (v : ℕ) {f : Fix} → 0 < d → 0 < v → b < 4 → x < d * quarter →
+    In a c (b * (d * quarter) + x) d u v (c .face) → f .longitude ≡ subℕ (b * quarter + x / d) 1800000000 → f .z ≡ floorZ u v → IsSent a c f
+is-sent a c b d x u v d0 v0 h l t p q = (
+  b * (d * quarter) + x,
+  d,
+  u,
+  v,
+  record { longitude = d0; sine = v0; range = east-lt b d x l h; middle = t },
+  p ∙ ap (λ (y : ℕ). subℕ y 1800000000) (sym (east-floored b d x l d0)),
+  q,
+)
+
 module _ (a : Arrangement) {c : Cell} (v : IsCell c) where
   belt-sent : (b : ℕ) → b < 4 → c .face ≡ belt b → IsSent a c (fix (beltLongitude (rows c) b (c .column)) (beltZ (rows c) (c .row)))
   unfolding beltLongitude beltZ
@@ -70,23 +84,9 @@ module _ (a : Arrangement) {c : Cell} (v : IsCell c) where
       let m : ℕ = rows c in
       let k = v .columned in
       let x : ℕ = 450000000 * (2 * c .column + 1) in
-      let e : ℕ = b * (m * quarter) + x in
       let u : ℤ = subℕ (2000000000000000000 * m) (2000000000000000000 * (2 * c .row + 1)) in
-      let l : x < m * quarter = omega arith in
-      let m0 : 0 < m = omega arith in (
-        e,
-        m,
-        u,
-        3 * m,
-        record {
-          longitude = m0;
-          sine = omega arith;
-          range = east-lt b m x l h;
-          middle = subst (λ (X : Type 0). X) (sym (in-belt a c e m u (3 * m) b h f)) (sent-belt b v h f);
-        },
-        ap (λ (y : ℕ). subℕ y 1800000000) (sym (east-floored b m x l m0)),
-        refl,
-      )
+      is-sent a c b m x u (3 * m) (omega arith) (omega arith) h (omega arith)
+      (subst (λ (X : Type 0). X) (sym (in-belt a c (b * (m * quarter) + x) m u (3 * m) b h f)) (sent-belt b v h f)) refl refl
 
   cap-sent :
       (south : Bool) (r h e : ℕ) → firstIn south a ≤ 3 → c .face ≡ capFace south →
@@ -95,45 +95,21 @@ module _ (a : Arrangement) {c : Cell} (v : IsCell c) where
   unfolding capLongitude
   cap-sent south r h e hn f s =
       let m : ℕ = rows c in
-      let n : ℕ = (firstIn south a + r) % 4 in
-      let x : ℕ = capEast (firstIn south a) r h e in
+      let n : ℕ = firstIn south a in
       let u : ℤ = sided south (pos (rise m h)) in
       let w = s .within in
-      let l : 450000000 * e < h * quarter = omega arith in
-      let t = sent-cap south (firstIn south a) r h e v hn s in (
-        x,
-        h,
-        u,
-        3 * (m * m),
-        record {
-          longitude = s .tall;
-          sine = side-pos c;
-          range = east-lt n h (450000000 * e) l (omega arith);
-          middle = subst (λ (X : Type 0). X) (sym (in-cap a c x h u (3 * (m * m)) south f)) (t .0, (h, m, t .1));
-        },
-        ap (λ (y : ℕ). subℕ y 1800000000) (sym (east-floored n h (450000000 * e) l (s .tall))),
-        sym (z-is south m h (s .low)),
-      )
+      let t = sent-cap south n r h e v hn s in
+      is-sent a c ((n + r) % 4) h (450000000 * e) u (3 * (m * m)) (s .tall) (side-pos c) (omega arith) (omega arith)
+      (subst (λ (X : Type 0). X) (sym (in-cap a c (capEast n r h e) h u (3 * (m * m)) south f)) (t .0, (h, m, t .1))) refl (sym (z-is south m h (s .low)))
 
-  -- the poles: e = 0, d = 1
+  -- the poles: at the western edge of face O
   pole-sent : (south : Bool) → c .face ≡ capFace south → 2 * c .column + 1 ≡ rows c → 2 * c .row + 1 ≡ rows c → IsSent a c (poleOf south)
   unfolding floorZ
   pole-sent south f p q =
       let u : ℤ = poleOf south .z in
-      let t = sent-pole c (capPoint south (firstIn south a) 0 1) u (sided-size south (pos (10 ^ 18))) q p in (
-        0,
-        1,
-        u,
-        1,
-        record {
-          longitude = omega arith;
-          sine = omega arith;
-          range = omega arith;
-          middle = subst (λ (X : Type 0). X) (sym (in-cap a c 0 1 u 1 south f)) (sided-sign south (10 ^ 18) (omega arith) .1, (0, 1, t));
-        },
-        refl,
-        whole south,
-      )
+      let t = sent-pole c (capPoint south (firstIn south a) 0 1) u (sided-size south (pos (10 ^ 18))) q p in
+      is-sent a c 0 1 0 u 1 (omega arith) (omega arith) (omega arith) (omega arith)
+      (subst (λ (X : Type 0). X) (sym (in-cap a c 0 1 u 1 south f)) (sided-sign south (10 ^ 18) (omega arith) .1, (0, 1, t))) refl (whole south)
     where
       whole : (t : Bool) → poleOf t .z ≡ floorZ (poleOf t .z) 1
       whole true = refl
