@@ -28,21 +28,6 @@ signed n b e =
     (λ h. rw (le-ltb 14348907 b h) (floor-sided false x 28697814000000000000000000 (2000000000000000000 * b) 43046721 (omega arith)))
     (lt-or 14348907 b)
 
-apart-requires : tie.Need-apart-requires
-apart-requires c κs = search needs
-
-mul-scaled : tie.Need-mul-scaled
-mul-scaled c = search needs
-
-mul-scaled-2 : tie.Need-mul-scaled-2
-mul-scaled-2 c = search needs
-
-scaled-requires : tie.Need-scaled-requires
-scaled-requires c κs = search needs
-
-floored-requires : tie.Need-floored-requires
-floored-requires c κs = search needs
-
 returns : tie.Need-returns
 returns c =
     let b = c .before .before .before .args .b in
@@ -57,4 +42,4 @@ returns c =
 pub belt-z-spec : {M : Type 1} → statement M
 belt-z-spec =
     tie.close
-    (tie.spec apart-requires mul-scaled mul-scaled-2 scaled-requires floored-requires returns)
+    (tie.spec (λ c κs. search needs) (λ c. search needs) (λ c. search needs) (λ c κs. search needs) (λ c κs. search needs) returns)

@@ -30,15 +30,6 @@ module _ (c : tie.After-start-of) where
       let l = mul-lt-mul-of-pos-left (c .start-of .ensures .low) (start .pre .1 .1 .0) in
       omega (arith, start .pre .1 .1 .1)
 
-is-centre-requires : tie.Need-is-centre-requires
-is-centre-requires c κs = search needs
-
-difference-requires : tie.Need-difference-requires
-difference-requires c κs = search needs
-
-pole-z-requires : tie.Need-pole-z-requires
-pole-z-requires c κs = search needs
-
 returns : tie.Need-returns
 returns c =
     let t = c .before .before .before in
@@ -47,21 +38,12 @@ returns c =
     (λ i. record { longitude = back-as (c .before .difference .ok) (c .before .difference .ensures) i; z = back-as (c .pole-z .ok) (c .pole-z .ensures) i })
     ∙ sym (pole-is (a .south) (a .first) (a .m) x (sym (t .is-centre .ensures) ∙ c .before .before .if1 .taken))
 
-mirrored-requires : tie.Need-mirrored-requires
-mirrored-requires c κs = search needs
-
 start-of-requires : tie.Need-start-of-requires
 start-of-requires c κs =
     let s = c .before .before .before in
     let a = s .args in
     let o = off-centre (a .m) (a .a) (a .b) (sym (c .before .before .is-centre .ensures) ∙ c .before .if1 .left) in
     rw (c .mirrored .ensures) (started (a .south) (a .m) (a .a) (a .b) (s .pre .1 .0) o)
-
-add-longitude-at : tie.Need-add-longitude-at
-add-longitude-at c = search needs
-
-longitude-at-requires : tie.Need-longitude-at-requires
-longitude-at-requires c κs = search needs
 
 mul-cap-z : tie.Need-mul-cap-z
 mul-cap-z c = omega (arith, height-lt (c .before .before))
@@ -91,14 +73,14 @@ pub cap-nucleus-spec : {M : Type 1} → statement M
 cap-nucleus-spec =
     tie.close
     (tie.spec
-    is-centre-requires
-    difference-requires
-    pole-z-requires
+    (λ c κs. search needs)
+    (λ c κs. search needs)
+    (λ c κs. search needs)
     returns
-    mirrored-requires
+    (λ c κs. search needs)
     start-of-requires
-    add-longitude-at
-    longitude-at-requires
+    (λ c. search needs)
+    (λ c κs. search needs)
     mul-cap-z
     cap-z-requires
     returns-2)

@@ -18,12 +18,6 @@ use Rattle.nucleus.proofs.cap_z.Tie as tie
 square : (s : tie.Start) → s .args .h * s .args .h ≤ 205891132094649
 square s = height-le 14348907 (s .args .h) (s .pre .1)
 
-mul-d : tie.Need-mul-d
-mul-d c = search needs
-
-mul-d-2 : tie.Need-mul-d-2
-mul-d-2 c = search needs
-
 mul-scaled : tie.Need-mul-scaled
 mul-scaled c = omega (arith, square c)
 
@@ -54,4 +48,4 @@ returns c =
 pub cap-z-spec : {M : Type 1} → statement M
 cap-z-spec =
     tie.close
-    (tie.spec mul-d mul-d-2 mul-scaled sub-scaled scaled-requires floored-requires returns)
+    (tie.spec (λ c. search needs) (λ c. search needs) mul-scaled sub-scaled scaled-requires floored-requires returns)

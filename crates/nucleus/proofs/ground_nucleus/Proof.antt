@@ -25,9 +25,6 @@ use Rattle.nucleus.proofs.Laws.{up-times, finer-along, finer-z, finer-l
 use Rattle.nucleus.proofs.ground_nucleus.Statement.{statement}
 use Rattle.nucleus.proofs.ground_nucleus.Tie as tie
 
-power-requires : tie.Need-power-requires
-power-requires c κs = search needs
-
 sub-power : tie.Need-sub-power
 sub-power c = omega (arith, c .before .before .pre .1 .fine)
 
@@ -93,9 +90,6 @@ module _ (c : tie.After-power2) where
   down-lt : up * b < 28697814
   down-lt = finer-lt up m up-pos m-pos finest b (inside .bottom)
 
-sub-longitude-at : tie.Need-sub-longitude-at
-sub-longitude-at c = search needs
-
 mul-longitude-at : tie.Need-mul-longitude-at
 mul-longitude-at c = let w = c .before .before .before .before in omega (arith, along-lt w, down-lt w)
 
@@ -124,9 +118,6 @@ returns c =
     ∙ ap (λ (x : ℕ). fix (beltLongitude x f (s .cell .column)) (beltZ x (s .cell .row))) (side w)
     ∙ sym (on-belt (s .arrangement) (s .cell) f (omega arith) (omega arith))
 
-first-of-requires : tie.Need-first-of-requires
-first-of-requires c κs = search needs
-
 cap-nucleus-requires : tie.Need-cap-nucleus-requires
 cap-nucleus-requires c κs =
     let w = c .before .before .before .before in
@@ -154,19 +145,19 @@ pub ground-nucleus-spec : {M : Type 1} → statement M
 ground-nucleus-spec =
     tie.close
     (tie.spec
-    power-requires
+    (λ c κs. search needs)
     sub-power
     power-requires-2
     mul-a
     add-a
     mul-b
     add-b
-    sub-longitude-at
+    (λ c. search needs)
     mul-longitude-at
     longitude-at-requires
     mul-belt-z
     belt-z-requires
     returns
-    first-of-requires
+    (λ c κs. search needs)
     cap-nucleus-requires
     returns-2)
