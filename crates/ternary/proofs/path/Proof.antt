@@ -7,6 +7,12 @@ use Rattle.ternary.proofs.Parts.{both-parts, long, apart-small}
 use Rattle.ternary.proofs.path.Statement.{statement}
 use Rattle.ternary.proofs.path.Tie as tie
 
+returns : tie.Need-returns
+returns c =
+    let a = c .before .before .args in
+    long (3 * c .before .spread .result + c .spread2 .result) (a .row) (a .column)
+    (ap₂ (λ (x y : ℕ). 3 * x + y) (c .before .spread .ensures) (c .spread2 .ensures) ∙ both-parts (a .row) (a .column))
+
 pub path-spec : {M : Type 1} → statement M
 path-spec =
     tie.close
@@ -21,7 +27,4 @@ path-spec =
     (λ c. search needs)
     (λ c. search needs)
     (λ c. search needs)
-    (λ c.
-    let a = c .before .before .args in
-    long (3 * c .before .spread .result + c .spread2 .result) (a .row) (a .column)
-    (ap₂ (λ (x y : ℕ). 3 * x + y) (c .before .spread .ensures) (c .spread2 .ensures) ∙ both-parts (a .row) (a .column))))
+    returns)

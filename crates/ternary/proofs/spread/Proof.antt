@@ -17,6 +17,17 @@ thirds-small c = bits-small (c .before .in-parts .result * 171 / 512) (c .last-b
 ninths-small : (c : tie.After-last-bits2) → c .last-bits2 .result < 9007199254740992
 ninths-small c = bits-small (c .before .before .in-parts .result * 114 / 1024) (c .last-bits2 .ensures)
 
+returns : tie.Need-returns
+returns c =
+    let b = c .before .before .before in
+    let x = b .before .args .x in
+    let h = b .before .pre in
+    let e = b .in-parts .ensures in
+    let i = by-three x h e (c .before .before .last-bits .ensures) in
+    let j = by-nine x h e (c .before .last-bits2 .ensures) in
+    let k = by-cube x h e (c .last-bits3 .ensures) in
+    (λ t. e t + 6 * i t + 54 * j t + 486 * k t) ∙ spread-quarters x h
+
 pub spread-spec : {M : Type 1} → statement M
 spread-spec =
     tie.close
@@ -37,12 +48,4 @@ spread-spec =
     let b = c .before in
     let k = bits-small (b .before .before .in-parts .result * 76 / 2048) (c .last-bits3 .ensures) in
     omega (arith, n-small (b .before .before), thirds-small (b .before), ninths-small b))
-    (λ c.
-    let b = c .before .before .before in
-    let x = b .before .args .x in
-    let h = b .before .pre in
-    let e = b .in-parts .ensures in
-    let i = by-three x h e (c .before .before .last-bits .ensures) in
-    let j = by-nine x h e (c .before .last-bits2 .ensures) in
-    let k = by-cube x h e (c .last-bits3 .ensures) in
-    (λ t. e t + 6 * i t + 54 * j t + 486 * k t) ∙ spread-quarters x h))
+    returns)

@@ -4,5 +4,8 @@ use Rattle.ternary.proofs.Both.{both-apart}
 use Rattle.ternary.proofs.unwoven.Statement.{statement}
 use Rattle.ternary.proofs.unwoven.Tie as tie
 
+returns : tie.Need-returns
+returns c = both-apart (c .before .args .path) (c .sixteen-digits .ensures)
+
 pub unwoven-spec : {M : Type 1} → statement M
-unwoven-spec = tie.close (tie.spec (λ c κs. search needs) (λ c. both-apart (c .before .args .path) (c .sixteen-digits .ensures)))
+unwoven-spec = tie.close (tie.spec (λ c κs. search needs) returns)
