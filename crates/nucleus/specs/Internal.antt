@@ -1,7 +1,9 @@
 pub mod BeltLaws
 pub mod CapLaws
+pub mod Caps
 pub mod FlooredLaws
 pub mod FractionLaws
+pub mod MirrorLaws
 pub mod NearLaws
 pub mod OnceLaws
 pub mod OneStartLaws

@@ -18,18 +18,6 @@ either : {n : ℕ} (b : Bool) (x y : ℕ) → x < n → y < n → cond b x y < n
 either true x y h l = h
 either false x y h l = l
 
-more-of-requires : tie.Need-more-of-requires
-more-of-requires c κs = search needs
-
-chosen-requires : tie.Need-chosen-requires
-chosen-requires c κs = search needs
-
-add-chosen : tie.Need-add-chosen
-add-chosen c = search needs
-
-chosen-requires-2 : tie.Need-chosen-requires-2
-chosen-requires-2 c κs = search needs
-
 difference-requires : tie.Need-difference-requires
 difference-requires c κs =
     let s = c .before .before .before in
@@ -53,10 +41,4 @@ returns c =
 pub floored-spec : {M : Type 1} → statement M
 floored-spec =
     tie.close
-    (tie.spec
-    more-of-requires
-    chosen-requires
-    add-chosen
-    chosen-requires-2
-    difference-requires
-    returns)
+    (tie.spec (λ c κs. search needs) (λ c κs. search needs) (λ c. search needs) (λ c κs. search needs) difference-requires returns)

@@ -8,13 +8,14 @@ use native.Mathlib.Omega.{arith}
 use lib.IntN.{ℤ, pos, negℤ, subℕ, negℤ-negℤ}
 use Rattle.logic.specs.Laws.Order.{lt-or}
 use Rattle.signed.specs.Sign.{withSign}
-use Rattle.signed.specs.Laws.Sign.{pos-sub, neg-sub, sub-same}
+use Rattle.signed.specs.Laws.Sign.{pos-sub, neg-sub, sub-neg, sub-at}
 use Rattle.signed.specs.Laws.Times.{sub-cross}
 use Rattle.division.specs.Laws.Division.{low, high}
 use Rattle.root.specs.Floor.{square, rootFloor}
 use Rattle.root.specs.Laws.Square.{square-le, square-mul, plus-under, plus-square, plus-not, minus-is, minus-over, minus-not}
 use Rattle.root.specs.Laws.Floor.{plus-exact, minus-exact}
-use Rattle.locate.specs.Fix.{CapPoint, quarter, turnedNorth, turnedSouth}
+use Rattle.locate.specs.Fix.{CapPoint, quarter, turnedNorth}
+use Rattle.nucleus.specs.Internal.Caps.{seen}
 
 -- a square of a product, sorted
 regroup : (m g t : ℕ) → square (m * g) * t ≡ square g * (m * m * t)
@@ -35,37 +36,31 @@ module _ (m h t g v : ℕ) (hm : m ≤ 14348907) (hh : h < m) (hg : g ≤ quarte
   scaled : (x : ℕ) → square (900000000000000000 * x) ≡ 1000000000000000000 * square (quarter * x)
   scaled x = ap square (mul-assoc 1000000000 quarter x) ∙ square-mul 1000000000 (quarter * x)
 
-  -- 9 x 10^17 (v - 1) is below m g √t
+  -- m m g g t is 10^18 g g h h, to within 3 g g m m
+  spans :
+      (1000000000000000000 * square (g * h) ≤ square (m * g) * t + 3 * (square g * (m * m))) ×
+      (square (m * g) * t ≤ 1000000000000000000 * square (g * h) + 3 * (square g * (m * m))) × (square g * (m * m) ≤ quarter * quarter * (14348907 * 14348907))
+  spans =
+      let b : square g * (1000000000000000000 * (h * h)) ≤ square g * (m * m * t + 3 * (m * m)) = mul-le-mul-left (square g) t-low in
+      let c : square g * (m * m * t) ≤ square g * (1000000000000000000 * (h * h) + 3 * (m * m)) = mul-le-mul-left (square g) t-high in
+      let d = mul-add (square g) (m * m * t) (3 * (m * m)) in
+      let n = mul-add (square g) (1000000000000000000 * (h * h)) (3 * (m * m)) in
+      let e = mul-left-comm (square g) 1000000000000000000 (h * h) in
+      let f = mul-left-comm (square g) 3 (m * m) in
+      let k : square (g * h) ≡ square g * (h * h) = square-mul g h in
+      let o = regroup m g t in
+      (omega arith, omega arith, mul-le-mul (mul-le-mul hg hg) (mul-le-mul hm hm))
+
+  -- 9 x 10^17 (v - 1) is below m g √t, and 9 x 10^17 (v + 1) is above it
   below : 0 < v → square (900000000000000000 * (v - 1)) < square (m * g) * t
   below v0 =
-      let s : quarter * (v - 1) + 871302188 ≤ g * h = omega arith in
-      let a : square (quarter * (v - 1) + 871302188) ≤ square (g * h) = square-le s in
-      let b = grow (quarter * (v - 1)) 871302188 in
-      let c : square g * (1000000000000000000 * (h * h)) ≤ square g * (m * m * t + 3 * (m * m)) = mul-le-mul-left (square g) t-low in
-      let d = mul-add (square g) (m * m * t) (3 * (m * m)) in
-      let e = mul-left-comm (square g) 1000000000000000000 (h * h) in
-      let f = mul-left-comm (square g) 3 (m * m) in
-      let k : square (g * h) ≡ square g * (h * h) = square-mul g h in
-      let l : square g * (m * m) ≤ quarter * quarter * (14348907 * 14348907) = mul-le-mul (mul-le-mul hg hg) (mul-le-mul hm hm) in
-      let n = scaled (v - 1) in
-      let o = regroup m g t in
-      omega arith
+      let a : square (quarter * (v - 1) + 871302188) ≤ square (g * h) = square-le (omega arith) in
+      omega (arith, spans, grow (quarter * (v - 1)) 871302188, scaled (v - 1))
 
-  -- 9 x 10^17 (v + 1) is above it
   above : square (m * g) * t < square (900000000000000000 * (v + 1))
   above =
-      let s : g * h + 871302188 ≤ quarter * (v + 1) = omega arith in
-      let a : square (g * h + 871302188) ≤ square (quarter * (v + 1)) = square-le s in
-      let b = grow (g * h) 871302188 in
-      let c : square g * (m * m * t) ≤ square g * (1000000000000000000 * (h * h) + 3 * (m * m)) = mul-le-mul-left (square g) t-high in
-      let d = mul-add (square g) (1000000000000000000 * (h * h)) (3 * (m * m)) in
-      let e = mul-left-comm (square g) 1000000000000000000 (h * h) in
-      let f = mul-left-comm (square g) 3 (m * m) in
-      let k : square (g * h) ≡ square g * (h * h) = square-mul g h in
-      let l : square g * (m * m) ≤ quarter * quarter * (14348907 * 14348907) = mul-le-mul (mul-le-mul hg hg) (mul-le-mul hm hm) in
-      let n = scaled (v + 1) in
-      let o = regroup m g t in
-      omega arith
+      let a : square (g * h + 871302188) ≤ square (quarter * (v + 1)) = square-le (omega arith) in
+      omega (arith, spans, grow (g * h) 871302188, scaled (v + 1))
 
   v-small : v ≤ h
   v-small = let k : g * h ≤ quarter * h = mul-le-mul-right h hg in omega arith
@@ -119,16 +114,18 @@ near-neg n =
       high = n .high;
     }
 
--- turning keeps what is near near
-pub near-north : (h r : ℕ) (a b : CapPoint) → Near h (a .0) (b .0) → Near h (a .1) (b .1) → Near h (turnedNorth r a .0) (turnedNorth r b .0) × Near h (turnedNorth r a .1) (turnedNorth r b .1)
-unfolding turnedNorth
-near-north h zero a b p q = (p, q)
-near-north h (suc r) a b p q = near-north h r (negℤ (a .1), a .0) (negℤ (b .1), b .0) (near-neg q) p
+-- turning, and the mirror, keep what is near near
+abbrev pub Nears : ℕ → CapPoint → CapPoint → Type 0
+Nears h a b = Near h (a .0) (b .0) × Near h (a .1) (b .1)
 
-pub near-south : (h r : ℕ) (a b : CapPoint) → Near h (a .0) (b .0) → Near h (a .1) (b .1) → Near h (turnedSouth r a .0) (turnedSouth r b .0) × Near h (turnedSouth r a .1) (turnedSouth r b .1)
-unfolding turnedSouth
-near-south h zero a b p q = (p, q)
-near-south h (suc r) a b p q = near-south h r (a .1, negℤ (a .0)) (b .1, negℤ (b .0)) q (near-neg p)
+pub near-turned : (h r : ℕ) (a b : CapPoint) → Nears h a b → Nears h (turnedNorth r a) (turnedNorth r b)
+unfolding turnedNorth
+near-turned h zero a b n = n
+near-turned h (suc r) a b n = near-turned h r (negℤ (a .1), a .0) (negℤ (b .1), b .0) (near-neg (n .1), n .0)
+
+pub near-seen : (south : Bool) {h : ℕ} (a b : CapPoint) → Nears h a b → Nears h (seen south a) (seen south b)
+near-seen true a b n = (n .0, near-neg (n .1))
+near-seen false a b n = n
 
 -- the row or column w whose middle lies (2w + 1 - m) / 2m from the centre
 module _ (m h t : ℕ) (hm : m ≤ 14348907) (hh : h < m)
@@ -151,6 +148,16 @@ module _ (m h t : ℕ) (hm : m ≤ 14348907) (hh : h < m)
 
 -- ---- the two numbers of a start
 
+-- two differences that are not negative
+near-above :
+    (h p q s t : ℕ) →
+    (q ≤ p) × (t ≤ s) × (p ≤ q + quarter) × (quarter * s + q * h ≤ p * h + quarter * t + 2 * h) × (p * h + quarter * t ≤ quarter * s + q * h + 2 * h) →
+    Near h (subℕ p q) (subℕ s t)
+near-above h p q s t (u, v, w, l, k) =
+    let e : (p - q + q) * h ≡ (p - q) * h + q * h = add-mul (p - q) q h in
+    let f : (p - q + q) * h ≡ p * h = ap (λ (x : ℕ). x * h) (omega arith) in
+    record { minus = false; g = p - q; v = s - t; x-is = sub-at p q u; y-is = sub-at s t v; small = omega arith; low = omega arith; high = omega arith }
+
 -- the longitude, a = 450,000,000 e / h, floored
 module _ (h e : ℕ) (h0 : 0 < h) (he : e < 2 * h) where
   abbrev along : ℕ
@@ -170,38 +177,13 @@ module _ (h e : ℕ) (h0 : 0 < h) (he : e < 2 * h) where
       let a = low (450000000 * e) h in
       let b = high (450000000 * e) h h0 in
       let f : 2 * along * h ≡ 2 * (along * h) = mul-assoc 2 along h in
+      let k = along-lt in
       ⊎-elim
       (λ l.
       let w = west-side l in
-      let g : ℕ = quarter - 2 * along in
-      let c : (g + 2 * along) * h ≡ g * h + 2 * along * h = add-mul g (2 * along) h in
-      let d : (g + 2 * along) * h ≡ quarter * h = ap (λ (x : ℕ). x * h) (omega arith) in
-      record {
-        minus = true;
-        g = g;
-        v = h - e;
-        x-is = sym (neg-sub g ∙ sub-same 0 g (2 * along) quarter (omega arith));
-        y-is = sym (neg-sub (h - e) ∙ sub-same 0 (h - e) e h (omega arith));
-        small = omega arith;
-        low = omega arith;
-        high = omega arith;
-      })
-      (λ l.
-      let w = east-side l in
-      let k = along-lt in
-      let g : ℕ = 2 * along - quarter in
-      let c : (g + quarter) * h ≡ g * h + quarter * h = add-mul g quarter h in
-      let d : (g + quarter) * h ≡ 2 * along * h = ap (λ (x : ℕ). x * h) (omega arith) in
-      record {
-        minus = false;
-        g = g;
-        v = e - h;
-        x-is = sym (pos-sub g ∙ sub-same g 0 (2 * along) quarter (omega arith));
-        y-is = sym (pos-sub (e - h) ∙ sub-same (e - h) 0 e h (omega arith));
-        small = omega arith;
-        low = omega arith;
-        high = omega arith;
-      })
+      let n = near-neg (near-above h quarter (2 * along) h e (omega arith)) in
+      subst (λ (y : ℤ). Near h (subℕ (2 * along) quarter) y) (sub-neg h e) (subst (λ (x : ℤ). Near h x (negℤ (subℕ h e))) (sub-neg quarter (2 * along)) n))
+      (λ l. let w = east-side l in near-above h (2 * along) quarter e h (omega arith))
       (lt-or e h)
 
 -- the other number stands for the height itself

@@ -1,25 +1,26 @@
 -- Fractions that the rules send to the middle of a cell are those of the computing form, but for the longitude at a pole. Assumes nothing.
-use mathlib.Core.Path.{_≡_, refl, sym, ap, ap₂, _∙_}
+use mathlib.Core.Path.{_≡_, sym, ap, ap₂, _∙_}
+use mathlib.Core.Bool.{Bool, true, false}
 use mathlib.Core.Logic.{⊎-elim}
 use Prim.Native.Nat.{ℕ, _+_, _-_, _*_, _%_, _≤_, _<_}
 use native.Mathlib.Nat.{mul-assoc, mul-comm, mul-left-comm, mul-add, add-mul, zero-mul, mul-pos, eq-of-mul-eq-mul-left, div-add-mod', mod-lt, div-lt-iff-lt-mul}
 use native.Mathlib.Omega.{arith}
-use lib.IntN.{ℤ, pos, negsuc, negℤ, natAbs, subℕ, _+ℤ_, _-ℤ_, _*ℤ_}
-use lib.Dec.{ltb→lt}
-use lib.Signed.{_<ℤ_}
+use lib.IntN.{ℤ, pos, negℤ, natAbs, subℕ, negℤ-negℤ, _+ℤ_, _-ℤ_, _*ℤ_}
 use Rattle.logic.specs.Laws.Order.{lt-or}
 use Rattle.ternary.specs.Laws.Powers.{power-pos}
-use Rattle.signed.specs.Laws.Sign.{pos-sub, neg-sub, sub-same, sub-neg}
+use Rattle.signed.specs.Laws.Sign.{pos-sub, sub-same, sub-neg}
 use Rattle.signed.specs.Laws.Times.{sub-cross, sub-times, times-neg, pos-more, pos-less, a-difference}
 use Rattle.cell.specs.declared.Cell.{Cell}
 use Rattle.cell.specs.Neighbour.{belt, rows, turnOf}
 use Rattle.cell.specs.Laws.Turns.{face-of-turn}
-use Rattle.locate.specs.Fix.{CapPoint, quarter, turnedNorth, turnedSouth}
-use Rattle.nucleus.specs.Nucleus.{quotient, remainder, SentToBelt, SentToCap, northPoint, southPoint}
+use Rattle.locate.specs.Fix.{CapPoint, quarter}
+use Rattle.nucleus.specs.Nucleus.{quotient, remainder, SentToBelt, SentToCap, northPoint}
+use Rattle.nucleus.specs.Internal.Caps.{capPoint, Beyond, sided, rowSeen, rise, times}
+use Rattle.nucleus.specs.Internal.MirrorLaws.{sided-fraction, multiples-seen, point-back, middle-seen}
 use Rattle.nucleus.specs.Internal.Triangle.{middle, IsStart}
-use Rattle.nucleus.specs.Internal.StartLaws.{mirror, mirror-south}
-use Rattle.nucleus.specs.Internal.SentLaws.{times, capEast, northRise, southRise}
-use Rattle.nucleus.specs.Internal.OneStartLaws.{centre-flat, one, height-is, along-is}
+use Rattle.nucleus.specs.Internal.CapLaws.{room}
+use Rattle.nucleus.specs.Internal.SentLaws.{capEast, row-sides}
+use Rattle.nucleus.specs.Internal.OneStartLaws.{centre-flat, one-start}
 use Rattle.nucleus.specs.Internal.FractionLaws.{Known}
 
 -- ---- what SentToCap says of the point
@@ -32,32 +33,23 @@ across m k s a x e =
     let f = sub-cross (m * k + p) q (a * k) 0 (sym (pos-more (m * k) p q) ∙ ap (λ (z : ℤ). pos (m * k) +ℤ z) (sym (w .2)) ∙ e ∙ pos-sub (a * k)) in
     w .2 ∙ sub-same p q (k * a) (k * m) (omega (arith, mul-comm m k, mul-comm a k)) ∙ sym (sub-times k a m)
 
-along : (m k s b : ℕ) (x : ℤ) → pos (m * k) -ℤ pos s *ℤ x ≡ pos (b * k) → pos s *ℤ x ≡ pos k *ℤ subℕ m b
-along m k s b x e =
-    let w = a-difference (pos s *ℤ x) in
-    let p : ℕ = w .0 in
-    let q : ℕ = w .1 in
-    let f = sub-cross (m * k + q) p (b * k) 0 (sym (pos-less (m * k) p q) ∙ ap (λ (z : ℤ). pos (m * k) -ℤ z) (sym (w .2)) ∙ e ∙ pos-sub (b * k)) in
-    w .2 ∙ sub-same p q (k * m) (k * b) (omega (arith, mul-comm m k, mul-comm b k)) ∙ sym (sub-times k m b)
-
-point-is : {c : Cell} {x : CapPoint} {d : ℕ} {u : ℤ} {v g f : ℕ} → SentToCap c x d u v g f → times (rows c * g) x ≡ times (d * quarter * f) (middle (rows c) (2 * c .column + 1) (2 * c .row + 1))
+point-is :
+    {c : Cell} {x : CapPoint} {d : ℕ} {u : ℤ} {v g f : ℕ} → SentToCap c x d u v g f →
+    times (rows c * g) x ≡ times (d * quarter * f) (middle (rows c) (2 * c .column + 1) (2 * c .row + 1))
 point-is {c} {x} {d} {u} {v} {g} {f} s =
-    λ i.
-    (across (rows c) (d * quarter * f) (rows c * g) (2 * c .column + 1) (x .0) (s .column) i, along (rows c) (d * quarter * f) (rows c * g) (2 * c .row + 1) (x .1) (s .row) i)
-
--- in a mirror, what holds of the south holds of the north
-mirrored :
-    (m a b k l t : ℕ) (s : ℤ) (d : ℕ) → b ≤ 2 * m → times k (turnedSouth t (s, pos d)) ≡ times l (middle m a b) →
-    times k (turnedNorth t (s, negℤ (pos d))) ≡ times l (middle m a (2 * m - b))
-mirrored m a b k l t s d h e =
-    ap (times k) (sym (mirror-south t (s, pos d)))
-    ∙ sym (over k (turnedSouth t (s, pos d)))
-    ∙ ap mirror e
-    ∙ over l (middle m a b)
-    ∙ ap (times l) (λ i. (subℕ a m, (sub-neg m b ∙ sub-same b m m (2 * m - b) (omega arith)) i))
-  where
-    over : (n : ℕ) (x : CapPoint) → mirror (times n x) ≡ times n (mirror x)
-    over n x = λ i. (pos n *ℤ x .0, times-neg n (x .1) i)
+    let m : ℕ = rows c in
+    let k : ℕ = d * quarter * f in
+    let b : ℕ = 2 * c .row + 1 in
+    let p = across m k (m * g) (2 * c .column + 1) (x .0) (s .column) in
+    let q = across m k (m * g) b (negℤ (x .1)) (ap (λ (z : ℤ). pos (m * k) +ℤ z) (sym (times-neg (m * g) (x .1))) ∙ s .row) in
+    let r : pos (m * g) *ℤ x .1 ≡ pos k *ℤ subℕ m b =
+    ap (λ (z : ℤ). pos (m * g) *ℤ z) (sym (negℤ-negℤ (x .1)))
+    ∙ sym (times-neg (m * g) (negℤ (x .1)))
+    ∙ ap negℤ q
+    ∙ times-neg k (subℕ b m)
+    ∙ ap (λ (z : ℤ). pos k *ℤ z) (sub-neg b m)
+    in
+    λ i. (p i, r i)
 
 -- ---- the fractions
 
@@ -93,26 +85,6 @@ size-one m h g f w z y f0 e s k =
 
 -- ---- the belt
 
--- the row's equation, halved
-row-half : (m i w p q : ℕ) → 2 * m * (2000000000000000000 * w + 3 * q) + 0 ≡ 4000000000000000000 * w * i + 2 * m * (3 * p) → 3 * m * p + w * (2000000000000000000 * i) ≡ w * (2000000000000000000 * m) + 3 * m * q
-row-half m i w p q e =
-    omega (
-      arith,
-      mul-add (2 * m) (2000000000000000000 * w) (3 * q),
-      mul-assoc 2 m (2000000000000000000 * w),
-      mul-left-comm m 2000000000000000000 w,
-      mul-assoc 2 m (3 * q),
-      mul-left-comm m 3 q,
-      mul-assoc 4000000000000000000 w i,
-      mul-assoc 2 m (3 * p),
-      mul-left-comm m 3 p,
-      mul-assoc 3 m p,
-      mul-assoc 3 m q,
-      mul-left-comm w 2000000000000000000 i,
-      mul-left-comm w 2000000000000000000 m,
-      mul-comm m w,
-    )
-
 pub known-belt :
     {c : Cell} {e d : ℕ} {u : ℤ} {w : ℕ} (b : ℕ) → c .face ≡ belt b → SentToBelt c e d u w →
     Known (b * (rows c * quarter) + 450000000 * (2 * c .column + 1)) (rows c) (subℕ (2000000000000000000 * rows c) (2000000000000000000 * (2 * c .row + 1))) (3 * rows c) e d u w
@@ -145,123 +117,67 @@ known-belt {c} {e} {d} {u} {w} b f s =
       rise =
           ap (λ (z : ℤ). pos (3 * m) *ℤ z) (o .2)
           ∙ sub-times (3 * m) p q
-          ∙ sub-same (3 * m * p) (3 * m * q) (w * (2000000000000000000 * m)) (w * (2000000000000000000 * i)) (row-half m i w p q n)
+          ∙ sub-same (3 * m * p) (3 * m * q) (w * (2000000000000000000 * m)) (w * (2000000000000000000 * i)) (omega (arith, n, row-sides m i w p q))
           ∙ sym (sub-times w (2000000000000000000 * m) (2000000000000000000 * i));
     }
 
 -- ---- the caps
 
-above-zero : (u : ℤ) → pos 0 <ℤ u → u ≡ pos (natAbs u)
-above-zero (pos n) h = refl
-above-zero (negsuc n) h = absurd (h .lt)
-
-under-zero : (u : ℤ) → u <ℤ pos 0 → u ≡ negℤ (pos (natAbs u))
-under-zero (pos n) h = let l = ltb→lt n 0 (h .lt) in absurd (omega arith)
-under-zero (negsuc n) h = refl
-
--- the two sides of z's fraction
-sides : (m h w v : ℕ) → 3 * (m * m) * w + h * h * (1000000000000000000 * v) ≡ 3 * (m * m) * (1000000000000000000 * v) → 3 * (m * m) * w + v * (1000000000000000000 * (h * h)) ≡ v * (1000000000000000000 * (3 * (m * m)))
-sides m h w v e =
+-- the size of z's fraction
+sizes :
+    (m h w v : ℕ) → h < m → 3 * (m * m) * w + h * h * (1000000000000000000 * v) ≡ 3 * (m * m) * (1000000000000000000 * v) →
+    3 * (m * m) * w ≡ v * rise m h
+sizes m h w v l e =
+    let r = room m h l in
+    let s = mul-add v (rise m h) (1000000000000000000 * (h * h)) in
+    let p : v * (rise m h + 1000000000000000000 * (h * h)) ≡ v * (1000000000000000000 * (3 * (m * m))) = ap (λ (x : ℕ). v * x) (omega arith) in
     let a : v * (1000000000000000000 * (h * h)) ≡ h * h * (1000000000000000000 * v) = simp (mul-assoc, mul-comm, mul-left-comm) in
     let b : v * (1000000000000000000 * (3 * (m * m))) ≡ 3 * (m * m) * (1000000000000000000 * v) = simp (mul-assoc, mul-comm, mul-left-comm) in
     omega arith
 
--- of a point that is seen in the north: the longitude and |z| of a cell that is not the centre
-module _ {c : Cell} {u : ℤ} {x : CapPoint} {n e d v g f : ℕ} (a b r h o : ℕ) (hn : n ≤ 3) (d0 : 0 < d) (l : e < 4 * (d * quarter)) (s : SentToCap c x d u v g f)
-    (w : IsStart (rows c) a b r h o)
-    (at : times (rows c * g) (turnedNorth (turnOf (quotient e d) n) (subℕ (2 * remainder e d) (d * quarter), negℤ (pos (d * quarter)))) ≡ times (d * quarter * f) (middle (rows c) a b)) where
-  seen-east : e * h ≡ capEast n r h o * d
-  seen-east =
-      let t : ℕ = turnOf (quotient e d) n in
-      let k : remainder e d < d * quarter = mod-lt e (omega arith) in
-      east-one n r h o e d hn d0 l (one (rows c) a b d g f (remainder e d) t (power-pos (c .resolution)) d0 (s .positive) (omega arith) at r h o k w .0)
-      (along-is (rows c) a b d g f (remainder e d) t (power-pos (c .resolution)) d0 (s .positive) (omega arith) at r h o k w)
+module _ (south : Bool) {c : Cell} {u : ℤ} {d v g f : ℕ} (n e : ℕ) (d0 : 0 < d) (i : c .row < rows c) (s : SentToCap c (capPoint south n e d) d u v g f) where
+  abbrev m : ℕ
+  m = rows c
 
-  seen-size : 3 * (rows c * rows c) * natAbs u + v * (1000000000000000000 * (h * h)) ≡ v * (1000000000000000000 * (3 * (rows c * rows c)))
-  seen-size =
-      let t : ℕ = turnOf (quotient e d) n in
-      let k : remainder e d < d * quarter = mod-lt e (omega arith) in
-      let y : ℕ = 1000000000000000000 * v in
-      sides (rows c) h (natAbs u) v
-      (size-one (rows c) h g f (natAbs u) (y - natAbs u) y (s .positive)
-      (height-is (rows c) a b d g f (remainder e d) t (power-pos (c .resolution)) d0 (s .positive) (omega arith) at r h o k w)
-      (omega (arith, s .within)) (s .height))
+  abbrev a : ℕ
+  a = 2 * c .column + 1
 
--- and at the centre
-seen-flat : {c : Cell} {u : ℤ} {x : CapPoint} {d v g f : ℕ} → SentToCap c x d u v g f → g ≡ 0 → natAbs u ≡ 1000000000000000000 * v
-seen-flat {c} {u} {x} {d} {v} {g} {f} s z =
-    let y : ℕ = 1000000000000000000 * v in
-    let e : 3 * (y - natAbs u) * (f * f) ≡ 0 = sym (s .height) ∙ ap (λ (k : ℕ). k * k * y) z ∙ zero-mul y in
-    ⊎-elim
-    (λ p. absurd (omega (arith, mul-pos {m = 3 * (y - natAbs u)} {n = f * f} (omega arith) (mul-pos (s .positive) (s .positive)))))
-    (λ p. omega (arith, s .within))
-    (lt-or 0 (y - natAbs u))
+  abbrev b : ℕ
+  b = rowSeen south m (2 * c .row + 1)
 
-module _ {c : Cell} {u : ℤ} {d v g f : ℕ} (n e : ℕ) (d0 : 0 < d) where
-  pub known-north :
-      (r h o : ℕ) → n ≤ 3 → e < 4 * (d * quarter) → pos 0 <ℤ u → SentToCap c (northPoint n e d) d u v g f →
-      IsStart (rows c) (2 * c .column + 1) (2 * c .row + 1) r h o → Known (capEast n r h o) h (northRise (rows c) h) (3 * (rows c * rows c)) e d u v
+  -- the point, seen in the north
+  north-is : times (m * g) (northPoint n e d) ≡ times (d * quarter * f) (middle m a b)
+  north-is =
+      ap (times (m * g)) (sym (point-back south n e d))
+      ∙ multiples-seen south (m * g) (d * quarter * f) (capPoint south n e d) (middle m a (2 * c .row + 1)) (point-is s)
+      ∙ ap (times (d * quarter * f)) (middle-seen south m a (2 * c .row + 1) (omega arith))
+
+  pub known-cap :
+      (r h o : ℕ) → n ≤ 3 → e < 4 * (d * quarter) → Beyond south u → IsStart m a b r h o →
+      Known (capEast n r h o) h (sided south (pos (rise m h))) (3 * (m * m)) e d u v
   unfolding northPoint
-  known-north r h o hn l p s w =
-      let m : ℕ = rows c in
-      let k : ℕ = 3 * (m * m) in
-      let a : ℕ = v * (1000000000000000000 * (3 * (m * m))) in
-      let b : ℕ = v * (1000000000000000000 * (h * h)) in
-      let z = seen-size (2 * c .column + 1) (2 * c .row + 1) r h o hn d0 l s w (point-is s) in
+  known-cap r h o hn l p w =
+      let y : ℕ = 1000000000000000000 * v in
+      let k = one-start m a b d g f (remainder e d) (turnOf (quotient e d) n) (power-pos (c .resolution)) d0 (s .positive) (omega arith) north-is r h o (mod-lt e (omega arith)) w in
+      let z = size-one m h g f (natAbs u) (y - natAbs u) y (s .positive) (k .1) (omega (arith, s .within)) (s .height) in
       record {
-        east = seen-east (2 * c .column + 1) (2 * c .row + 1) r h o hn d0 l s w (point-is s);
-        rise =
-            ap (λ (y : ℤ). pos k *ℤ y) (above-zero u p)
-            ∙ pos-sub (k * natAbs u)
-            ∙ sub-same (k * natAbs u) 0 a b (omega arith)
-            ∙ sym (sub-times v (1000000000000000000 * (3 * (m * m))) (1000000000000000000 * (h * h)));
-      }
-
-  pub known-south :
-      (r h o : ℕ) → n ≤ 3 → e < 4 * (d * quarter) → c .row < rows c → u <ℤ pos 0 → SentToCap c (southPoint n e d) d u v g f →
-      IsStart (rows c) (2 * c .column + 1) (2 * rows c - (2 * c .row + 1)) r h o → Known (capEast n r h o) h (southRise (rows c) h) (3 * (rows c * rows c)) e d u v
-  unfolding southPoint
-  known-south r h o hn l i p s w =
-      let m : ℕ = rows c in
-      let k : ℕ = 3 * (m * m) in
-      let a : ℕ = v * (1000000000000000000 * (3 * (m * m))) in
-      let b : ℕ = v * (1000000000000000000 * (h * h)) in
-      let q = mirrored m (2 * c .column + 1) (2 * c .row + 1) (m * g) (d * quarter * f) (turnOf (quotient e d) n) (subℕ (2 * remainder e d) (d * quarter)) (d * quarter) (omega arith) (point-is s) in
-      let z = seen-size (2 * c .column + 1) (2 * m - (2 * c .row + 1)) r h o hn d0 l s w q in
-      record {
-        east = seen-east (2 * c .column + 1) (2 * m - (2 * c .row + 1)) r h o hn d0 l s w q;
-        rise =
-            ap (λ (y : ℤ). pos k *ℤ y) (under-zero u p)
-            ∙ sym (times-neg k (pos (natAbs u)))
-            ∙ neg-sub (k * natAbs u)
-            ∙ sub-same 0 (k * natAbs u) b a (omega arith)
-            ∙ sym (sub-times v (1000000000000000000 * (h * h)) (1000000000000000000 * (3 * (m * m))));
+        east = east-one n r h o e d hn d0 l (k .0) (k .2);
+        rise = sided-fraction south (3 * (m * m)) v (rise m h) u p (sizes m h (natAbs u) v (w .low) z);
       }
 
   -- at a pole |z| is 10^18
-  pub flat-north :
-      SentToCap c (northPoint n e d) d u v g f → 2 * c .column + 1 ≡ rows c → 2 * c .row + 1 ≡ rows c → natAbs u ≡ 1000000000000000000 * v
+  pub flat-cap : a ≡ m → 2 * c .row + 1 ≡ m → natAbs u ≡ 1000000000000000000 * v
   unfolding northPoint
-  flat-north s p q =
-      seen-flat s
-      (centre-flat (rows c) (2 * c .column + 1) (2 * c .row + 1) d g f (remainder e d) (turnOf (quotient e d) n) (power-pos (c .resolution)) d0 (s .positive) (omega arith) (point-is s) p q)
-
-  pub flat-south :
-      SentToCap c (southPoint n e d) d u v g f → 2 * c .column + 1 ≡ rows c → 2 * c .row + 1 ≡ rows c → natAbs u ≡ 1000000000000000000 * v
-  unfolding southPoint
-  flat-south s p q =
-      let m : ℕ = rows c in
-      let w = mirrored m (2 * c .column + 1) (2 * c .row + 1) (m * g) (d * quarter * f) (turnOf (quotient e d) n) (subℕ (2 * remainder e d) (d * quarter)) (d * quarter) (omega arith) (point-is s) in
-      seen-flat s
-      (centre-flat m (2 * c .column + 1) (2 * m - (2 * c .row + 1)) d g f (remainder e d) (turnOf (quotient e d) n) (power-pos (c .resolution)) d0 (s .positive) (omega arith) w p (omega arith))
-
--- z at a pole
-pub flat-above : (u : ℤ) (v : ℕ) → pos 0 <ℤ u → natAbs u ≡ 1000000000000000000 * v → pos 1 *ℤ u ≡ pos v *ℤ pos 1000000000000000000
-flat-above u v p e = ap (λ (y : ℤ). pos 1 *ℤ y) (above-zero u p) ∙ ap pos (omega arith)
-
-pub flat-under : (u : ℤ) (v : ℕ) → u <ℤ pos 0 → natAbs u ≡ 1000000000000000000 * v → pos 1 *ℤ u ≡ pos v *ℤ negℤ (pos 1000000000000000000)
-flat-under u v p e =
-    ap (λ (y : ℤ). pos 1 *ℤ y) (under-zero u p)
-    ∙ sym (times-neg 1 (pos (natAbs u)))
-    ∙ ap (λ (y : ℕ). negℤ (pos y)) (let k : 1 * natAbs u ≡ v * 1000000000000000000 = omega arith in k)
-    ∙ times-neg v (pos 1000000000000000000)
+  flat-cap p q =
+      let y : ℕ = 1000000000000000000 * v in
+      let at : b ≡ m = centre-row south in
+      let z = centre-flat m a b d g f (remainder e d) (turnOf (quotient e d) n) (power-pos (c .resolution)) d0 (s .positive) (omega arith) north-is p at in
+      let w : 3 * (y - natAbs u) * (f * f) ≡ 0 = sym (s .height) ∙ ap (λ (k : ℕ). k * k * y) z ∙ zero-mul y in
+      ⊎-elim
+      (λ p. absurd (omega (arith, mul-pos {m = 3 * (y - natAbs u)} {n = f * f} (omega arith) (mul-pos (s .positive) (s .positive)))))
+      (λ p. omega (arith, s .within))
+      (lt-or 0 (y - natAbs u))
+    where
+      centre-row : (t : Bool) → rowSeen t m (2 * c .row + 1) ≡ m
+      centre-row true = omega arith
+      centre-row false = q

@@ -8,11 +8,12 @@ use lib.IntN.{pos, negℤ, subℕ, negℤ-negℤ, _*ℤ_}
 use Rattle.logic.specs.Laws.Order.{lt-or}
 use Rattle.logic.specs.Choice.{four}
 use Rattle.signed.specs.Laws.Sign.{pos-sub, neg-sub, sub-same, sub-neg}
-use Rattle.signed.specs.Laws.Times.{sub-cross, sub-times, times-neg}
+use Rattle.signed.specs.Laws.Times.{sub-cross, sub-times}
 use Rattle.cell.specs.Laws.Turns.{four-cases}
 use Rattle.locate.specs.Fix.{CapPoint, quarter, turnedNorth}
 use Rattle.nucleus.specs.Internal.Triangle.{middle, IsStart}
-use Rattle.nucleus.specs.Internal.SentLaws.{times, times-north, nothing}
+use Rattle.nucleus.specs.Internal.Caps.{times}
+use Rattle.nucleus.specs.Internal.SentLaws.{times-start, nothing}
 
 -- ---- a start, turned, lies in one triangle only
 
@@ -63,11 +64,6 @@ no-height h e r l x =
     (λ p q. omega arith) (λ p q. omega arith) (λ p q. omega arith) (λ p q. omega arith) r l
     (sub-cross (four r e h h 0) (four r h 0 e h) 0 0 (ap (λ (z : CapPoint). z .0) y)) (sub-cross (four r 0 e h h) (four r h h 0 e) 0 0 (ap (λ (z : CapPoint). z .1) y))
 
--- so many times
-times-start : (k h e r : ℕ) → times k (turnedNorth r (subℕ e h, negℤ (pos h))) ≡ turnedNorth r (subℕ (k * e) (k * h), negℤ (pos (k * h)))
-times-start k h e r =
-    sym (times-north k r (subℕ e h, negℤ (pos h))) ∙ ap (turnedNorth r) (λ i. (sub-times k e h i, sym (times-neg k (pos h)) i))
-
 -- ---- a cap: the start (2x - dQ, -dQ), turned t times and taken g/f times, against the middle of a cell
 
 module _ (m a b d g f x t : ℕ) (m0 : 0 < m) (d0 : 0 < d) (f0 : 0 < f) (ht : t < 4)
@@ -112,24 +108,15 @@ module _ (m a b d g f x t : ℕ) (m0 : 0 < m) (d0 : 0 < d) (f0 : 0 < f) (ht : t 
         absurd (omega (arith, scale-pos)))
         (lt-or 0 g)
 
-    pub one : (t ≡ r) × (m * g * (d * quarter) ≡ scale * h) × (m * g * (2 * x) ≡ scale * e)
-    one =
+    -- one turn, m g = f h, and 2 x h = dQ e
+    pub one-start : (t ≡ r) × (m * g ≡ f * h) × (2 * x * h ≡ d * quarter * e)
+    one-start =
         let p : 0 < m * g = mul-pos m0 rises in
         let q : m * g * (2 * x) < 2 * (m * g * (d * quarter)) = omega (arith, mul-left-comm (m * g) 2 x, mul-lt-mul-of-pos-left l p) in
         let w : scale * e < 2 * (scale * h) = omega (arith, mul-left-comm scale 2 h, mul-lt-mul-of-pos-left (s .within) (mul-pos deep f0)) in
-        starts-once (m * g * (d * quarter)) (m * g * (2 * x)) (scale * h) (scale * e) (mul-pos p deep) q scale-pos w t r ht (s .few) (began ∙ ended)
-
-    -- m g = f h
-    pub height-is : m * g ≡ f * h
-    height-is =
-        eq-of-mul-eq-mul-right (d * quarter) deep (m * g) (f * h)
-        (one .1 ∙ (let e : d * quarter * f * h ≡ f * h * (d * quarter) = simp (mul-assoc, mul-comm, mul-left-comm) in e))
-
-    -- 2 x h = dQ e
-    pub along-is : 2 * x * h ≡ d * quarter * e
-    along-is =
-        eq-of-mul-eq-mul-left f f0 (2 * x * h) (d * quarter * e)
-        ((let p : f * (2 * x * h) ≡ f * h * (2 * x) = simp (mul-assoc, mul-comm, mul-left-comm) in p)
-        ∙ ap (λ (y : ℕ). y * (2 * x)) (sym height-is)
-        ∙ one .2
-        ∙ (let p : d * quarter * f * e ≡ f * (d * quarter * e) = simp (mul-assoc, mul-comm, mul-left-comm) in p))
+        let k = starts-once (m * g * (d * quarter)) (m * g * (2 * x)) (scale * h) (scale * e) (mul-pos p deep) q scale-pos w t r ht (s .few) (began ∙ ended) in
+        let u : d * quarter * f * h ≡ f * h * (d * quarter) = simp (mul-assoc, mul-comm, mul-left-comm) in
+        let tall : m * g ≡ f * h = eq-of-mul-eq-mul-right (d * quarter) deep (m * g) (f * h) (k .1 ∙ u) in
+        let y : f * (2 * x * h) ≡ f * h * (2 * x) = simp (mul-assoc, mul-comm, mul-left-comm) in
+        let z : d * quarter * f * e ≡ f * (d * quarter * e) = simp (mul-assoc, mul-comm, mul-left-comm) in
+        (k .0, tall, eq-of-mul-eq-mul-left f f0 (2 * x * h) (d * quarter * e) (y ∙ ap (λ (y : ℕ). y * (2 * x)) (sym tall) ∙ k .2 ∙ z))

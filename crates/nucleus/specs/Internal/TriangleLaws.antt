@@ -1,19 +1,20 @@
 -- Each cell of a cap but the middle one has its middle in one of four triangles: how often its start was turned, the start's height and the place
 -- along it. With a = 2j + 1 and b = 2i + 1 the middle is (a - m, m - b), and four comparisons of a with b and of a + b with 2m decide. Assumes nothing.
-use mathlib.Core.Path.{_≡_, refl, ap, ap₂, _∙_}
-use mathlib.Core.Bool.{Bool, true, false, _&&_}
+use mathlib.Core.Path.{_≡_, refl, sym, ap, ap₂, _∙_}
+use mathlib.Core.Bool.{Bool, true, false, _&&_, cond}
 use mathlib.Core.Logic.{_⊎_, inl, inr, ⊎-elim}
-use Prim.Native.Nat.{ℕ, _+_, _-_, _*_, _^_, _≤_, _<_}
+use Prim.Native.Nat.{ℕ, _+_, _-_, _*_, _≤_, _<_}
 use native.Mathlib.Omega.{arith}
-use lib.IntN.{ℤ, pos, negℤ, subℕ, negℤ-negℤ}
+use lib.IntN.{ℤ, subℕ, negℤ-negℤ}
 use lib.Signed.{ltZ}
 use lib.Dec.{leb, ltb}
 use borrow.Author.Tests.{le-leb, lt-leb, lt-ltb, le-ltb}
 use Rattle.logic.specs.Laws.Order.{lt-or, three-ways}
-use Rattle.signed.specs.Laws.Sign.{pos-sub, neg-sub, sub-same, sub-neg, sub-le, sub-lt}
-use Rattle.locate.specs.Fix.{CapPoint, turnedNorth, turnedSouth}
+use Rattle.signed.specs.Laws.Sign.{neg-sub, sub-same, sub-neg, sub-le, sub-lt}
+use Rattle.locate.specs.Fix.{turnedNorth, turnedSouth}
 use Rattle.nucleus.specs.Nucleus.{startsNorth, turnsNorth}
-use Rattle.nucleus.specs.Internal.Triangle.{middle, InFace, OffCentre, IsStart}
+use Rattle.nucleus.specs.Internal.Triangle.{middle, OffCentre, IsStart}
+use Rattle.nucleus.specs.Internal.MirrorLaws.{turned-forth}
 
 -- ---- a start's triangle, for differences of whole numbers
 
@@ -45,38 +46,36 @@ module _ (m a b : ℕ) where
   unfolding turnedSouth
   twice = λ i. (sub-neg a m i, sub-neg m b i)
 
+  thrice : turnedSouth 3 (middle m a b) ≡ (subℕ b m, subℕ a m)
+  unfolding turnedSouth
+  thrice = λ i. (sub-neg m b i, negℤ-negℤ (subℕ a m) i)
+
   -- the first turn that reaches a start's triangle
-  turns-0 : startsNorth (middle m a b) ≡ true → turnsNorth (middle m a b) ≡ 0
+  turns-at :
+      (p q r : Bool) → startsNorth (middle m a b) ≡ p → startsNorth (subℕ m b, subℕ m a) ≡ q → startsNorth (subℕ m a, subℕ b m) ≡ r →
+      turnsNorth (middle m a b) ≡ cond p 0 (cond q 1 (cond r 2 3))
   unfolding turnsNorth turnedSouth
-  turns-0 e = rw e
-
-  turns-1 : startsNorth (middle m a b) ≡ false → startsNorth (subℕ m b, subℕ m a) ≡ true → turnsNorth (middle m a b) ≡ 1
-  unfolding turnsNorth turnedSouth
-  turns-1 e f = rw (e, ap startsNorth once ∙ f)
-
-  turns-2 : startsNorth (middle m a b) ≡ false → startsNorth (subℕ m b, subℕ m a) ≡ false → startsNorth (subℕ m a, subℕ b m) ≡ true → turnsNorth (middle m a b) ≡ 2
-  unfolding turnsNorth turnedSouth
-  turns-2 e f g = rw (e, ap startsNorth once ∙ f, ap startsNorth twice ∙ g)
-
-  turns-3 : startsNorth (middle m a b) ≡ false → startsNorth (subℕ m b, subℕ m a) ≡ false → startsNorth (subℕ m a, subℕ b m) ≡ false → turnsNorth (middle m a b) ≡ 3
-  unfolding turnsNorth turnedSouth
-  turns-3 e f g = rw (e, ap startsNorth once ∙ f, ap startsNorth twice ∙ g)
+  turns-at p q r e f g = rw (e, ap startsNorth once ∙ f, ap startsNorth twice ∙ g)
 
 -- ---- the start of a middle that is not the centre
 
--- the two numbers of a start, each as it is or as its opposite
-module _ (e h : ℕ) where
-  plain : (c d : ℕ) → e + d ≡ c + h → subℕ e h ≡ subℕ c d
-  plain c d x = sub-same e h c d x
-
-  turned : (c d : ℕ) → h + d ≡ c + e → negℤ (subℕ e h) ≡ subℕ c d
-  turned c d x = sub-neg e h ∙ sub-same h e c d x
-
-down : (h c d : ℕ) → d ≡ c + h → negℤ (pos h) ≡ subℕ c d
-down h c d x = neg-sub h ∙ sub-same 0 h c d (omega arith)
-
-up : (h c d : ℕ) → h + d ≡ c → negℤ (negℤ (pos h)) ≡ subℕ c d
-up h c d x = negℤ-negℤ (pos h) ∙ pos-sub h ∙ sub-same h 0 c d (omega arith)
+-- from the triangle's inequalities for the middle turned back, (p - q, s - t)
+start-at :
+    {m a b : ℕ} (r p q s t e : ℕ) → r < 4 → turnedSouth r (middle m a b) ≡ (subℕ p q, subℕ s t) → turnsNorth (middle m a b) ≡ r → OffCentre m a b →
+    (s < t) × (t < s + m) × (p + s < t + q) × (e + q + s ≡ p + t) → IsStart m a b r (t - s) e
+start-at {m} {a} {b} r p q s t e few back turns apart (l, k, n, o) =
+    record {
+      apart = apart;
+      few = few;
+      tall = omega arith;
+      low = omega arith;
+      within = omega arith;
+      turns = turns;
+      point =
+          ap (turnedNorth r) (λ i. (sub-same e (t - s) p q (omega arith) i, (neg-sub (t - s) ∙ sub-same 0 (t - s) s t (omega arith)) i))
+          ∙ ap (turnedNorth r) (sym back)
+          ∙ turned-forth r (middle m a b);
+    }
 
 -- on the seam of turns 2 and 3, which ends at the centre
 pub before-centre : (m a b : ℕ) → a + b ≤ 2 * m → a ≡ b → OffCentre m a b → a + b < 2 * m
@@ -84,64 +83,27 @@ before-centre m a b h e n = ⊎-elim (λ l. l) (λ l. absurd (n (omega arith) (o
 
 module _ (m a b : ℕ) (ha : 0 < a) (la : a < 2 * m) (hb : 0 < b) (lb : b < 2 * m) where
   pub start-0 : 2 * m ≤ a + b → a < b → IsStart m a b 0 (b - m) (a + b - 2 * m)
-  unfolding turnedNorth
+  unfolding turnedSouth
   start-0 h l =
-      let e : ℕ = a + b - 2 * m in
-      record {
-        apart = λ x y. omega arith;
-        few = omega arith;
-        tall = omega arith;
-        low = omega arith;
-        within = omega arith;
-        turns = turns-0 m a b (starts-yes a m m b (omega arith) (omega arith));
-        point = λ i. (plain e (b - m) a m (omega arith) i, down (b - m) m b (omega arith) i);
-      }
+      start-at 0 a m m b (a + b - 2 * m) (omega arith) refl
+      (turns-at m a b true _ _ (starts-yes a m m b (omega arith) (omega arith)) refl refl) (λ x y. omega arith) (omega arith)
 
   pub start-1 : 2 * m < a + b → b ≤ a → IsStart m a b 1 (a - m) (a - b)
-  unfolding turnedNorth
   start-1 h l =
-      let e : ℕ = a - b in
-      record {
-        apart = λ x y. omega arith;
-        few = omega arith;
-        tall = omega arith;
-        low = omega arith;
-        within = omega arith;
-        turns = turns-1 m a b (starts-high a m m b (omega arith)) (starts-yes m b m a (omega arith) (omega arith));
-        point = λ i. (up (a - m) a m (omega arith) i, plain e (a - m) m b (omega arith) i);
-      }
+      start-at 1 m b m a (a - b) (omega arith) (once m a b)
+      (turns-at m a b false true _ (starts-high a m m b (omega arith)) (starts-yes m b m a (omega arith) (omega arith)) refl) (λ x y. omega arith) (omega arith)
 
   pub start-2 : a + b ≤ 2 * m → b < a → IsStart m a b 2 (m - b) (2 * m - (a + b))
-  unfolding turnedNorth
   start-2 h l =
-      let e : ℕ = 2 * m - (a + b) in
-      record {
-        apart = λ x y. omega arith;
-        few = omega arith;
-        tall = omega arith;
-        low = omega arith;
-        within = omega arith;
-        turns =
-            turns-2 m a b (starts-high a m m b (omega arith)) (starts-high m b m a (omega arith))
-            (starts-yes m a b m (omega arith) (omega arith));
-        point = λ i. (turned e (m - b) a m (omega arith) i, up (m - b) m b (omega arith) i);
-      }
+      start-at 2 m a b m (2 * m - (a + b)) (omega arith) (twice m a b)
+      (turns-at m a b false false true (starts-high a m m b (omega arith)) (starts-high m b m a (omega arith)) (starts-yes m a b m (omega arith) (omega arith)))
+      (λ x y. omega arith) (omega arith)
 
   pub start-3 : a + b < 2 * m → a ≤ b → IsStart m a b 3 (m - a) (b - a)
-  unfolding turnedNorth
   start-3 h l =
-      let e : ℕ = b - a in
-      let x = negℤ (negℤ (negℤ (pos (m - a)))) in
-      record {
-        apart = λ x y. omega arith;
-        few = omega arith;
-        tall = omega arith;
-        low = omega arith;
-        within = omega arith;
-        turns =
-            turns-3 m a b (starts-low a m m b (omega arith)) (starts-high m b m a (omega arith)) (starts-high m a b m (omega arith));
-        point = λ i. ((negℤ-negℤ (negℤ (pos (m - a))) ∙ down (m - a) a m (omega arith)) i, turned e (m - a) m b (omega arith) i);
-      }
+      start-at 3 b m a m (b - a) (omega arith) (thrice m a b)
+      (turns-at m a b false false false (starts-low a m m b (omega arith)) (starts-high m b m a (omega arith)) (starts-high m a b m (omega arith)))
+      (λ x y. omega arith) (omega arith)
 
   -- one of the four holds
   pub start : OffCentre m a b → (r : ℕ) × (h : ℕ) × (e : ℕ) × IsStart m a b r h e

@@ -1,6 +1,7 @@
 -- "On a seam of two triangles the point counts as the western edge (t = -1/2) of the eastern one" (01 "From a fix to a cell"): the ground nucleus of a
 -- cell whose middle lies on a diagonal of its cap has the longitude where the eastern triangle's face of O to R begins. Assumes nothing.
 use mathlib.Core.Path.{_≡_, ap, _∙_, subst}
+use mathlib.Core.Bool.{Bool, true, false, cond}
 use mathlib.Core.Logic.{_⊎_, ⊎-elim}
 use Prim.Native.Nat.{ℕ, _+_, _-_, _*_, _/_, _%_, _<_}
 use native.Mathlib.Nat.{zero-div}
@@ -17,10 +18,11 @@ use Rattle.cell.specs.Laws.Turns.{four-cases}
 use Rattle.locate.specs.Fix.{quarter}
 use Rattle.nucleus.specs.declared.Fix.{Fix}
 use Rattle.nucleus.specs.Nucleus.{capLongitude, groundNucleus}
+use Rattle.nucleus.specs.Internal.Caps.{capFace, firstIn, rowSeen}
 use Rattle.nucleus.specs.Internal.TriangleLaws.{start-0, start-1, start-2, start-3}
 use Rattle.nucleus.specs.Internal.Triangle.{IsStart}
-use Rattle.nucleus.specs.Internal.StartLaws.{north-is, south-is}
-use Rattle.nucleus.specs.Internal.PlaceLaws.{on-north, on-south}
+use Rattle.nucleus.specs.Internal.StartLaws.{cap-is}
+use Rattle.nucleus.specs.Internal.PlaceLaws.{on-cap}
 
 -- the half diagonals of a face, from its centre to a corner: row and column are equal, or add up to m - 1
 abbrev pub ToTopLeft : Cell → Type 0
@@ -65,19 +67,17 @@ on-diagonal c d n =
 
 -- ---- the start of such a middle is at t = -1/2
 
-module _ (m a b : ℕ) (ha : 0 < a) (la : a < 2 * m) (hb : 0 < b) (lb : b < 2 * m) where
-  abbrev West : ℕ → Type 0
-  West r = (h : ℕ) × IsStart m a b r h 0
+-- the same diagonal by a = 2j + 1 and b = 2i + 1
+abbrev Western : (m a b turn : ℕ) → Type 0
+Western m a b turn = four turn ((a + b ≡ 2 * m) × (a < b)) ((a ≡ b) × (2 * m < a + b)) ((a + b ≡ 2 * m) × (b < a)) ((a ≡ b) × (a + b < 2 * m))
 
-  along : {r h e : ℕ} → IsStart m a b r h e → e ≡ 0 → West r
+module _ (m a b : ℕ) (ha : 0 < a) (la : a < 2 * m) (hb : 0 < b) (lb : b < 2 * m) where
+  along : {r h e : ℕ} → IsStart m a b r h e → e ≡ 0 → (h : ℕ) × IsStart m a b r h 0
   along {r} {h} s z = (h, subst (IsStart m a b r h) z s)
 
-  west :
-      (r : ℕ) → r < 4 →
-      four r ((a + b ≡ 2 * m) × (a < b)) ((a ≡ b) × (2 * m < a + b)) ((a + b ≡ 2 * m) × (b < a)) ((a ≡ b) × (a + b < 2 * m)) → West r
+  west : (r : ℕ) → r < 4 → Western m a b r → (h : ℕ) × IsStart m a b r h 0
   west r l =
-      four-cases
-      (λ (x : ℕ). four x ((a + b ≡ 2 * m) × (a < b)) ((a ≡ b) × (2 * m < a + b)) ((a + b ≡ 2 * m) × (b < a)) ((a ≡ b) × (a + b < 2 * m)) → West x)
+      four-cases (λ (x : ℕ). Western m a b x → (h : ℕ) × IsStart m a b x h 0)
       (λ d. along (start-0 m a b ha la hb lb (omega (arith, d .0)) (d .1)) (omega (arith, d .0)))
       (λ d. along (start-1 m a b ha la hb lb (d .1) (omega (arith, d .0))) (omega (arith, d .0)))
       (λ d. along (start-2 m a b ha la hb lb (omega (arith, d .0)) (d .1)) (omega (arith, d .0)))
@@ -85,38 +85,24 @@ module _ (m a b : ℕ) (ha : 0 < a) (la : a < 2 * m) (hb : 0 < b) (lb : b < 2 * 
       r
       l
 
-module _ {c : Cell} (v : IsCell c) where
-  abbrev j : ℕ
-  j = 2 * c .column + 1
+module _ {c : Cell} (v : IsCell c) (r : ℕ) (l : r < 4) where
+  abbrev a : ℕ
+  a = 2 * c .column + 1
 
-  abbrev i : ℕ
-  i = 2 * c .row + 1
+  abbrev b : Bool → ℕ
+  b south = rowSeen south (rows c) (2 * c .row + 1)
 
-  north-west : (r : ℕ) → r < 4 → SeamNorth c r → (h : ℕ) × IsStart (rows c) j i r h 0
-  north-west r l =
+  west-of : (south : Bool) → cond south (SeamSouth c r) (SeamNorth c r) → (h : ℕ) × IsStart (rows c) a (b south) r h 0
+  west-of true d =
       let y = v .rowed in
       let x = v .columned in
-      let w = west (rows c) j i (omega arith) (omega arith) (omega arith) (omega arith) in
-      four-cases (λ (t : ℕ). SeamNorth c t → (h : ℕ) × IsStart (rows c) j i t h 0)
-      (λ d. w 0 (omega arith) (omega (arith, d .0), omega (arith, d .1)))
-      (λ d. w 1 (omega arith) (omega (arith, d .0), omega (arith, d .0, d .1)))
-      (λ d. w 2 (omega arith) (omega (arith, d .0), omega (arith, d .1)))
-      (λ d. w 3 (omega arith) (omega (arith, d .0), omega (arith, d .0, d .1)))
-      r
-      l
-
-  south-west : (r : ℕ) → r < 4 → SeamSouth c r → (h : ℕ) × IsStart (rows c) j (2 * rows c - i) r h 0
-  south-west r l =
+      west (rows c) a (b true) (omega arith) (omega arith) (omega arith) (omega arith) r l
+      (four-cases (λ (t : ℕ). SeamSouth c t → Western (rows c) a (b true) t) (λ d. omega (arith, d)) (λ d. omega (arith, d)) (λ d. omega (arith, d)) (λ d. omega (arith, d)) r l d)
+  west-of false d =
       let y = v .rowed in
       let x = v .columned in
-      let w = west (rows c) j (2 * rows c - i) (omega arith) (omega arith) (omega arith) (omega arith) in
-      four-cases (λ (t : ℕ). SeamSouth c t → (h : ℕ) × IsStart (rows c) j (2 * rows c - i) t h 0)
-      (λ d. w 0 (omega arith) (omega (arith, d .0), omega (arith, d .0, d .1)))
-      (λ d. w 1 (omega arith) (omega (arith, d .0), omega (arith, d .0, d .1)))
-      (λ d. w 2 (omega arith) (omega (arith, d .0), omega (arith, d .0, d .1)))
-      (λ d. w 3 (omega arith) (omega (arith, d .0), omega (arith, d .0, d .1)))
-      r
-      l
+      west (rows c) a (b false) (omega arith) (omega arith) (omega arith) (omega arith) r l
+      (four-cases (λ (t : ℕ). SeamNorth c t → Western (rows c) a (b false) t) (λ d. omega (arith, d)) (λ d. omega (arith, d)) (λ d. omega (arith, d)) (λ d. omega (arith, d)) r l d)
 
 -- ---- L + 1,800,000,000 is a multiple of 900,000,000, so that a is 0, and c is the face of the eastern triangle
 
@@ -132,16 +118,19 @@ western n r h =
     ∙ ap pos (omega arith)
 
 module _ (a : Arrangement) {c : Cell} (r : ℕ) (v : IsCell c) (l : r < 4) where
+  seam :
+      (south : Bool) → c .face ≡ capFace south → cond south (SeamSouth c r) (SeamNorth c r) →
+      groundNucleus a c .longitude +ℤ pos 1800000000 ≡ pos ((firstIn south a + r) % 4 * quarter)
+  seam south f d =
+      let s = west-of v r l south d in
+      let k = v .rowed in
+      let n : ℕ = firstIn south a in
+      ap (λ (x : Fix). x .longitude +ℤ pos 1800000000)
+      (on-cap a c south f ∙ cap-is south n (rows c) (2 * c .column + 1) (2 * c .row + 1) r (s .0) 0 (omega arith) (s .1))
+      ∙ western n r (s .0)
+
   pub seam-north : c .face ≡ 0 → SeamNorth c r → groundNucleus a c .longitude +ℤ pos 1800000000 ≡ pos ((a .north + r) % 4 * quarter)
-  seam-north f d =
-      let s = north-west v r l d in
-      ap (λ (x : Fix). x .longitude +ℤ pos 1800000000) (on-north a c f ∙ north-is (rows c) (2 * c .column + 1) (2 * c .row + 1) r (s .0) 0 (s .1) (a .north))
-      ∙ western (a .north) r (s .0)
+  seam-north f d = seam false f d
 
   pub seam-south : c .face ≡ 5 → SeamSouth c r → groundNucleus a c .longitude +ℤ pos 1800000000 ≡ pos ((a .south + r) % 4 * quarter)
-  seam-south f d =
-      let s = south-west v r l d in
-      let k = v .rowed in
-      ap (λ (x : Fix). x .longitude +ℤ pos 1800000000)
-      (on-south a c f ∙ south-is (rows c) (2 * c .column + 1) (2 * c .row + 1) r (s .0) 0 (omega arith) (s .1) (a .south))
-      ∙ western (a .south) r (s .0)
+  seam-south f d = seam true f d

@@ -109,12 +109,16 @@ belt-is n y =
 next-face : (c : ℕ) → (c + 1) * faceSide ≡ c * faceSide + faceSide
 next-face c = omega arith
 
-pub north-is : (a : Arrangement) (n : ℕ) (y : ℤ) → inNorth a (pos n) y ≡ ((ltb (a .north * faceSide) n && ltb n (a .north * faceSide + faceSide)) && (ltb (depthBelow y) faceSide && ltb 0 (depthBelow y)))
+pub north-is :
+    (a : Arrangement) (n : ℕ) (y : ℤ) →
+    inNorth a (pos n) y ≡ ((ltb (a .north * faceSide) n && ltb n (a .north * faceSide + faceSide)) && (ltb (depthBelow y) faceSide && ltb 0 (depthBelow y)))
 unfolding inNorth
 north-is a n y =
     ap₂ _&&_ (ap (λ (x : ℕ). ltb (a .north * faceSide) n && ltb n x) (next-face (a .north))) (ap₂ _&&_ (edge-lt faceSide (omega arith) y) (lt-edge 0 y))
 
-pub south-is : (a : Arrangement) (n : ℕ) (y : ℤ) → inSouth a (pos n) y ≡ ((ltb (a .south * faceSide) n && ltb n (a .south * faceSide + faceSide)) && (ltb (depthBelow y) (3 * faceSide) && ltb (2 * faceSide) (depthBelow y)))
+pub south-is :
+    (a : Arrangement) (n : ℕ) (y : ℤ) →
+    inSouth a (pos n) y ≡ ((ltb (a .south * faceSide) n && ltb n (a .south * faceSide + faceSide)) && (ltb (depthBelow y) (3 * faceSide) && ltb (2 * faceSide) (depthBelow y)))
 unfolding inSouth
 south-is a n y =
     ap₂ _&&_ (ap (λ (x : ℕ). ltb (a .south * faceSide) n && ltb n x) (next-face (a .south))) (ap₂ _&&_ (edge-lt (3 * faceSide) (omega arith) y) (lt-edge (2 * faceSide) y))

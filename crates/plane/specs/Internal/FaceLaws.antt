@@ -112,7 +112,9 @@ module _ {k : ℕ} (g : k ≤ 15) (top d : ℕ) where
           edge (eqb (d - top) faceSide) refl (f .0) (eqb-true (i + 1) (3 ^ k) (f .1)) q
       go false e q = strict q
 
-  pub last-out : (b : Bool) → top ≤ d → Beyond b d (top + faceSide) → (rowAt k (d - top) < 3 ^ k) × (top + rowAt k (d - top) * sideOf k ≤ d) × Beyond (b && eqb (rowAt k (d - top) + 1) (3 ^ k)) d (top + rowAt k (d - top) * sideOf k + sideOf k)
+  pub last-out :
+      (b : Bool) → top ≤ d → Beyond b d (top + faceSide) →
+      (rowAt k (d - top) < 3 ^ k) × (top + rowAt k (d - top) * sideOf k ≤ d) × Beyond (b && eqb (rowAt k (d - top) + 1) (3 ^ k)) d (top + rowAt k (d - top) * sideOf k + sideOf k)
   last-out b h l = go (eqb (d - top) faceSide) refl
     where
       Stands : ℕ → Type 0
@@ -122,7 +124,8 @@ module _ {k : ℕ} (g : k ≤ 15) (top d : ℕ) where
       inner q =
           let p = side-pos k in
           let w = whole g in
-          (div-lt-iff-lt-mul {k = sideOf k} {x = d - top} {y = 3 ^ k} p .1 (omega arith), part-low (sideOf k) top d p h, strictly (b && eqb ((d - top) / sideOf k + 1) (3 ^ k)) (part-high (sideOf k) top d p h))
+          let l = div-lt-iff-lt-mul {k = sideOf k} {x = d - top} {y = 3 ^ k} p .1 (omega arith) in
+          (l, part-low (sideOf k) top d p h, strictly (b && eqb ((d - top) / sideOf k + 1) (3 ^ k)) (part-high (sideOf k) top d p h))
 
       outer : (x : Bool) → b ≡ x → Beyond x d (top + faceSide) → d - top ≡ faceSide → Stands (3 ^ k - 1)
       outer true f q e =

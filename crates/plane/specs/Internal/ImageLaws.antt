@@ -157,7 +157,9 @@ unfolding foundAt foundOnCap foundOnBelt
 found-is a k n y = go (decLe faceSide (depthBelow y)) (decLe (depthBelow y) (2 * faceSide))
   where
     -- one of the three: its test is the image's, and where it passes its cell is the point's
-    part : (t : Bool) (x : Cell) → inImage a (pos n) y ≡ t → (t ≡ true → pointCell a k (pos n) y ≡ x) → found (refuse (not (inImage a (pos n) y)) 7) (pointCell a k (pos n) y) ≡ found (refuse (not t) 7) x
+    part :
+        (t : Bool) (x : Cell) → inImage a (pos n) y ≡ t → (t ≡ true → pointCell a k (pos n) y ≡ x) →
+        found (refuse (not (inImage a (pos n) y)) 7) (pointCell a k (pos n) y) ≡ found (refuse (not t) 7) x
     part t x e f = ap (λ (u : Bool). found (refuse (not u) 7) (pointCell a k (pos n) y)) e ∙ same-found t (pointCell a k (pos n) y) x f
 
     go : Dec (faceSide ≤ depthBelow y) → Dec (depthBelow y ≤ 2 * faceSide) → found (refuse (not (inImage a (pos n) y)) 7) (pointCell a k (pos n) y) ≡ foundAt a k n (depthBelow y)

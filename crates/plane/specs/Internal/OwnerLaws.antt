@@ -130,7 +130,9 @@ module _ (a : Arrangement) (n : ℕ) (y : ℤ) where
       top : (t u : Bool) → ℕ
       top t u = cond t 0 (cond u faceSide (2 * faceSide))
 
-      go : (t u : Bool) → ltb face 1 ≡ t → ltb face 5 ≡ u → OnFace (cond t false (cond u true false)) (left t u) (top t u) n d → (inImage a (pos n) y ≡ true) × (pointCell a k (pos n) y ≡ cellAt face k (n - left t u) (d - top t u))
+      go :
+          (t u : Bool) → ltb face 1 ≡ t → ltb face 5 ≡ u → OnFace (cond t false (cond u true false)) (left t u) (top t u) n d →
+          (inImage a (pos n) y ≡ true) × (pointCell a k (pos n) y ≡ cellAt face k (n - left t u) (d - top t u))
       go true u e f p =
           let z = ltb-true face 1 e in
           let s : d < faceSide = p .south in

@@ -23,7 +23,9 @@ use Rattle.plane.specs.Internal.FaceLaws.{strictly, square-face, face-sq
 use Rattle.plane.specs.Internal.OwnerLaws.{On, cellOn, not-west, not-above, owns-square, square-owns, image-face, face-image}
 
 -- a point on a face is owned by the cell at its distances from the face's edges
-on-face : (a : Arrangement) (k n : ℕ) (y : ℤ) (face : ℕ) → face ≤ 5 → k ≤ 15 → leZ y (pos threeHalves) ≡ true → On a face n y → IsCell (cellOn a face k n y) × (cellOn a face k n y .resolution ≡ k) × Owns a (cellOn a face k n y) (pos n) y
+on-face :
+    (a : Arrangement) (k n : ℕ) (y : ℤ) (face : ℕ) → face ≤ 5 → k ≤ 15 → leZ y (pos threeHalves) ≡ true → On a face n y →
+    IsCell (cellOn a face k n y) × (cellOn a face k n y .resolution ≡ k) × Owns a (cellOn a face k n y) (pos n) y
 unfolding cellAt
 on-face a k n y face f g t o =
     let c : Cell = cellOn a face k n y in

@@ -10,14 +10,10 @@ use Rattle.ternary.proofs.nine_power.Tie as tie
 square : (c : tie.After-power) → c .power .result * c .power .result ≡ 9 ^ c .before .args .e
 square c = ap₂ _*_ (c .power .ensures) (c .power .ensures) ∙ sym (nine-square (c .before .args .e))
 
-power-requires : tie.Need-power-requires
-power-requires c κs = search needs
-
-mul-result : tie.Need-mul-result
-mul-result c = let e = square c in let h = nine-le {i = c .before .args .e} {j = 15} (c .before .pre) in omega arith
-
 returns : tie.Need-returns
 returns c = square c
 
 pub nine-power-spec : {M : Type 1} → statement M
-nine-power-spec = tie.close (tie.spec power-requires mul-result returns)
+nine-power-spec =
+    tie.close
+    (tie.spec (λ c κs. search needs) (λ c. omega (arith, square c, nine-le {i = c .before .args .e} {j = 15} (c .before .pre))) returns)
