@@ -39,7 +39,7 @@ folds! {
     Cell { face, resolution, row, column }
     Length { length }
     Fix { longitude, z }
-    Check { place, cells, size }
+    Check { place, n, s, cells, size }
     List { place, count }
     Ask { place, covered }
 }

@@ -122,6 +122,10 @@ fn spoil(random: &mut Random, text: &mut Vec<u8>) {
 fn texts(random: &mut Random) {
     let resolution = 5 + random.below(11);
     let (_, mut text) = swath(random, resolution, 300);
+    if random.below(4) == 0 {
+        text[5] = b'0' + random.below(4) as u8;
+        text[6] = b'0' + random.below(4) as u8;
+    }
     spoil(random, &mut text);
     let (at, length, n, room) = (
         text.as_ptr(),

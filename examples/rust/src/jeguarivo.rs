@@ -48,7 +48,7 @@ answers! {
     Point { x: i64, y: i64 }
     Vertices { x: [i64; 4], y: [i64; 4] }
     Fix { longitude: i64, z: i64 }
-    Check at place { cells: u64, size: u64 }
+    Check at place { n: u64, s: u64, cells: u64, size: u64 }
     List at place { count: u64 }
     Ask at place { covered: u64 }
 }
@@ -173,7 +173,7 @@ pub fn neighbour(n: u64, s: u64, code: u64, direction: u64) -> Answer<u64> {
     Ok(jgv_neighbour(n, s, code, direction).read()?.code)
 }
 
-/// The number of a text's whole cells and the sum of their sizes.
+/// A text's n and s, the number of its whole cells and the sum of their sizes.
 pub fn coverage_check(text: &[u8]) -> Answer<Check> {
     lent::coverage_check(text).read()
 }

@@ -143,8 +143,8 @@ fn coverage() -> Answer<()> {
     write_text(&["O", "P0", "P1", "P2", "P3", "P4", "P5", "P6", "P7", "P8"], &mut room)?;
     let text = write_text(&["P3", "P41"], &mut room)?;
 
-    let check = coverage_check(text)?;
-    println!("coverage_check: P(34(1)) -> {} whole cells, size {}", check.cells, check.size);
+    let Check { n, s, cells, size, .. } = coverage_check(text)?;
+    println!("coverage_check: P(34(1)) -> n {n}, s {s}, {cells} whole cells, size {size}");
     let mut codes = [0; 32]; // a text has fewer whole cells than bytes
     let listed = coverage_list(text, &mut codes)?;
     let names = listed.iter().map(|&code| name_of(code)).collect::<Answer<Vec<String>>>()?;

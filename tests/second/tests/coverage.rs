@@ -293,17 +293,19 @@ mod all_short_texts {
 #[cfg(proved)]
 mod printed {
     use jeguarivo::{Check, Length, List};
-    use second::coverage::{self, HEADING, LONGEST};
+    use second::coverage::{self, heading, HEADING, LONGEST};
     use second::grid::{code_of, finest_cells};
     use second::proved::{coverage as proved, Like};
 
-    /// Both programs check a text to this refusal, place, number of cells and sum of sizes.
+    /// Both programs check a text of the arrangement (0, 0) to this refusal, place, number of cells
+    /// and sum of sizes.
     fn is(text: &[u8], refusal: u64, place: u64, cells: u64, size: u64) {
         let wanted = Check {
             refusal,
             place,
             cells,
             size,
+            ..Check::default()
         };
         assert_eq!(Check::like(coverage::check(text)), wanted);
         assert_eq!(proved::check(text), wanted, "{}", text.escape_ascii());
@@ -421,6 +423,25 @@ mod printed {
             let text = by_second.unwrap_or_default();
             let after = [&text[..], &vec![0xEE; lent.len() - text.len()]].concat();
             assert_eq!(&lent[..], &after);
+        }
+    }
+
+    /// A text names its own arrangement; a refused one does not.
+    #[test]
+    fn arrangements() {
+        for (n, s) in (0..16).map(|both| (both / 4, both % 4)) {
+            let mut text = [&heading(n, s)[..], b"N(8)S"].concat();
+            let wanted = Check {
+                n,
+                s,
+                cells: 2,
+                size: 9u64.pow(15) + 9u64.pow(14),
+                ..Check::default()
+            };
+            assert_eq!(Check::like(coverage::check(&text)), wanted);
+            assert_eq!(proved::check(&text), wanted);
+            text.push(b'S');
+            is(&text, 9, 12, 0, 0);
         }
     }
 
