@@ -292,15 +292,7 @@ pub fn write(arrangement: Arrangement, codes: &[u64], text: &mut [u8]) -> Writte
         return Written::Refused(8);
     }
     put_heading(text, north, south);
-    put_list(
-        codes,
-        0,
-        6,
-        0,
-        code::FACE_SIZE,
-        text,
-        reading::HEADING,
-        b'N',
-    );
+    let body = reading::HEADING;
+    put_list(codes, 0, 6, 0, code::FACE_SIZE, text, body, b'N');
     Written::Length(length)
 }
