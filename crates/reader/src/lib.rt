@@ -166,30 +166,22 @@ fn check_body(text: &[u8]) -> Checked
     requires { ⌜ (length (now text) ≤ 65536) × (7 ≤ lead least greatest (now text)) ⌝ }
     ensures { λ r. ⌜ r ≡ checkedOf (now (text .entry)) ⌝ }
 {
-    let NodesRead::Read(next, cells, size, _) = nodes(
-        text,
-        reading::HEADING,
-        Level::Faces,
-        15,
-        code::FACE_SIZE,
-    ) else {
-        return refused(
-            9,
-            place::place(text, reading::HEADING, Level::Faces, 15) as u64,
-        );
+    let body = reading::HEADING;
+    let NodesRead::Read(next, cells, size, _) = nodes(text, body, Level::Faces, 15, code::FACE_SIZE)
+    else {
+        return refused(9, place::place(text, body, Level::Faces, 15) as u64);
     };
     if next < text.len() {
-        return refused(
-            9,
-            place::place(text, reading::HEADING, Level::Faces, 15) as u64,
-        );
+        return refused(9, place::place(text, body, Level::Faces, 15) as u64);
     }
+    let north = (text[5] - b'0') as u64;
+    let south = (text[6] - b'0') as u64;
     Checked::Text {
-        north: (text[5] - b'0') as u64,
-        south: (text[6] - b'0') as u64,
+        north,
+        south,
         cells,
         size,
-        body: reading::HEADING,
+        body,
     }
 }
 
