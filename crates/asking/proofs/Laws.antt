@@ -10,7 +10,7 @@ use lib.ListN.{length, drop, getD, drop-of-length-le}
 use lib.Seq.{drop-drop, drop-append-add}
 use lib.Dec.{leb, eqb}
 use borrow.Author.Tests.{le-leb, lt-leb}
-use Rattle.logic.specs.Laws.Bools.{clash}
+use Rattle.logic.specs.Laws.Bools.{clash, and-none}
 use Rattle.logic.specs.Laws.Order.{lt-or}
 use Rattle.reading.specs.declared.Level.{Level}
 use Rattle.reading.specs.declared.Level.the-variants.{Faces, Digits}
@@ -23,7 +23,7 @@ use Rattle.walk.specs.Walk.{opens, wholeAt}
 use Rattle.walk.specs.Past.{nodeIn}
 use Rattle.walk.specs.Laws.Walk.{not-shut, whole-name, opens-nodes, byte-at}
 use Rattle.walk.specs.Laws.Past.{node-whole, node-listed}
-use Rattle.asking.specs.Internal.AskNodes.{anyIn, and-none, in-short, in-behind}
+use Rattle.asking.specs.Internal.AskNodes.{anyIn, in-short, in-behind}
 
 -- the byte at a place, where the bytes from there on are known
 module _ (t : List ℕ) (i : ℕ) {b : ℕ} {bs : List ℕ} (e : drop i t ≡ b ∷ bs) where
@@ -233,7 +233,8 @@ module _ {t : List ℕ} {from to : ℕ} {r : Bool} {base before size i : ℕ} (v
     unfolding anyIn
     asks-into m w = go (v .nodes) (v .left) (v .good) (v .same)
       where
-        go : (ns : Nodes) → drop i t ≡ render (v .level) ns ++ v .rest → Good (v .level) (v .depth) (v .lo) ns → anyIn from to before size ns ≡ r → Asks t from to r 48 starts (size / 9) (i + 2)
+        go : (ns : Nodes) → drop i t ≡ render (v .level) ns ++ v .rest → Good (v .level) (v .depth) (v .lo) ns → anyIn from to before size ns ≡ r → Asks t from to r 48 starts
+            (size / 9) (i + 2)
         go end e g s = absurd (none (v .rest) (v .stop) e)
         go (whole c ns) e g s = clash (sym (whole-here c ns e) ∙ w)
         go (listed c is ns) e g s =

@@ -55,7 +55,8 @@ module _ (n s code : ℕ) {f : Found} (e : f ≡ found (placedRefusal (arrangeme
       let q = both _ _ (p .0) in
       (is-arrangement (q .0), subst IsCell (sym (p .1)) (code-is-cell code (a-code code (q .1))))
 
-  pub placed-value {ℓ} : {A : Type ℓ} (value : Arrangement → Cell → A) (none : ℕ → A) {x : Cell} {y : A} → f ≡ found-as.At x → y ≡ value (arrangement n s) x → y ≡ placedAnswer n s code value none
+  pub placed-value {ℓ} : {A : Type ℓ} (value : Arrangement → Cell → A) (none : ℕ → A) {x : Cell} {y : A} → f ≡ found-as.At x → y ≡ value (arrangement n s) x →
+      y ≡ placedAnswer n s code value none
   unfolding placedAnswer
   placed-value of none {x} h v =
       let p = found-at (placedRefusal (arrangement n s) code) (cellOf code) x (sym h ∙ e) in

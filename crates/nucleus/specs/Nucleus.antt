@@ -45,7 +45,7 @@ northPoint n e d = turnedNorth (turnOf (quotient e d) n) (subℕ (2 * remainder 
 unfoldable pub southPoint : (s e d : ℕ) → CapPoint
 southPoint s e d = turnedSouth (turnOf (quotient e d) s) (subℕ (2 * remainder e d) (d * quarter), pos (d * quarter))
 
--- the rules send the fractions e/d, u/v to the middle of the cell. NucleusLaws shows that they send no others there, but at a pole, where every
+-- the rules send the fractions e/d, u/v to the middle of the cell. Laws/Nucleus shows that they send no others there, but at a pole, where every
 -- longitude will do
 pub record Sent (a : Arrangement) (c : Cell) (e d : ℕ) (u : ℤ) (v : ℕ) : Type 0 where
   pub longitude : 0 < d
@@ -62,7 +62,7 @@ unfoldable pub floorZ : ℤ → ℕ → ℤ
 floorZ (pos n) v = pos (n / v)
 floorZ (negsuc n) v = negsuc (n / v)
 
--- ---- the computing form. NucleusLaws shows that it is what the rules send there, floored
+-- ---- the computing form. Laws/Nucleus shows that it is what the rules send there, floored
 
 -- the belt: a = 450,000,000 (2j + 1) / m, and z = 2 x 10^18 (m - (2i + 1)) / (3m)
 unfoldable pub beltLongitude : (m c j : ℕ) → ℤ

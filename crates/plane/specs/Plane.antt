@@ -126,7 +126,7 @@ unfoldable pub inImage : Arrangement → ℤ → ℤ → Bool
 unfolding inBelt inNorth inSouth
 inImage a x y = inBelt x y || inNorth a x y || inSouth a x y
 
--- ---- the cell of a point. What it is, `Owns` says (PlaneLaws, `found-owns` and `owner-found`); this is how it is computed
+-- ---- the cell of a point. What it is, `Owns` says (Laws/Plane, `found-owns` and `owner-found`); this is how it is computed
 
 -- the distance of a point from the top of N, downwards
 abbrev pub depthOf : ℤ → ℕ

@@ -47,7 +47,8 @@ pub node-short :
 node-short {s} {at} {d} {z} {next} {m} {sum} {w} {r} o h b q = record { is = st.node-short s at d z r (o .inside) (o .bracket) (o .deep) (h .is) next m sum w b q }
 
 pub node-nine :
-    {s : List ℕ} {at d z next m sum w : ℕ} {r : NodesRead} → Opens s at d → ReadsNodes s (at + 1) 0 Digits (d - 1) (z / 9) r → r ≡ Read next m sum w → (next ≡ at + 1 → ⊥) → w ≡ 9 →
+    {s : List ℕ} {at d z next m sum w : ℕ} {r : NodesRead} → Opens s at d → ReadsNodes s (at + 1) 0 Digits (d - 1) (z / 9) r → r ≡ Read next m sum w →
+    (next ≡ at + 1 → ⊥) → w ≡ 9 →
     ReadsNode s at d z Bad
 node-nine {s} {at} {d} {z} {next} {m} {sum} {w} {r} o h b q q′ = record { is = st.node-nine s at d z r (o .inside) (o .bracket) (o .deep) (h .is) next m sum w b q q′ }
 
@@ -193,7 +194,8 @@ module _ {s : List ℕ} {start d z at low n sum w : ℕ} {l : Level} (v : Runs s
             record {
               tied = λ r₂ h₂.
                   subst (ReadsNodes s start 0 l d z)
-                  (plus-plus (n + w) (sum + w * z) w m more wi r₂ ∙ sym (ap (λ (x : ℕ). plus x (sum + w * z + more) (w + wi) r₂) e₁) ∙ sym (ap₂ (λ (x y : ℕ). plus (n′ + w′) x y r₂) e₂ e₃))
+                  (plus-plus (n + w) (sum + w * z) w m more wi r₂ ∙ sym (ap (λ (x : ℕ). plus x (sum + w * z + more) (w + wi) r₂) e₁) ∙ sym
+                  (ap₂ (λ (x y : ℕ). plus (n′ + w′) x y r₂) e₂ e₃))
                   (v .tied (plus m more wi r₂)
                   (nodes-more (names u) o b (subst (λ (x : ℕ). ReadsNodes s next x l d z r₂) (omega (arith, v .least)) h₂)));
               from = omega (arith, v .from, f .from);

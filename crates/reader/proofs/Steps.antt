@@ -65,7 +65,8 @@ node-bounds s at d z next n sum w (held is rest) r h e =
       to = omega arith;
       few = omega (arith, count-most is Digits);
       small = omega (arith, size-most is Digits (d - 1) 0 (z / 9) (r .3) (omega arith), zero-mul (z / 9));
-      rest = ap (λ (j : ℕ). drop j s) e₁ ∙ drop-rest s (40 ∷ (render Digits is ++ (41 ∷ []))) rest at (r .4 ∙ ap (λ (t : List ℕ). 40 ∷ t) (sym (append-assoc (render Digits is) (41 ∷ []) rest)));
+      rest = ap (λ (j : ℕ). drop j s) e₁ ∙ drop-rest s (40 ∷ (render Digits is ++ (41 ∷ []))) rest at
+          (r .4 ∙ ap (λ (t : List ℕ). 40 ∷ t) (sym (append-assoc (render Digits is) (41 ∷ []) rest)));
     }
 
 nodes-bounds : (n z next m sum w : ℕ) (p : Parse) → Read next m sum w ≡ ofNodes n z p → next ≤ n
@@ -298,7 +299,8 @@ module _ (s : List ℕ) (at d z : ℕ) (r : NodesRead) (a : at < length s) (e : 
         (close-read s (at + 1) (d - 1) z next m sum w (parse n Digits (d - 1) 0 (drop (at + 1) s)) (sound n Digits (d - 1) 0 (drop (at + 1) s)) (omega arith) (sym b ∙ h n (omega arith)) q q′ q″)
 
 -- the list reader at a node's letter or digit, of number c, with the room under it
-module _ (s : List ℕ) (at lo : ℕ) (l : Level) (d z c under : ℕ) (r : NodesRead) (a : at < length s) (e : getD s at 0 ≡ 41 → ⊥) (f : first l + lo ≤ getD s at 0) (g : getD s at 0 < first l + many l)
+module _ (s : List ℕ) (at lo : ℕ) (l : Level) (d z c under : ℕ) (r : NodesRead) (a : at < length s) (e : getD s at 0 ≡ 41 → ⊥) (f : first l + lo ≤ getD s at 0)
+    (g : getD s at 0 < first l + many l)
     (ec : c ≡ getD s at 0 - first l) (eu : under ≡ room l c d) (h : NodeF s (at + 1) under z r) where
   nodes-step : (n : ℕ)
       → parse (suc n) l d lo (drop at s) ≡ then c (λ rest. parse n l d (c + 1) rest) (item (λ e cs. parse n Digits e 0 cs) under (drop (at + 1) s))
@@ -307,7 +309,8 @@ module _ (s : List ℕ) (at lo : ℕ) (l : Level) (d z c under : ℕ) (r : Nodes
 
   pub nodes-wrong : r ≡ Bad → NodesF s at lo l d z Bad
   nodes-wrong b zero k = absurd (omega arith)
-  nodes-wrong b (suc n) k = rw (nodes-step n) (then-wrong (length s) z c (λ rest. parse n l d (c + 1) rest) (item (λ e cs. parse n Digits e 0 cs) under (drop (at + 1) s)) (sym b ∙ h n (omega arith)))
+  nodes-wrong b (suc n) k = rw (nodes-step n) (then-wrong (length s) z c (λ rest. parse n l d (c + 1) rest) (item (λ e cs. parse n Digits e 0 cs) under (drop (at + 1) s))
+      (sym b ∙ h n (omega arith)))
 
   pub nodes-more : (next m sum w : ℕ) → r ≡ Read next m sum w → (r₂ : NodesRead) → NodesF s next (c + 1) l d z r₂ → NodesF s at lo l d z (plus m sum w r₂)
   nodes-more next m sum w b r₂ h₂ zero k = absurd (omega arith)

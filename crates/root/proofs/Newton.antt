@@ -47,7 +47,8 @@ newton-below n r h = let q : n / r < r = div-lt-iff-lt-mul (square-pos n r h) .1
 -- ---- the first guess
 
 -- 2^s, for s half of t's length in bits, rounded up, is above the root
-pub half-length : (radicand : ℕ) → radicand < 10 ^ 18 → ((65 - leadingZeros 64 radicand) / 2 ≤ 30) × (radicand < 2 ^ ((65 - leadingZeros 64 radicand) / 2) * 2 ^ ((65 - leadingZeros 64 radicand) / 2))
+pub half-length : (radicand : ℕ) → radicand < 10 ^ 18 → ((65 - leadingZeros 64 radicand) / 2 ≤ 30) ×
+    (radicand < 2 ^ ((65 - leadingZeros 64 radicand) / 2) * 2 ^ ((65 - leadingZeros 64 radicand) / 2))
 half-length radicand h =
     let l = leading-length 64 radicand (omega arith) in
     let m : ℕ = l .0 in

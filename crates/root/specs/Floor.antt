@@ -29,7 +29,7 @@ pub record IsFloor (m radicand : ℕ) (p : ℤ) (w : ℕ) : Type 0 where
   pub below : atMost m radicand p w ≡ true
   pub above : atMost m radicand p (w + 1) ≡ false
 
--- ---- the computing form. FloorLaws shows that it is a floor, and that no other number is one
+-- ---- the computing form. Laws/Floor shows that it is a floor, and that no other number is one
 
 -- the greatest number up to n that passes a test, or 0
 unfoldable pub greatest : (ℕ → Bool) → ℕ → ℕ

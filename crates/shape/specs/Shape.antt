@@ -29,7 +29,7 @@ Is Cap c = (Belt c → ⊥) × Middle c
 Is Dart c = (Belt c → ⊥) × (Middle c → ⊥) × Diagonal c
 Is SkewQuad c = (Belt c → ⊥) × (Middle c → ⊥) × (Diagonal c → ⊥)
 
--- ---- the computing form. ShapeLaws shows that it is the one shape that a cell is
+-- ---- the computing form. Laws/Shape shows that it is the one shape that a cell is
 
 unfoldable pub capShape : (m row column : ℕ) → Shape
 capShape m row column =

@@ -19,11 +19,13 @@ pub n-finest : {codes : List ℕ} {at start size : ℕ} → at < length codes �
 n-finest {codes} {at} {start} {size} h z l =
     record { is = λ w k s. node-finest codes at w start size k s h l; inside = omega arith; short = omega arith; few = omega arith }
 
-pub n-same : {codes : List ℕ} {at start size : ℕ} → at < length codes → 0 < size → isCodeOf (getD codes at 0) start size ≡ true → NodeMeasured codes at start size (record { next = at + 1; bytes = 1; wholes = 1 })
+pub n-same : {codes : List ℕ} {at start size : ℕ} → at < length codes → 0 < size → isCodeOf (getD codes at 0) start size ≡ true → NodeMeasured codes at start size
+    (record { next = at + 1; bytes = 1; wholes = 1 })
 n-same {codes} {at} {start} {size} h z e =
     record { is = λ w k s. node-same codes at w start size k s h e; inside = omega arith; short = omega arith; few = omega arith }
 
-module _ {codes : List ℕ} {at start size : ℕ} {r : Measure} (h : at < length codes) (z : 9 ≤ size) (n : isCodeOf (getD codes at 0) start size ≡ false) (m : ListMeasured codes at 9 start (size / 9) r) where
+module _ {codes : List ℕ} {at start size : ℕ} {r : Measure} (h : at < length codes) (z : 9 ≤ size) (n : isCodeOf (getD codes at 0) start size ≡ false)
+    (m : ListMeasured codes at 9 start (size / 9) r) where
   pub n-nine : r .wholes ≡ 9 → NodeMeasured codes at start size (record { next = r .next; bytes = 1; wholes = 1 })
   n-nine e = record { is = go; inside = m .inside; short = omega arith; few = omega arith }
     where

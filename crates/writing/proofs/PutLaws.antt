@@ -55,7 +55,8 @@ node-whole below c [] h = absurd (omega arith)
 node-whole below c (t ∷ ts) h =
     by-cond (λ (ns : Nodes). wholes ns ≡ 1 → ns ≡ whole c end) (anyEnds (t ∷ ts) || eqb (wholes (below (t ∷ ts))) 9) (λ e k. refl) (λ e k. absurd (omega arith)) h
 
-node-listed : (below : List Name → Nodes) (c : ℕ) (t : Name) (ts : List Name) → (wholes (nodeOf below c (t ∷ ts) end) ≡ 1 → ⊥) → nodeOf below c (t ∷ ts) end ≡ listed c (below (t ∷ ts)) end
+node-listed : (below : List Name → Nodes) (c : ℕ) (t : Name) (ts : List Name) → (wholes (nodeOf below c (t ∷ ts) end) ≡ 1 → ⊥) → nodeOf below c (t ∷ ts) end ≡ listed c
+    (below (t ∷ ts)) end
 unfolding nodeOf
 node-listed below c t ts h =
     by-cond (λ (ns : Nodes). (wholes ns ≡ 1 → ⊥) → ns ≡ listed c (below (t ∷ ts)) end) (anyEnds (t ∷ ts) || eqb (wholes (below (t ∷ ts))) 9)

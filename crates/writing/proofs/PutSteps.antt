@@ -42,7 +42,8 @@ pub held-put :
 held-put {codes} {at} {start} {size} {place} {byte} {q} {text} {one} {two} {three} {later} {r} h m n a b u d =
     record { is = go; inside = u .inside; short = omega (arith, u .short, has-children m n) }
   where
-    go : (l : Level) (w : List ℕ) (c k : ℕ) → byte ≡ first l + c → NodeAt codes at w start size k → NodeWrote codes at w k place l c text later (record { next = r .next; place = r .place + 1 })
+    go : (l : Level) (w : List ℕ) (c k : ℕ) → byte ≡ first l + c → NodeAt codes at w start size k → NodeWrote codes at w k place l c text later
+        (record { next = r .next; place = r .place + 1 })
     go l w c zero e s = absurd (omega (arith, s .sized, has-children m n))
     go l w c (suc k) e s =
         let i = m .held n w (suc k) s in

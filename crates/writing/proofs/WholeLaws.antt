@@ -165,7 +165,8 @@ module _ (codes : List ℕ) (at : ℕ) (w : Name) (start size k : ℕ) (s : Node
     names-length : (j : ℕ) → length (namesFrom codes j) ≡ length codes - j
     names-length j = length-map (map cellOf (drop j codes)) numbersOf ∙ length-map (drop j codes) cellOf ∙ length-drop j codes
 
-    took-at : (j : ℕ) (front : List Name) (i : ℕ) → namesFrom codes i ≡ front ++ namesFrom codes next → Each (Prefix w) front → i ≤ j → j < next → Prefix w (numbersOf (nextCell codes j))
+    took-at : (j : ℕ) (front : List Name) (i : ℕ) → namesFrom codes i ≡ front ++ namesFrom codes next → Each (Prefix w) front → i ≤ j → j < next → Prefix w
+        (numbersOf (nextCell codes j))
     took-at j [] i e p a b = absurd (omega (arith, ap length e, names-length i, names-length next))
     took-at j (q ∷ front) i e p a b =
         let f : numbersOf (nextCell codes i) ∷ namesFrom codes (i + 1) ≡ q ∷ (front ++ namesFrom codes next) = sym (names-at codes i (omega arith)) ∙ e in

@@ -7,6 +7,7 @@ use native.Mathlib.Nat.{pow-suc, add-mul, suc-mul, mul-assoc, mul-comm, mul-le-m
 use native.Mathlib.Omega.{arith}
 use lib.Dec.{leb}
 use borrow.Author.Tests.{lt-leb}
+use Rattle.logic.specs.Laws.Bools.{and-none, or-assoc}
 use Rattle.cell.specs.declared.Cell.{Cell}
 use Rattle.code.specs.Inside.{startOf, endOf, liesWithin}
 use Rattle.code.specs.Number.{startAs, endAs}
@@ -44,10 +45,6 @@ any-spots [] x c = refl
 any-spots (q ∷ qs) x c =
     ap₂ _||_ (ap₂ (λ (a b : ℕ). leb a (startOf x) && leb (endOf x) b) (start-as q (c .0)) (end-as q (c .0))) (any-spots qs x (c .1))
 
-or-assoc : (a b c : Bool) → (a || (b || c)) ≡ ((a || b) || c)
-or-assoc true b c = refl
-or-assoc false b c = refl
-
 module _ (from to : ℕ) where
   any-append : (xs ys : List Spot) → anyHolds from to (xs ++ ys) ≡ (anyHolds from to xs || anyHolds from to ys)
   unfolding anyHolds
@@ -82,10 +79,6 @@ nodes-asked t e x =
     ∙ any-spots (wholeCells (nodesOf t)) x (whole-cells tt (omega arith) (reads-own t e .body) .0)
 
 -- ---- nodes that cannot hold it
-
-pub and-none : (b : Bool) → (b && false) ≡ false
-and-none true = refl
-and-none false = refl
 
 module _ (from to : ℕ) where
   -- they end before it does

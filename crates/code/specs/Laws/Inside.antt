@@ -158,7 +158,8 @@ module _ (c x : Cell) (v : IsCell c) (w : IsCell x) where
       let low : pathOf c * (n * s) ≤ pathOf x * s = omega (arith, i .from) in
       let high : pathOf x * s + s ≤ pathOf c * (n * s) + n * s = omega (arith, i .to) in
       let e : pathOf x / n ≡ pathOf c = of-range (pathOf c) (pathOf x) n s (nine-pos (x .resolution - c .resolution)) (nine-pos (15 - x .resolution)) low high in
-      let one = weave-one (c .resolution) _ _ (c .row) (c .column) (cut-small (x .row) h (w .rowed)) (cut-small (x .column) h (w .columned)) (v .rowed) (v .columned) (sym (prefix h) ∙ e ∙ path-weave c) in
+      let one = weave-one (c .resolution) _ _ (c .row) (c .column) (cut-small (x .row) h (w .rowed)) (cut-small (x .column) h (w .columned)) (v .rowed) (v .columned)
+      (sym (prefix h) ∙ e ∙ path-weave c) in
       record { face = f; finer = h; row = one .0; column = one .1 }
 
   -- a finest cell lies inside a cell exactly when its number is in the cell's range
@@ -183,7 +184,8 @@ module _ (c x : Cell) (v : IsCell c) (w : IsCell x) where
       ⊎-elim
       (λ l. inr (inl (let b : pathOf x * s + s ≤ pathOf c * (n * s) = before (pathOf c) (pathOf x) n s (nine-pos (x .resolution - c .resolution)) l in omega arith)))
       (⊎-elim
-      (λ e. inl (within-inside (let g = range-of (pathOf c) (pathOf x) n s (nine-pos (x .resolution - c .resolution)) (nine-pos (15 - x .resolution)) e in record { from = omega arith; to = omega arith })))
+      (λ e. inl (within-inside (let g = range-of (pathOf c) (pathOf x) n s (nine-pos (x .resolution - c .resolution)) (nine-pos (15 - x .resolution)) e in record
+      { from = omega arith; to = omega arith })))
       (λ l. inr (inr (let b : pathOf c * (n * s) + n * s ≤ pathOf x * s = after (pathOf c) (pathOf x) n s l in omega arith))))
       (three-ways (pathOf x / n) (pathOf c))
 

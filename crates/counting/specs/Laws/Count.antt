@@ -86,7 +86,8 @@ pub count-same : (n from : ℕ) (p q : ℕ → Bool) → ((y : ℕ) → from ≤
 count-same n from p q h = total-same n (λ j. bit (p (from + j))) (λ j. bit (q (from + j))) (λ j l. ap bit (h (from + j) (omega arith) (omega arith)))
 
 -- two tests that no number passes both of
-pub count-either : (n from : ℕ) (p q : ℕ → Bool) → ((y : ℕ) → from ≤ y → y < from + n → p y ≡ true → q y ≡ false) → countOf n from (λ y. p y || q y) ≡ countOf n from p + countOf n from q
+pub count-either : (n from : ℕ) (p q : ℕ → Bool) → ((y : ℕ) → from ≤ y → y < from + n → p y ≡ true → q y ≡ false) → countOf n from (λ y. p y || q y) ≡ countOf n
+    from p + countOf n from q
 count-either n from p q h =
     total-same n (λ j. bit (p (from + j) || q (from + j))) (λ j. bit (p (from + j)) + bit (q (from + j)))
     (λ j l. go (p (from + j)) (q (from + j)) (h (from + j) (omega arith) (omega arith)))

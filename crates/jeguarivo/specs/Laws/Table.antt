@@ -72,5 +72,6 @@ table =
     []
 
 pub proved-table : map answered table ≡ map said table
-unfolding answered said table _otherwise_ given value rowIn columnIn codeAnswer coded codeOf cellOf codeRefusal arrangementRefusal nameCode fixCode fixRefusal fixCell rootFloor neighbourCode neighbourOf pointCode pointRefusal checkedOf textRefusal isText readText toEnd parse placeOf lead scan
+unfolding answered said table _otherwise_ given value rowIn columnIn codeAnswer coded codeOf cellOf codeRefusal arrangementRefusal nameCode fixCode fixRefusal fixCell rootFloor
+    neighbourCode neighbourOf pointCode pointRefusal checkedOf textRefusal isText readText toEnd parse placeOf lead scan
 proved-table = refl

@@ -55,7 +55,8 @@ offset-is c =
     c .offset .ensures ∙ ap₂ (λ (b : Bool) (y : ℕ). offsetOf (withSign b y)) (sign-is n) (size-is (n .before)) ∙ ap offsetOf (sign-and-size z)
 
 -- the cell at a cap's end, by the sign
-cap-cell : (a : Arrangement) (k : ℕ) (L z : ℤ) {east t : ℕ} (b : Bool) → b ≡ negative z → east ≡ eastOf L → t ≡ heightOf z → isBelt z ≡ false → capCell (cond b 5 0) k t (turnedEnd a b east) ≡ fixCell a k L z
+cap-cell : (a : Arrangement) (k : ℕ) (L z : ℤ) {east t : ℕ} (b : Bool) → b ≡ negative z → east ≡ eastOf L → t ≡ heightOf z → isBelt z ≡ false → capCell
+    (cond b 5 0) k t (turnedEnd a b east) ≡ fixCell a k L z
 unfolding southCell northCell
 cap-cell a k L z true s e h o = ap₂ (southCell (a .south) k) e h ∙ sym (fix-south a k L z o (below-zero z ∙ sym s))
 cap-cell a k L z false s e h o = ap₂ (northCell (a .north) k) e h ∙ sym (fix-north a k L z o (below-zero z ∙ sym s))

@@ -31,7 +31,8 @@ returns c =
     let second = third .before .before in
     let first = second .before .before in
     c .at-most3 .ensures
-    ∙ last _ _ _ _ (sym (first .before .at-most .ensures) ∙ first .if1 .taken) (sym (second .before .below .ensures) ∙ second .if2 .taken) (sym (third .before .at-most2 .ensures) ∙ third .if3 .taken)
+    ∙ last _ _ _ _ (sym (first .before .at-most .ensures) ∙ first .if1 .taken) (sym (second .before .below .ensures) ∙ second .if2 .taken)
+    (sym (third .before .at-most2 .ensures) ∙ third .if3 .taken)
     ∙ read (first .before .before)
 
 returns-2 : tie.Need-returns-2

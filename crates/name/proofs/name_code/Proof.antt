@@ -21,7 +21,8 @@ lettered : (c : tie.Else2) → firstLetter (c .before .before .before .before .a
 lettered c = sym (c .before .first-letter .ensures) ∙ not-false _ (c .if2 .left)
 
 -- with all its digits read
-read-in : (c : tie.After-path) → let s = c .before .before .before .before .before .before .before .args .name .now in (allDigits (drop 1 s) ≡ true) × (c .path .given .0 .0 ≡ value 9 (digitsIn s))
+read-in : (c : tie.After-path) → let s = c .before .before .before .before .before .before .before .args .name .now in (allDigits (drop 1 s) ≡ true) ×
+    (c .path .given .0 .0 ≡ value 9 (digitsIn s))
 read-in c = read-good _ _ _ (sym (c .path .given .1) ∙ c .before .before .read-path .ensures)
 
 returns : tie.Need-returns

@@ -13,7 +13,8 @@ use Rattle.name.proofs.put_digits.Tie as tie
 
 abbrev Inv-loop : tie.InvT-loop
 Inv-loop name₀ count path p₀ left₀ name p left =
-    (left ≤ count) × (length name ≡ length name₀) × (take (left + 1) name ≡ take (left + 1) name₀) × (digitBytes (digits 9 left p) ++ drop (left + 1) name ≡ digitBytes (digits 9 count path) ++ drop (count + 1) name₀)
+    (left ≤ count) × (length name ≡ length name₀) × (take (left + 1) name ≡ take (left + 1) name₀) × (digitBytes (digits 9 left p) ++ drop (left + 1) name ≡ digitBytes
+    (digits 9 count path) ++ drop (count + 1) name₀)
 
 abbrev μ-loop : tie.MeasureT-loop
 μ-loop name₀ count path p₀ left₀ name p left = left

@@ -132,5 +132,6 @@ code-name (b ∷ bs) a =
     let path = code-path (b - 78) k (value 9 ds) f h p in
     let letter : 78 + (b - 78) ≡ b = omega arith in
     code-name-is (codeAt (b - 78) k (value 9 ds))
-    ∙ ap₂ (λ (x : ℕ) (m : List ℕ). x ∷ digitBytes m) (ap (λ (x : ℕ). 78 + x) face ∙ letter) (ap₂ (digits 9) (resolution ∙ n) path ∙ digits-value 9 ds (omega arith) (digits-below-nine bs (a .digital)))
+    ∙ ap₂ (λ (x : ℕ) (m : List ℕ). x ∷ digitBytes m) (ap (λ (x : ℕ). 78 + x) face ∙ letter) (ap₂ (digits 9) (resolution ∙ n) path ∙ digits-value 9 ds (omega arith)
+    (digits-below-nine bs (a .digital)))
     ∙ ap (λ (m : List ℕ). b ∷ m) (bytes-back bs (a .digital))

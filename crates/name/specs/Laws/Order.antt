@@ -37,7 +37,8 @@ rank-cons r d ds h =
     let e : suc r - suc n ≡ r - n = omega arith in
     let s : n + (r - n) ≡ r = omega arith in
     let p : 9 ^ n * 9 ^ (r - n) ≡ 9 ^ r = sym (nine-add n (r - n)) ∙ ap (λ (x : ℕ). 9 ^ x) s in
-    ap (λ (x : ℕ). (d * 9 ^ n + value 9 ds) * 9 ^ x) e ∙ add-mul (d * 9 ^ n) (value 9 ds) (9 ^ (r - n)) ∙ ap (λ (x : ℕ). x + value 9 ds * 9 ^ (r - n)) (mul-assoc d (9 ^ n) (9 ^ (r - n)) ∙ ap (λ (x : ℕ). d * x) p)
+    ap (λ (x : ℕ). (d * 9 ^ n + value 9 ds) * 9 ^ x) e ∙ add-mul (d * 9 ^ n) (value 9 ds) (9 ^ (r - n)) ∙ ap (λ (x : ℕ). x + value 9 ds * 9 ^ (r - n))
+    (mul-assoc d (9 ^ n) (9 ^ (r - n)) ∙ ap (λ (x : ℕ). d * x) p)
 
 rank-small : (r : ℕ) (ds : List ℕ) → Below 9 ds → length ds ≤ r → rank r ds < 9 ^ r
 unfolding rank
@@ -49,7 +50,8 @@ rank-small r ds b h =
     omega arith
 
 -- digits that stand before others have the smaller rank, or the same and fewer digits
-before-rank : (r : ℕ) (ds es : List ℕ) → r ≤ 15 → Below 9 ds → Below 9 es → length ds ≤ r → length es ≤ r → Before ds es → rank r ds * 16 + length ds < rank r es * 16 + length es
+before-rank : (r : ℕ) (ds es : List ℕ) → r ≤ 15 → Below 9 ds → Below 9 es → length ds ≤ r → length es ≤ r → Before ds es → rank r ds * 16 + length ds < rank r es *
+    16 + length es
 before-rank r [] [] h b c l m f = absurd f
 before-rank r [] (e ∷ es) h b c l m f = let z = rank-nil r in omega arith
 before-rank r (d ∷ ds) [] h b c l m f = absurd f
@@ -113,7 +115,8 @@ module _ (a b : Cell) (v : IsCell a) (w : IsCell b) where
       let s : rank 15 ds < 205891132094649 = rank-small 15 ds (digits-of-below (a .resolution) (a .row) (a .column)) (omega (arith, v .fine)) in
       omega (arith, v .fine))
       (λ k.
-      let i = before-rank 15 ds es (omega arith) (digits-of-below (a .resolution) (a .row) (a .column)) (digits-of-below (b .resolution) (b .row) (b .column)) (omega (arith, v .fine)) (omega (arith, w .fine)) (bytes-before ds es (k .1)) in
+      let i = before-rank 15 ds es (omega arith) (digits-of-below (a .resolution) (a .row) (a .column)) (digits-of-below (b .resolution) (b .row) (b .column)) (omega (arith, v .fine))
+      (omega (arith, w .fine)) (bytes-before ds es (k .1)) in
       let e : 78 + a .face ≡ 78 + b .face = k .0 in
       omega arith)
       f

@@ -37,7 +37,8 @@ crossed K v v′ p q p′ q′ P R s t =
       mul-left-comm v K q′,
     )
 
-pub rise-same : (U : ℤ) (K : ℕ) (u : ℤ) (v : ℕ) (u′ : ℤ) (v′ : ℕ) → 0 < K → pos K *ℤ u ≡ pos v *ℤ U → pos K *ℤ u′ ≡ pos v′ *ℤ U → pos v′ *ℤ u ≡ pos v *ℤ u′
+pub rise-same : (U : ℤ) (K : ℕ) (u : ℤ) (v : ℕ) (u′ : ℤ) (v′ : ℕ) → 0 < K → pos K *ℤ u ≡ pos v *ℤ U → pos K *ℤ u′ ≡ pos v′ *ℤ U → pos v′ *ℤ u ≡
+    pos v *ℤ u′
 rise-same U K u v u′ v′ K0 x x′ = go (a-difference U) (a-difference u) (a-difference u′)
   where
     lines : (P R p q w : ℕ) (y : ℤ) → U ≡ subℕ P R → y ≡ subℕ p q → pos K *ℤ y ≡ pos w *ℤ U → K * p + w * R ≡ w * P + K * q

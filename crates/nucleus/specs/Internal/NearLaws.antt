@@ -130,7 +130,8 @@ near-seen false a b n = n
 -- the row or column w whose middle lies (2w + 1 - m) / 2m from the centre
 module _ (m h t : ℕ) (hm : m ≤ 14348907) (hh : h < m)
     (t-low : 1000000000000000000 * (h * h) ≤ m * m * t + 3 * (m * m)) (t-high : m * m * t ≤ 1000000000000000000 * (h * h) + 3 * (m * m)) where
-  hit-signed : (b : Bool) (g v w : ℕ) → g ≤ quarter → quarter * v ≤ g * h + 2 * h → g * h ≤ quarter * v + 2 * h → withSign b v ≡ subℕ (2 * w + 1) m → rootFloor m t (withSign b g) ≡ w
+  hit-signed : (b : Bool) (g v w : ℕ) → g ≤ quarter → quarter * v ≤ g * h + 2 * h → g * h ≤ quarter * v + 2 * h → withSign b v ≡ subℕ (2 * w + 1) m → rootFloor m t
+      (withSign b g) ≡ w
   hit-signed false g v w s l u e =
       let f = sub-cross v 0 (2 * w + 1) m (sym (pos-sub v) ∙ e) in
       hit-plus m h t g v hm hh s t-low t-high l u w (omega arith)

@@ -76,7 +76,8 @@ returns-4 c =
     let e = f .before .before in
     let s = e .before .before .before in
     c .cell-at-depth .ensures
-    ∙ ap₂ (foundAt (s .args .arrangement) (s .args .resolution)) (c .before .before .magnitude .ensures ∙ ap natAbs (back (s .fits .x))) (c .before .depth-below .ensures ∙ ap depthBelow (back (s .fits .y)))
+    ∙ ap₂ (foundAt (s .args .arrangement) (s .args .resolution)) (c .before .before .magnitude .ensures ∙ ap natAbs (back (s .fits .x)))
+    (c .before .depth-below .ensures ∙ ap depthBelow (back (s .fits .y)))
     ∙ east (s .args .arrangement) (s .args .resolution) (s .args .x) (s .args .y) (sym (sign-is (f .before)) ∙ f .if3 .left)
     ∙ decides (s .args .x) (s .args .y) (arranged (e .before)) (omega arith)
 

@@ -91,7 +91,8 @@ module _ {k : ℕ} (g : k ≤ 15) (top d : ℕ) where
   last-row : (i : ℕ) → i + 1 ≡ 3 ^ k → i * sideOf k + sideOf k ≡ faceSide
   last-row i e = sym (suc-mul i (sideOf k)) ∙ ap (λ (x : ℕ). x * sideOf k) (sym (add-one i) ∙ e) ∙ whole g
 
-  pub last-in : (b : Bool) (i : ℕ) → i < 3 ^ k → top + i * sideOf k ≤ d → Beyond (b && eqb (i + 1) (3 ^ k)) d (top + i * sideOf k + sideOf k) → Beyond b d (top + faceSide) × (rowAt k (d - top) ≡ i)
+  pub last-in : (b : Bool) (i : ℕ) → i < 3 ^ k → top + i * sideOf k ≤ d → Beyond (b && eqb (i + 1) (3 ^ k)) d (top + i * sideOf k + sideOf k) → Beyond b d (top + faceSide) ×
+      (rowAt k (d - top) ≡ i)
   last-in b i m h l = go (b && eqb (i + 1) (3 ^ k)) refl l
     where
       strict : d < top + i * sideOf k + sideOf k → Beyond b d (top + faceSide) × (rowAt k (d - top) ≡ i)

@@ -124,7 +124,8 @@ module _ (a : Arrangement) (n : ℕ) (y : ℤ) where
         ∙ ap₂ either (belt-above h) (north-on h ∙ e)
         ∙ ap (cellAt 0 k (n - a .north * faceSide)) (depth-is y (deep y (p .2)))
 
-    pub cell-belt : faceSide ≤ depthBelow y → depthBelow y ≤ 2 * faceSide → ltb n (4 * faceSide) ≡ true → pointCell a k (pos n) y ≡ cellAt (1 + n / faceSide) k (n % faceSide) (depthBelow y - faceSide)
+    pub cell-belt : faceSide ≤ depthBelow y → depthBelow y ≤ 2 * faceSide → ltb n (4 * faceSide) ≡ true → pointCell a k (pos n) y ≡ cellAt (1 + n / faceSide) k (n % faceSide)
+        (depthBelow y - faceSide)
     cell-belt h l e =
         cell-is
         ∙ ap (λ (t : Bool). either t (inNorth a (pos n) y)) (belt-on h l ∙ e)

@@ -33,7 +33,8 @@ on-face a k n y face f g t o =
     (record { fine = g; faced = f; rowed = s .0; columned = s .1 }, refl, subst (Owns a c (pos n)) (sym (depth-back y t)) (square-owns a c n (depthBelow y) (s .2)))
 
 -- the cell found is a cell of that resolution, and owns the point
-pub found-owns : (a : Arrangement) (k : ℕ) (x y : ℤ) → k ≤ 15 → inImage a x y ≡ true → IsCell (pointCell a k x y) × (pointCell a k x y .resolution ≡ k) × Owns a (pointCell a k x y) x y
+pub found-owns : (a : Arrangement) (k : ℕ) (x y : ℤ) → k ≤ 15 → inImage a x y ≡ true → IsCell (pointCell a k x y) × (pointCell a k x y .resolution ≡ k) × Owns a
+    (pointCell a k x y) x y
 found-owns a k (negsuc n) y g e = absurd (false≢true (sym (image-west a n y) ∙ e))
 found-owns a k (pos n) y g e =
     let f = image-face a n y e in

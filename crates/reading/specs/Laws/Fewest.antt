@@ -155,7 +155,8 @@ one-list m r (w ∷ ws) (q ∷ qs) nw nq a e f o l c =
     begins : Prefix w q
     begins =
         ⊎-elim (λ h. h)
-        (λ h. ⊎-elim (λ k. k) (λ k. let i = any-mem (Prefix w) qs k in absurd (mem-all (λ (p : Name). Ahead p q → ⊥) qs (i .0) (o .0) (i .1) (ahead-covered w ws (i .0) q (a .0) (i .2) h))) (e .0))
+        (λ h. ⊎-elim (λ k. k) (λ k. let i = any-mem (Prefix w) qs k in absurd (mem-all (λ (p : Name). Ahead p q → ⊥) qs (i .0) (o .0) (i .1)
+        (ahead-covered w ws (i .0) q (a .0) (i .2) h))) (e .0))
         (f q (inl refl))
 
     each : Each ws qs

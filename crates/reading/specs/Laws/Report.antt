@@ -38,7 +38,8 @@ along-sum (whole c ns) l d lo r f e g h = ap₂ _+_ (sym (e c [] r (omega arith)
 along-sum (listed c is ns) l d lo zero f e g h = absurd (omega (arith, room-le l c d))
 along-sum (listed c is ns) l d lo (suc r) f e g h =
     let ninth : 9 ^ suc r / 9 ≡ 9 ^ r = omega (arith, pow-suc 9 r) in
-    ap₂ _+_ (ap (λ (z : ℕ). sizeAlong z is) ninth ∙ along-sum is Digits (room l c d - 1) 0 r (λ q. f (c ∷ q)) (λ b q k i. e c (b ∷ q) k (omega arith)) (g .5) (omega (arith, room-le l c d)))
+    ap₂ _+_ (ap (λ (z : ℕ). sizeAlong z is) ninth ∙ along-sum is Digits (room l c d - 1) 0 r (λ q. f (c ∷ q)) (λ b q k i. e c (b ∷ q) k (omega arith)) (g .5)
+    (omega (arith, room-le l c d)))
     (along-sum ns l d (suc c) (suc r) f e (g .6) h)
     ∙ ap (λ (x : List Cell). sizeSum x + sizeSum (map f (names ns))) (sym (map-map f (λ (q : Name). c ∷ q) (names is)))
     ∙ sym (sum-append (map f (map (λ (q : Name). c ∷ q) (names is))) (map f (names ns)))

@@ -17,7 +17,8 @@ coarser k radicand p h hp ht =
     let up : ℕ = 3 ^ (15 - k) in
     let f : 15 - k + k ≡ 15 = omega arith in
     let e : 14348907 ≡ up * 3 ^ k = ap (λ (x : ℕ). 3 ^ x) (sym f) ∙ power-add (15 - k) k in
-    ap (λ (x : ℕ). rootFloor x radicand p * 3 ^ k / x) e ∙ mul-div-mul-right (rootFloor (up * 3 ^ k) radicand p) up (power-pos k) ∙ floor-part up (3 ^ k) radicand p (power-pos (15 - k)) (power-pos k) hp ht
+    ap (λ (x : ℕ). rootFloor x radicand p * 3 ^ k / x) e ∙ mul-div-mul-right (rootFloor (up * 3 ^ k) radicand p) up (power-pos k) ∙ floor-part up (3 ^ k) radicand p
+    (power-pos (15 - k)) (power-pos k) hp ht
 
 finest-requires : tie.Need-finest-requires
 finest-requires c κs = search needs

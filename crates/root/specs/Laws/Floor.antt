@@ -117,7 +117,8 @@ module _ (m radicand : ℕ) (p : ℤ) (m0 : 0 < m) (hp : natAbs p ≤ 900000000)
   pub floor-below : rootFloor m radicand p < m
   unfolding rootFloor
   floor-below =
-      lt-of-le-ne (floor-le m radicand p) (λ q. clash (sym (greatest-true (atMost m radicand p) m (first-at-most m radicand p hp ht)) ∙ ap (atMost m radicand p) q ∙ end-above m radicand p m0 hp ht))
+      lt-of-le-ne (floor-le m radicand p) (λ q. clash (sym (greatest-true (atMost m radicand p) m (first-at-most m radicand p hp ht)) ∙ ap (atMost m radicand p) q
+      ∙ end-above m radicand p m0 hp ht))
 
   pub floor-is : IsFloor m radicand p (rootFloor m radicand p)
   unfolding rootFloor
