@@ -19,7 +19,9 @@ pub n-finest : {codes : List ℕ} {at start size : ℕ} → at < length codes �
 n-finest {codes} {at} {start} {size} h z l =
     record { is = λ w k s. node-finest codes at w start size k s h l; inside = omega arith; short = omega arith; few = omega arith }
 
-pub n-same : {codes : List ℕ} {at start size : ℕ} → at < length codes → 0 < size → sizeOf (nextCell codes at) ≡ size → NodeMeasured codes at start size (record { next = at + 1; bytes = 1; wholes = 1 })
+pub n-same :
+    {codes : List ℕ} {at start size : ℕ} → at < length codes → 0 < size → sizeOf (nextCell codes at) ≡ size →
+    NodeMeasured codes at start size (record { next = at + 1; bytes = 1; wholes = 1 })
 n-same {codes} {at} {start} {size} h z e =
     record { is = λ w k s. node-same codes at w start size k s h e; inside = omega arith; short = omega arith; few = omega arith }
 
