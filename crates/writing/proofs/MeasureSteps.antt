@@ -5,12 +5,12 @@ use mathlib.Core.Logic.{⊎-elim}
 use mathlib.Core.List.{List}
 use native.Mathlib.Nat.{suc-mul, add-assoc}
 use native.Mathlib.Omega.{arith}
-use mathlib.Core.Bool.{true, false}
-use lib.ListN.{length, getD}
+use lib.ListN.{length}
+use Rattle.code.specs.Code.{sizeOf}
 use Rattle.code.specs.Inside.{startOf}
 use Rattle.logic.specs.Laws.Order.{lt-or}
 use Rattle.writing.specs.declared.Measure.{Measure}
-use Rattle.writing.specs.Internal.Measure.{nextCell, isCodeOf, StartAtPlace, NodeAt, NodeTakes, NodeMeasured, ListMeasured}
+use Rattle.writing.specs.Internal.Measure.{nextCell, StartAtPlace, NodeAt, NodeTakes, NodeMeasured, ListMeasured}
 use Rattle.writing.specs.Internal.MeasureLaws.{node-finest, node-same, node-list, node-nine, node-held, list-none, list-node, list-rest, list-in, all-later, list-skip, list-out}
 
 -- ---- a node
@@ -19,12 +19,13 @@ pub n-finest : {codes : List ℕ} {at start size : ℕ} → at < length codes �
 n-finest {codes} {at} {start} {size} h z l =
     record { is = λ w k s. node-finest codes at w start size k s h l; inside = omega arith; short = omega arith; few = omega arith }
 
-pub n-same : {codes : List ℕ} {at start size : ℕ} → at < length codes → 0 < size → isCodeOf (getD codes at 0) start size ≡ true → NodeMeasured codes at start size
-    (record { next = at + 1; bytes = 1; wholes = 1 })
+pub n-same :
+    {codes : List ℕ} {at start size : ℕ} → at < length codes → 0 < size → sizeOf (nextCell codes at) ≡ size →
+    NodeMeasured codes at start size (record { next = at + 1; bytes = 1; wholes = 1 })
 n-same {codes} {at} {start} {size} h z e =
     record { is = λ w k s. node-same codes at w start size k s h e; inside = omega arith; short = omega arith; few = omega arith }
 
-module _ {codes : List ℕ} {at start size : ℕ} {r : Measure} (h : at < length codes) (z : 9 ≤ size) (n : isCodeOf (getD codes at 0) start size ≡ false)
+module _ {codes : List ℕ} {at start size : ℕ} {r : Measure} (h : at < length codes) (z : 9 ≤ size) (n : sizeOf (nextCell codes at) ≡ size → ⊥)
     (m : ListMeasured codes at 9 start (size / 9) r) where
   pub n-nine : r .wholes ≡ 9 → NodeMeasured codes at start size (record { next = r .next; bytes = 1; wholes = 1 })
   n-nine e = record { is = go; inside = m .inside; short = omega arith; few = omega arith }

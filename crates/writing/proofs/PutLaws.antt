@@ -5,7 +5,7 @@ use mathlib.Core.List.{List, [], _∷_, _++_, append-assoc}
 use Prim.Native.Nat.{ℕ, suc, _+_, _<_}
 use native.Mathlib.Omega.{arith}
 use lib.Dec.{eqb}
-use lib.ListN.{length, set, length-append, getD}
+use lib.ListN.{length, set, length-append}
 use lib.Seq.{sets}
 use Rattle.logic.specs.Laws.Bools.{by-cond}
 use Rattle.logic.specs.Laws.Stores.{sets-append}
@@ -13,12 +13,13 @@ use Rattle.reading.specs.declared.Level.{Level}
 use Rattle.reading.specs.declared.Level.the-variants.{Digits}
 use Rattle.reading.specs.Reading.{Nodes, end, whole, listed, first, render, wholes}
 use Rattle.reading.specs.Prefix.{Name, numbersOf, Ahead}
+use Rattle.code.specs.Code.{sizeOf}
 use Rattle.writing.specs.declared.WrittenTo.{WrittenTo}
 use Rattle.reading.specs.Written.{anyEnds, nodeOf, side, under}
 use Rattle.reading.specs.Laws.Built.{built-side}
 use Rattle.writing.specs.Internal.Take.{restsOf, Each}
 use Rattle.writing.specs.Internal.TakeLaws.{rests-first, side-in, side-out, took-none, took-join, nine-past}
-use Rattle.writing.specs.Internal.Measure.{namesFrom, nextCell, isCodeOf, NodeAt, ListAt, NodeTakes}
+use Rattle.writing.specs.Internal.Measure.{namesFrom, nextCell, NodeAt, ListAt, NodeTakes}
 use Rattle.writing.specs.Internal.MeasureLaws.{names-at, node-same}
 use Rattle.writing.specs.Internal.Put.{Wrote, NodeWrote, ListWrote}
 
@@ -77,12 +78,10 @@ module _
     (t : NodeTakes codes at w (suc k) next bytes count) (n : count ≡ 1 → ⊥)
   where
     -- a node that is not whole is of another cell than the code at hand
-    pub other-code : isCodeOf (getD codes at 0) start size ≡ false
-    other-code = go (isCodeOf (getD codes at 0) start size) refl
-      where
-        go : (b : Bool) → isCodeOf (getD codes at 0) start size ≡ b → b ≡ false
-        go true e = let u = node-same codes at w start size (suc k) s h e in absurd (n (omega (arith, t .whole 0 end, u .whole 0 end)))
-        go false e = refl
+    pub other-size : sizeOf (nextCell codes at) ≡ size → ⊥
+    other-size e =
+        let u = node-same codes at w start size (suc k) s h e in
+        n (omega (arith, t .whole 0 end, u .whole 0 end))
 
     held : (c : ℕ) → nodeOf (under (suc k)) c (restsOf w (namesFrom codes at)) end ≡ listed c (side (under k) 9 0 (restsOf w (namesFrom codes at))) end
     held c =

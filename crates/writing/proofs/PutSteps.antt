@@ -16,7 +16,7 @@ use Rattle.writing.specs.Internal.Measure.{nextCell, StartAtPlace, NodeA
 use Rattle.writing.specs.Internal.MeasureLaws.{node-list, list-node, next-list, all-later, list-skip}
 use Rattle.writing.specs.Internal.Whole.{WholeUntil}
 use Rattle.writing.specs.Internal.Put.{NodeWrote, ListWrote, NodePut, ListPut}
-use Rattle.writing.proofs.PutLaws.{whole-wrote, other-code, held-wrote, none-wrote, in-wrote, out-wrote}
+use Rattle.writing.proofs.PutLaws.{whole-wrote, other-size, held-wrote, none-wrote, in-wrote, out-wrote}
 use Rattle.writing.proofs.MeasureSteps.{less, one-less, hand-inside, hand-outside}
 
 -- ---- a node
@@ -48,7 +48,7 @@ held-put {codes} {at} {start} {size} {place} {byte} {q} {text} {one} {two} {thre
     go l w c (suc k) e s =
         let i = m .held n w (suc k) s in
         let j : (_≡_ {A = ℕ} 0 1 → ⊥) = λ z. omega arith in
-        let o = other-code codes at w start size k s h (i .0) (i .1) 0 (i .2) j in
+        let o = other-size codes at w start size k s h (i .0) (i .1) 0 (i .2) j in
         let p : ListWrote codes at w k (place + 2) Digits 0 9 two three r = u .is Digits w 0 k refl (node-list codes at w start size k s h o) in
         held-wrote codes at w start size k s h (i .0) (i .1) 0 (i .2) j place l c text one two three later (r .next) (r .place) (a ∙ ap (set text place) e) b p d
 

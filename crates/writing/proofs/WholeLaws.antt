@@ -1,6 +1,6 @@
 -- A node is whole where the codes inside cover its finest cells with no gap. Assumes nothing.
-use mathlib.Core.Path.{_≡_, refl, sym, ap, _∙_}
-use mathlib.Core.Bool.{Bool, true, false}
+use mathlib.Core.Path.{_≡_, sym, ap, _∙_}
+use mathlib.Core.Bool.{true}
 use mathlib.Core.Logic.{⊎-elim}
 use mathlib.Core.List.{List, [], _∷_, _++_, map}
 use Prim.Native.Nat.{ℕ, zero, suc, _+_, _-_, _/_, _^_, _≤_, _<_}
@@ -18,7 +18,7 @@ use Rattle.reading.specs.Laws.Rising.{ahead-before}
 use Rattle.reading.specs.Laws.Named.{named-cell, name-named, prefix-inside}
 use Rattle.writing.specs.Write.{allCodes}
 use Rattle.writing.specs.Internal.Take.{Each, Took}
-use Rattle.writing.specs.Internal.Measure.{namesFrom, nextCell, isCodeOf, sizeFrom, NodeAt, ListAt, NodeTakes, ListTakes}
+use Rattle.writing.specs.Internal.Measure.{namesFrom, nextCell, sizeFrom, NodeAt, ListAt, NodeTakes, ListTakes}
 use Rattle.writing.specs.Internal.MeasureLaws.{code-at, names-at, size-at, end-named, node-finest, node-same, node-list, node-nine}
 use Rattle.writing.specs.Internal.MeasureLaws.{node-held, list-none, list-node, list-rest, list-in, all-later, list-skip, list-out}
 use Rattle.writing.specs.Internal.Whole.{CoveredTo}
@@ -74,11 +74,12 @@ list-made k zero f = λ codes at w c start size s h. record { next = at; bytes =
 list-made k (suc left) f = one-more k left f (list-made k left f)
 
 one-level : (k : ℕ) → MakesLists k 9 → Makes (suc k)
-one-level k g codes at w start size s h = go (isCodeOf (getD codes at 0) start size) refl
+one-level k g codes at w start size s h =
+    ⊎-elim (λ e. record { next = at + 1; bytes = 1; count = 1; inside = omega arith; takes = node-same codes at w start size (suc k) s h e }) other
+    (eq-or (sizeOf (nextCell codes at)) size)
   where
-    go : (b : Bool) → isCodeOf (getD codes at 0) start size ≡ b → NodeMade codes at w (suc k)
-    go true e = record { next = at + 1; bytes = 1; count = 1; inside = omega arith; takes = node-same codes at w start size (suc k) s h e }
-    go false n =
+    other : (sizeOf (nextCell codes at) ≡ size → ⊥) → NodeMade codes at w (suc k)
+    other n =
         let u = g codes at w 0 start (size / 9) (node-list codes at w start size k s h n) (omega arith) in
         ⊎-elim
         (λ e. record {

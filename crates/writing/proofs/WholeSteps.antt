@@ -3,11 +3,10 @@ use mathlib.Core.Path.{_≡_, refl}
 use Prim.Native.Nat.{ℕ, _+_, _≤_, _<_}
 use mathlib.Core.List.{List}
 use native.Mathlib.Omega.{arith}
-use mathlib.Core.Bool.{true}
-use lib.ListN.{length, getD}
+use lib.ListN.{length}
 use Rattle.code.specs.Code.{sizeOf}
 use Rattle.code.specs.Inside.{startOf}
-use Rattle.writing.specs.Internal.Measure.{nextCell, isCodeOf}
+use Rattle.writing.specs.Internal.Measure.{nextCell}
 use Rattle.writing.specs.Internal.MeasureLaws.{size-at, node-finest, node-same}
 use Rattle.writing.specs.Internal.Whole.{WholeUntil, CoveredTo}
 use Rattle.writing.proofs.WholeLaws.{gap-held, end-held, all-whole}
@@ -21,7 +20,7 @@ finest {codes} {at} {start} {size} h l =
       finest = λ z e. omega arith;
     }
 
-pub same : {codes : List ℕ} {at start size : ℕ} → at < length codes → isCodeOf (getD codes at 0) start size ≡ true → WholeUntil codes at start size (at + 1)
+pub same : {codes : List ℕ} {at start size : ℕ} → at < length codes → sizeOf (nextCell codes at) ≡ size → WholeUntil codes at start size (at + 1)
 same {codes} {at} {start} {size} h l =
     record {
       whole = λ n w k s. (1, node-same codes at w start size k s h l);

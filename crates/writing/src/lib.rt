@@ -4,7 +4,7 @@ ghost use mathlib.Core.Bool.{true, _&&_, not};
 ghost use Prim.Native.Nat.{_+_, _-_, _*_, _^_, _≤_, _<_};
 ghost use lib.ListN.{length, set};
 ghost use lib.Seq.{sets};
-ghost use Rattle.writing.specs.Internal.Measure.{isCodeOf, StartAtPlace, NodeMeasured, ListMeasured};
+ghost use Rattle.writing.specs.Internal.Measure.{StartAtPlace, NodeMeasured, ListMeasured};
 ghost use Rattle.writing.specs.Internal.Whole.{WholeUntil};
 ghost use Rattle.writing.specs.Internal.Put.{NodePut, ListPut};
 ghost use lib.Dec.{ltb};
@@ -39,18 +39,7 @@ fn start_at(codes: &[u64], at: usize) -> u64
     0x1000_0000_0000_0000
 }
 
-// Whether a code is that of the cell with this first finest cell and this size.
-fn is_code_of(code: u64, start: u64, size: u64) -> bool
-    requires { ⌜ isCode code ≡ true ⌝ }
-    ensures { λ r. ⌜ r ≡ isCodeOf code start size ⌝ }
-{
-    if code::start_in(code) != start {
-        return false;
-    }
-    code::size_in(code) == size
-}
-
-// The node of a cell, given by its first finest cell and its size, that has the code at hand inside.
+// The node of a cell, given by its first finest cell and its size, that has the code at hand inside: a code of the same size is the cell's.
 fn measure_node(codes: &[u64], at: usize, start: u64, size: u64) -> Measure
     requires { ⌜ (allCodes (now codes) ≡ true) × (at < length (now codes)) × (0 < size) × (start + size ≤ 9 ^ 16) ⌝ }
     ensures { λ r. ⌜ NodeMeasured (now (codes .entry)) at start size r ⌝ }
@@ -62,7 +51,7 @@ fn measure_node(codes: &[u64], at: usize, start: u64, size: u64) -> Measure
             wholes: 1,
         };
     }
-    if is_code_of(codes[at], start, size) {
+    if code::size_in(codes[at]) == size {
         return Measure {
             next: at + 1,
             bytes: 1,
@@ -123,7 +112,7 @@ fn whole_until(codes: &[u64], at: usize, start: u64, size: u64) -> usize
     if size < 9 {
         return at + 1;
     }
-    if is_code_of(codes[at], start, size) {
+    if code::size_in(codes[at]) == size {
         return at + 1;
     }
     let end = start + size;

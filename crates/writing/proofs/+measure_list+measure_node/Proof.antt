@@ -6,7 +6,6 @@ use native.Mathlib.Omega.{arith}
 use borrow.Author.Needs.{needs}
 use Prim.Native.Nat.{ℕ, _+_, _*_, _<_}
 use mathlib.Core.Logic.{⊎-elim}
-use Rattle.writing.specs.Internal.MeasureLaws.{code-at}
 use Rattle.writing.proofs.MeasureSteps as ms
 use borrow.Fn.Kinds.{In}
 use borrow.Fn.PlainCycle.{Measures, is, falls, and}
@@ -17,7 +16,7 @@ use Rattle.writing.proofs.measure_node.Reads as measure-node
 use Rattle.writing.proofs.measure_node.Kinds as measure-node-kinds
 use Rattle.writing.proofs.+measure_list+measure_node.Lts-measure_node as measure-node-lts
 use Rattle.writing.proofs.start_at.Reads as start-at-reads
-use Rattle.writing.proofs.is_code_of.Reads as is-code-of-reads
+use Rattle.code.proofs.size_in.Reads as size-in-reads
 use Rattle.writing.proofs.+measure_list+measure_node.{statement}
 use Rattle.writing.proofs.+measure_list+measure_node.Tie.{close}
 
@@ -56,7 +55,7 @@ abbrev for-list : ℕ → measure-list-lts.Claims
 for-list t = (start-at-reads.Asked, start-at-reads.Learnt, measure-node-below t, measure-node.Post)
 
 abbrev for-node : ℕ → measure-node-lts.Claims
-for-node t = (is-code-of-reads.Asked, is-code-of-reads.Learnt, measure-list-below t, measure-list.Post)
+for-node t = (size-in-reads.Asked, size-in-reads.Learnt, measure-list-below t, measure-list.Post)
 
 abbrev measure-list-Inv-loop : measure-list-lts.InvT-loop
 measure-list-Inv-loop codes at left start size next₀ first₀ child₀ bytes₀ wholes₀ more₀ next first child bytes wholes more =
@@ -125,22 +124,20 @@ measure-node-add-t7 t c = search needs
 measure-node-returns : (t : ℕ) → measure-node-lts.Need-returns (for-node t) (measure-node-at t) measure-node.Post
 measure-node-returns t c = ms.n-finest (omega arith) (omega arith) (c .if1 .taken)
 
-measure-node-mul-is-code-of : (t : ℕ) → measure-node-lts.Need-mul-is-code-of (for-node t) (measure-node-at t) measure-node.Post
-measure-node-mul-is-code-of t c = search needs
+measure-node-mul-size-in : (t : ℕ) → measure-node-lts.Need-mul-size-in (for-node t) (measure-node-at t) measure-node.Post
+measure-node-mul-size-in t c = search needs
 
-measure-node-shared-slice-read-is-code-of : (t : ℕ) → measure-node-lts.Need-shared-slice-read-is-code-of (for-node t) (measure-node-at t) measure-node.Post
-measure-node-shared-slice-read-is-code-of t c = search needs
+measure-node-shared-slice-read-size-in : (t : ℕ) → measure-node-lts.Need-shared-slice-read-size-in (for-node t) (measure-node-at t) measure-node.Post
+measure-node-shared-slice-read-size-in t c = search needs
 
-measure-node-is-code-of-requires : (t : ℕ) → measure-node-lts.Need-is-code-of-requires (for-node t) (measure-node-at t) measure-node.Post
-measure-node-is-code-of-requires t c κs =
-    let b = c .before .before .before in
-    code-at (b .args .codes .now) (b .args .at) (b .pre .1 .0) (b .pre .1 .1)
+measure-node-size-in-requires : (t : ℕ) → measure-node-lts.Need-size-in-requires (for-node t) (measure-node-at t) measure-node.Post
+measure-node-size-in-requires t c κs = search needs
 
 measure-node-add-t12 : (t : ℕ) → measure-node-lts.Need-add-t12 (for-node t) (measure-node-at t) measure-node.Post
 measure-node-add-t12 t c = search needs
 
 measure-node-returns-2 : (t : ℕ) → measure-node-lts.Need-returns-2 (for-node t) (measure-node-at t) measure-node.Post
-measure-node-returns-2 t c = ms.n-same (omega arith) (omega arith) (sym (c .before .is-code-of .ensures) ∙ c .if2 .taken)
+measure-node-returns-2 t c = ms.n-same (omega arith) (omega arith) (sym (c .before .size-in .ensures) ∙ c .if2 .taken)
 
 measure-node-measure-list-requires : (t : ℕ) → measure-node-lts.Need-measure-list-requires (for-node t) (measure-node-at t) measure-node.Post
 measure-node-measure-list-requires t c κs = (omega arith, (c .before .before .before .before .before .pre .1 .0, omega arith, omega arith, omega arith, omega arith))
@@ -148,7 +145,7 @@ measure-node-measure-list-requires t c κs = (omega arith, (c .before .before .b
 measure-node-returns-3 : (t : ℕ) → measure-node-lts.Need-returns-3 (for-node t) (measure-node-at t) measure-node.Post
 measure-node-returns-3 t c =
     let t = c .before .before .before in
-    ms.n-nine (omega arith) (t .before .before .before .if1 .left) (sym (t .before .is-code-of .ensures) ∙ t .if2 .left) (c .before .before .measure-list .ensures) (c .if3 .taken)
+    ms.n-nine (omega arith) (t .before .before .before .if1 .left) (λ e. t .if2 .left (t .before .size-in .ensures ∙ e)) (c .before .before .measure-list .ensures) (c .if3 .taken)
 
 measure-node-add-t11 : (t : ℕ) → measure-node-lts.Need-add-t11 (for-node t) (measure-node-at t) measure-node.Post
 measure-node-add-t11 t c = omega (arith, c .before .before .before .measure-list .ensures .short)
@@ -156,7 +153,7 @@ measure-node-add-t11 t c = omega (arith, c .before .before .before .measure-list
 measure-node-returns-4 : (t : ℕ) → measure-node-lts.Need-returns-4 (for-node t) (measure-node-at t) measure-node.Post
 measure-node-returns-4 t c =
     let t = c .before .before .before .before in
-    ms.n-held (omega arith) (t .before .before .before .if1 .left) (sym (t .before .is-code-of .ensures) ∙ t .if2 .left) (c .before .before .before .measure-list .ensures)
+    ms.n-held (omega arith) (t .before .before .before .if1 .left) (λ e. t .if2 .left (t .before .size-in .ensures ∙ e)) (c .before .before .before .measure-list .ensures)
     (c .before .if3 .left)
 
 pub +measure-list+measure-node-spec : {M : Type 1} → statement M
@@ -182,9 +179,9 @@ pub +measure-list+measure-node-spec : {M : Type 1} → statement M
     measure-node.Post
     (measure-node-add-t7 t)
     (measure-node-returns t)
-    (measure-node-mul-is-code-of t)
-    (measure-node-shared-slice-read-is-code-of t)
-    (measure-node-is-code-of-requires t)
+    (measure-node-mul-size-in t)
+    (measure-node-shared-slice-read-size-in t)
+    (measure-node-size-in-requires t)
     (measure-node-add-t12 t)
     (measure-node-returns-2 t)
     (measure-node-measure-list-requires t)

@@ -24,22 +24,20 @@ add-result c = search needs
 returns : tie.Need-returns Inv-loop μ-loop
 returns c = ws.finest (omega arith) (c .if1 .taken)
 
-mul-is-code-of : tie.Need-mul-is-code-of Inv-loop μ-loop
-mul-is-code-of c = search needs
+mul-size-in : tie.Need-mul-size-in Inv-loop μ-loop
+mul-size-in c = search needs
 
-shared-slice-read-is-code-of : tie.Need-shared-slice-read-is-code-of Inv-loop μ-loop
-shared-slice-read-is-code-of c = search needs
+shared-slice-read-size-in : tie.Need-shared-slice-read-size-in Inv-loop μ-loop
+shared-slice-read-size-in c = search needs
 
-is-code-of-requires : tie.Need-is-code-of-requires Inv-loop μ-loop
-is-code-of-requires c κs =
-    let b = c .before .before .before in
-    code-at (b .args .codes .now) (b .args .at) (b .pre .0) (b .pre .1)
+size-in-requires : tie.Need-size-in-requires Inv-loop μ-loop
+size-in-requires c κs = search needs
 
 add-result-2 : tie.Need-add-result-2 Inv-loop μ-loop
 add-result-2 c = search needs
 
 returns-2 : tie.Need-returns-2 Inv-loop μ-loop
-returns-2 c = ws.same (omega arith) (sym (c .before .is-code-of .ensures) ∙ c .if2 .taken)
+returns-2 c = ws.same (omega arith) (sym (c .before .size-in .ensures) ∙ c .if2 .taken)
 
 add-end : tie.Need-add-end Inv-loop μ-loop
 add-end c = search needs
@@ -63,14 +61,14 @@ returns-3 c =
     let l = c .before .before .before .before in
     ws.gap (omega arith) (l .before .before .before .before .if1 .left) (l .loop .inv) (omega arith) (rw (c .before .start-in .ensures) at (c .if3 .taken))
 
-size-in-requires : tie.Need-size-in-requires Inv-loop μ-loop
-size-in-requires c κs = search needs
+size-in-requires-2 : tie.Need-size-in-requires-2 Inv-loop μ-loop
+size-in-requires-2 c κs = search needs
 
 add-position : tie.Need-add-position Inv-loop μ-loop
 add-position c =
     let l = c .before .before .before .before .before in
     let s = l .before .before .before .before .before .before in
-    omega (arith, l .loop .inv .left, c .size-in .ensures, size-small (nextCell (s .args .codes .now) (l .loop .i)))
+    omega (arith, l .loop .inv .left, c .size-in2 .ensures, size-small (nextCell (s .args .codes .now) (l .loop .i)))
 
 add-i : tie.Need-add-i Inv-loop μ-loop
 add-i c = search needs
@@ -79,7 +77,7 @@ returns-4 : tie.Need-returns-4 Inv-loop μ-loop
 returns-4 c =
     let l = c .before .before .before .before .before .before in
     ws.reached (omega arith) (l .before .before .before .before .if1 .left) (l .loop .inv) (omega arith) (omega (arith, c .before .before .before .start-in .ensures, c .before .before .if3 .left))
-    (c .before .size-in .ensures) (c .if4 .taken)
+    (c .before .size-in2 .ensures) (c .if4 .taken)
 
 loop-less : tie.Need-loop-less Inv-loop μ-loop
 loop-less c = search needs
@@ -87,7 +85,7 @@ loop-less c = search needs
 loop-again : tie.Need-loop-again Inv-loop μ-loop
 loop-again c =
     let l = c .before .before .before .before .before .before in
-    ws.goes-on (omega arith) (l .before .before .before .before .if1 .left) (l .loop .inv) (omega arith) (c .before .size-in .ensures) (c .if4 .left)
+    ws.goes-on (omega arith) (l .before .before .before .before .if1 .left) (l .loop .inv) (omega arith) (c .before .size-in2 .ensures) (c .if4 .left)
 
 returns-5 : tie.Need-returns-5 Inv-loop μ-loop
 returns-5 c = ws.ended (omega arith) (c .before .before .before .before .before .if1 .left) (c .before .loop .inv) (omega arith)
@@ -100,9 +98,9 @@ whole-until-spec =
     μ-loop
     add-result
     returns
-    mul-is-code-of
-    shared-slice-read-is-code-of
-    is-code-of-requires
+    mul-size-in
+    shared-slice-read-size-in
+    size-in-requires
     add-result-2
     returns-2
     add-end
@@ -111,7 +109,7 @@ whole-until-spec =
     shared-slice-read-code
     start-in-requires
     returns-3
-    size-in-requires
+    size-in-requires-2
     add-position
     add-i
     returns-4

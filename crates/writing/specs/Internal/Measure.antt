@@ -1,13 +1,12 @@
 -- What the measuring pass says of the codes from a place on: for every cell that stands there with its name, the node that is built. Assumes nothing.
 use mathlib.Core.Path.{_≡_}
-use mathlib.Core.Bool.{Bool, true, _&&_}
+use mathlib.Core.Bool.{true}
 use mathlib.Core.Logic.{_⊎_}
 use mathlib.Core.List.{List, [], _∷_, _++_, map}
 use Prim.Native.Nat.{ℕ, suc, _+_, _-_, _*_, _^_, _≤_, _<_}
-use lib.Dec.{eqb}
 use lib.ListN.{length, drop, getD}
 use Rattle.cell.specs.declared.Cell.{Cell}
-use Rattle.code.specs.Code.{cellOf, sizeOf}
+use Rattle.code.specs.Code.{cellOf}
 use Rattle.code.specs.Inside.{startOf}
 use Rattle.reading.specs.declared.Level.{Level}
 use Rattle.reading.specs.Reading.{Nodes, render, wholes as wholesIn}
@@ -25,10 +24,6 @@ namesFrom codes at = map numbersOf (map cellOf (drop at codes))
 -- the cell of the code at a place
 abbrev pub nextCell : List ℕ → ℕ → Cell
 nextCell codes at = cellOf (getD codes at 0)
-
--- a code is that of the cell with this first finest cell and this size
-abbrev pub isCodeOf : (code start size : ℕ) → Bool
-isCodeOf code start size = eqb (startOf (cellOf code)) start && eqb (sizeOf (cellOf code)) size
 
 -- the sum of the sizes of the codes from a place on
 abbrev pub sizeFrom : List ℕ → ℕ → ℕ

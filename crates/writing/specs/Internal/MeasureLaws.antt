@@ -1,6 +1,6 @@
 -- What a node takes, from what its list takes, and what a list takes, from its first node and the rest. Assumes nothing.
-use mathlib.Core.Path.{_≡_, refl, sym, ap, ap₂, _∙_}
-use mathlib.Core.Bool.{true, false, _&&_, cond}
+use mathlib.Core.Path.{_≡_, refl, sym, ap, _∙_}
+use mathlib.Core.Bool.{true, cond}
 use mathlib.Core.Logic.{inl, inr, ⊎-elim}
 use mathlib.Core.List.{List, [], _∷_, _++_, map}
 use Prim.Native.Nat.{ℕ, zero, suc, _+_, _-_, _*_, _/_, _%_, _^_, _≤_, _<_}
@@ -10,8 +10,8 @@ use native.Mathlib.Omega.{arith}
 use lib.Dec.{eqb}
 use lib.ListN.{length, drop, getD, length-append, drop-of-length-le}
 use lib.Seq.{drop-cons}
-use borrow.Author.Tests.{eq-eqb, ne-eqb, eqb-true}
-use Rattle.logic.specs.Laws.Bools.{and-left, and-right, clash}
+use borrow.Author.Tests.{eq-eqb, ne-eqb}
+use Rattle.logic.specs.Laws.Bools.{and-left, and-right}
 use Rattle.logic.specs.Laws.Order.{lt-or}
 use Rattle.ternary.specs.Laws.Powers.{nine-pos, nine-lt}
 use Rattle.cell.specs.declared.Cell.{Cell}
@@ -34,7 +34,7 @@ use Rattle.reading.specs.Laws.Built.{built-side}
 use Rattle.writing.specs.Internal.Take.{restsOf, Since, Each, Took}
 use Rattle.writing.specs.Internal.TakeLaws.{prefix-same, prefix-both, side-in, side-out, took-none, took-join, standing-next}
 use Rattle.writing.specs.Internal.TakeLaws.{all-ahead, self-node, self-took, self-past, deeper, deeper-node, nine-past}
-use Rattle.writing.specs.Internal.Measure.{namesFrom, nextCell, isCodeOf, sizeFrom, Fills, NodeAt, ListAt, NodeTakes, ListTakes}
+use Rattle.writing.specs.Internal.Measure.{namesFrom, nextCell, sizeFrom, Fills, NodeAt, ListAt, NodeTakes, ListTakes}
 
 -- ---- codes, cells and names at a place
 
@@ -141,22 +141,18 @@ module _ (codes : List ℕ) (at : ℕ) (w : Name) (start size k : ℕ) (s : Node
       zero-depth zero e l = refl
       zero-depth (suc j) e l = absurd (omega (arith, pow-suc 9 j, nine-pos j))
 
-  -- the code is the cell's own
-  pub node-same : isCodeOf (getD codes at 0) start size ≡ true → NodeTakes codes at w k (at + 1) 1 1
+  -- a code inside that has the cell's size is the cell's
+  pub node-same : sizeOf (nextCell codes at) ≡ size → NodeTakes codes at w k (at + 1) 1 1
   node-same e =
       let z : sizeOf (cellNamed q) ≡ 9 ^ (16 - length q) = size-named q (16 - length q) q-named (omega (arith, length-name q q-named)) in
       let y : sizeOf (cellNamed q) ≡ sizeOf (nextCell codes at) = ap sizeOf q-cell in
-      let x : sizeOf (nextCell codes at) ≡ size = eqb-true _ _ (and-right (eqb (startOf (nextCell codes at)) start) (eqb (sizeOf (nextCell codes at)) size) e) in
       self
       (⊎-elim (λ l. absurd (omega (arith, nine-lt (16 - length q) k (omega (arith, length-name q q-named, s .depth)), s .sized))) (λ l. l)
       (lt-or (length w) (length q)))
 
-  -- it is another one's
-  other : isCodeOf (getD codes at 0) start size ≡ false → Prefix q w → ⊥
-  other n p =
-      let e : w ≡ q = prefix-both w q (s .inside) p in
-      let f : startOf (nextCell codes at) ≡ start = ap startOf (sym q-cell ∙ ap cellNamed (sym e)) ∙ s .starts in
-      clash (sym (ap₂ _&&_ (eq-eqb _ _ f) (eq-eqb _ _ (same-size e ∙ sym (s .sized)))) ∙ n)
+  -- of one that is not
+  other : (sizeOf (nextCell codes at) ≡ size → ⊥) → Prefix q w → ⊥
+  other n p = n (same-size (prefix-both w q (s .inside) p) ∙ sym (s .sized))
 
 -- ---- the children of a cell, one after the other
 
@@ -192,7 +188,7 @@ module _ (w : Name) (k d : ℕ) (n : IsName 6 15 w) (l : length w + suc k ≡ 16
 
 module _
     (codes : List ℕ) (at : ℕ) (w : Name) (start size k : ℕ) (s : NodeAt codes at w start size (suc k)) (h : at < length codes)
-    (n : isCodeOf (getD codes at 0) start size ≡ false)
+    (n : sizeOf (nextCell codes at) ≡ size → ⊥)
   where
     ninth : size / 9 ≡ 9 ^ k
     ninth = omega (arith, s .sized, pow-suc 9 k)

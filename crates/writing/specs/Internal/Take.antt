@@ -1,4 +1,4 @@
--- AreNames in rising order, taken in turn by the cells of a tree: the names inside a cell stand together, and those behind it come after. Assumes nothing.
+-- Names in rising order, taken in turn by the cells of a tree: the names inside a cell stand together, and those behind it come after. Assumes nothing.
 use mathlib.Core.Path.{_≡_}
 use mathlib.Core.Logic.{_⊎_}
 use mathlib.Core.List.{List, [], _∷_, _++_}
