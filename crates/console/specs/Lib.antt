@@ -1,3 +1,4 @@
+pub mod Arguments
+pub mod Input
 pub mod Laws
-pub mod Line
-pub mod Setting
+pub mod Room

@@ -1,2 +1,3 @@
-pub mod Flight
-pub mod Lines
+pub mod Code
+pub mod Cut
+pub mod Memory

@@ -1,4 +1,4 @@
-pub mod Answer
 pub mod Flight
 pub mod Laws
-pub mod Lines
+pub mod Memory
+pub mod Setting
