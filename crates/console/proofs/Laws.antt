@@ -3,7 +3,7 @@ use mathlib.Core.Path.{_≡_, refl, sym, ap, ap₂, _∙_, subst}
 use mathlib.Core.List.{List, [], _∷_, _++_, append-assoc, append-nil}
 use Prim.Native.Nat.{ℕ, zero, suc, _≤_, _<_}
 use native.Mathlib.Omega.{arith}
-use lib.ListN.{length, take, drop}
+use lib.ListN.{length, take}
 use lib.Seq.{length-take-le}
 use Rattle.logic.specs.Laws.Stores.{take-nil, take-cut}
 use Rattle.lines.specs.declared.Reached.{Reached}
@@ -12,7 +12,7 @@ use Rattle.lines.specs.Lines.{Unended}
 use Rattle.lines.specs.Next.{Hands}
 use Rattle.lines.specs.Laws.Lines.{unended-append}
 use Rattle.console.specs.declared.LineRead.{LineRead}
-use Rattle.console.specs.declared.LineRead.the-variants.{Line, Last, End}
+use Rattle.console.specs.declared.LineRead.the-variants.{Line, Last}
 use Rattle.console.specs.Input.{unread, Given, lastLine}
 
 -- the bytes that were left and those read since are the beginning of a line, which stands in its room, and the rest
@@ -45,7 +45,8 @@ module _ {left rest room : List ℕ} {kept : ℕ} (v : Begun left rest room kept
   )
 
   pub begun-line :
-      (bytes : List ℕ) (n at end : ℕ) {r : Reached} → end ≤ length bytes → Hands rest (take kept room) (take end bytes) room′ r → r ≡ LineEnd n at → Given left bytes room′ (Line n at end)
+      (bytes : List ℕ) (n at end : ℕ) {r : Reached} → end ≤ length bytes → Hands rest (take kept room) (take end bytes) room′ r → r ≡ LineEnd n at → Given left bytes
+      room′ (Line n at end)
   begun-line bytes n at end b h e = ends bytes n at end b (subst (Hands rest (take kept room) (take end bytes) room′) e h)
 
   -- the part is used up

@@ -1,12 +1,12 @@
 -- A name more is read; names are printed part by part. Assumes nothing.
 use mathlib.Core.Path.{_≡_, refl, sym, ap, ap₂, _∙_, subst}
 use mathlib.Core.Logic.{_⊎_, ⊎-elim}
-use mathlib.Core.Bool.{Bool, true, false}
-use mathlib.Core.List.{List, [], _∷_, _++_, append-assoc, append-nil}
+use mathlib.Core.Bool.{Bool}
+use mathlib.Core.List.{List, [], _∷_, _++_}
 use Prim.Native.Nat.{ℕ, zero, suc, _+_, _-_, _≤_, _<_}
 use native.Mathlib.Numerals.{add-one}
 use native.Mathlib.Omega.{arith}
-use lib.Dec.{ltb, leb}
+use lib.Dec.{leb}
 use lib.ListN.{length, take, drop, set, length-drop, length-set}
 use lib.Seq.{take-all, take-add, take-suc-set, length-take-le}
 use borrow.Author.Tests.{lt-ltb, ltb-false, lt-leb, le-leb}
@@ -24,22 +24,21 @@ use Rattle.lines.specs.Laws.Fold.{then-line, then-last, then-none}
 use Rattle.console.specs.declared.LineRead.the-variants.{Line, Last}
 use Rattle.console.specs.Input.{Given}
 use Rattle.report.specs.declared.Names.{Names as NamesPart}
-use Rattle.report.specs.Put.{Put}
-use Rattle.report.specs.Names.{nameLine, namesOf, NamesPut}
+use Rattle.report.specs.Names.{namesOf, NamesPut}
 use Rattle.report.specs.Laws.Names.{names-append, names-some}
 use Rattle.report.specs.Laws.Put.{put-taken}
 use Rattle.cell.specs.declared.Arrangement.{Arrangement}
 use Rattle.reader.specs.Check.{textRefusal}
 use Rattle.listing.specs.declared.Listed.{Listed}
 use Rattle.listing.specs.declared.Listed.the-variants.{Count}
-use Rattle.listing.specs.List.{codesOf, listingRefusal, listed, countIn}
+use Rattle.listing.specs.List.{codesOf, listingRefusal, listed}
 use Rattle.coverage.specs.declared.NamesRead.{NamesRead}
 use Rattle.coverage.specs.declared.Text.{Text}
 use Rattle.coverage.specs.declared.Text.the-variants.{Length}
 use Rattle.coverage.specs.declared.Taken.{Taken}
 use Rattle.coverage.specs.declared.Taken.the-variants as taken-as
 use Rattle.coverage.specs.declared.NamesRead.the-variants as read-as
-use Rattle.coverage.specs.Names.{Names, read, stopped, lineRefusal, namedOr, withName, NameTaken, AllTaken}
+use Rattle.coverage.specs.Names.{Names, read, stopped, namedOr, withName, NameTaken, AllTaken}
 use Rattle.coverage.specs.Printed.{TextWritten}
 
 -- ---- one name
@@ -54,7 +53,8 @@ unfolding coded
 as-refusal zero code r e = let z : _≡_ {A = ℕ} 0 1 = cc in absurd (omega arith)
 as-refusal (suc q) code r e = let k : suc q ≡ r = ap refusalIn e in (k, λ z. omega arith)
 
-module _ (line codes : List ℕ) (count : ℕ) (h : count ≤ length codes) {n : ℕ} (t : n ≡ length (trimmed line)) {x : Coded} (e : x ≡ coded (nameRefusal (take n line)) (nameCode (take n line))) where
+module _ (line codes : List ℕ) (count : ℕ) (h : count ≤ length codes) {n : ℕ} (t : n ≡ length (trimmed line)) {x : Coded}
+    (e : x ≡ coded (nameRefusal (take n line)) (nameCode (take n line))) where
   name-text : take n line ≡ trimmed line
   name-text = ap (λ (i : ℕ). take i line) t ∙ trimmed-take line
 
@@ -120,11 +120,13 @@ module _ (room : List ℕ) (big : 18 ≤ length room) (codes later : List ℕ) (
       some zero g = absurd (g refl)
       some (suc q) g = refl
 
-  whole : (x : List ℕ) → take n room ≡ take (length room) x → (r : Taken) (h : NameTaken (take n room) codes count later r) → withName (length codes) (read (take count codes)) x ≡ comes r h
+  whole : (x : List ℕ) → take n room ≡ take (length room) x → (r : Taken) (h : NameTaken (take n room) codes count later r) → withName (length codes) (read (take count codes)) x
+      ≡ comes r h
   whole x f r h =
       sym (cut-name (length codes) (length room) (take count codes) x big) ∙ ap (withName (length codes) (read (take count codes))) (sym f) ∙ is r h
 
-  line-comes : (left bytes : List ℕ) (from end : ℕ) → Given left bytes room (Line n from end) → (r : Taken) (h : NameTaken (take n room) codes count later r) → OfEnded (withName (length codes)) (read []) (comes r h)
+  line-comes : (left bytes : List ℕ) (from end : ℕ) → Given left bytes room (Line n from end) → (r : Taken) (h : NameTaken (take n room) codes count later r) → OfEnded
+      (withName (length codes)) (read []) (comes r h)
   line-comes left bytes from end (more, x, u, g, f, i, j, l) r h = subst (OfEnded (withName (length codes)) (read [])) (whole x f r h) (then-line (withName (length codes)) x u o)
 
   last-comes : (left bytes : List ℕ) → Given left bytes room (Last n) → (r : Taken) (h : NameTaken (take n room) codes count later r) → OfBytes (withName (length codes)) (read []) (comes r h)
@@ -134,7 +136,8 @@ module _ (room : List ℕ) (big : 18 ≤ length room) (codes later : List ℕ) (
     pub taken-more : (k : ℕ) → r ≡ taken-as.Count k → (k ≤ length later) × (suc count ≤ k)
     taken-more k e = let g = subst (NameTaken (take n room) codes count later) e h in (g .2, g .3)
 
-    pub line-read : (left bytes : List ℕ) (from end k : ℕ) → Given left bytes room (Line n from end) → r ≡ taken-as.Count k → OfEnded (withName (length codes)) (read []) (read (take k later))
+    pub line-read : (left bytes : List ℕ) (from end k : ℕ) → Given left bytes room (Line n from end) → r ≡ taken-as.Count k → OfEnded (withName (length codes)) (read [])
+        (read (take k later))
     line-read left bytes from end k g e = line-comes left bytes from end g (taken-as.Count k) (subst (NameTaken (take n room) codes count later) e h)
 
     pub line-stops : (left bytes : List ℕ) (from end q : ℕ) → Given left bytes room (Line n from end) → r ≡ taken-as.Refused q → AllTaken (length codes) later (read-as.Stopped q)
@@ -170,7 +173,7 @@ module _ (codes out later : List ℕ) (from end : ℕ) (r : NamesPart) (h : from
 
 listed-as : (q : ℕ) (t : List ℕ) (n : ℕ) → listed q t ≡ Count n → (q ≡ 0) × (length (codesOf t) ≡ n)
 unfolding listed
-listed-as zero t n e = (refl, ap countIn e)
+listed-as zero t n e = (refl, (cc))
 listed-as (suc q) t n e = let z : _≡_ {A = ℕ} 0 1 = cc in absurd (omega arith)
 
 -- the codes listed have their room

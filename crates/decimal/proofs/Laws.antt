@@ -233,7 +233,8 @@ fewer zero x h k = absurd (omega arith)
 fewer (suc j) x h k = (omega arith, omega (arith, pow-suc 10 (suc j)))
 
 -- one digit counted, as the n-th of at most 20
-pub counted : (n x : ℕ) → n ≤ 20 → 9 < x → x < 10 ^ (21 - n) → (n < 20) × (x / 10 < 10 ^ (21 - (n + 1))) × (length (printedFrom (21 - n) x) ≡ suc (length (printedFrom (21 - (n + 1)) (x / 10))))
+pub counted : (n x : ℕ) → n ≤ 20 → 9 < x → x < 10 ^ (21 - n) → (n < 20) × (x / 10 < 10 ^ (21 - (n + 1))) ×
+    (length (printedFrom (21 - n) x) ≡ suc (length (printedFrom (21 - (n + 1)) (x / 10))))
 counted n x l h k =
     let e : 21 - n ≡ suc (21 - (n + 1)) = omega arith in
     let f = fewer (21 - (n + 1)) x h (rw e at k) in
@@ -272,8 +273,10 @@ module _ (s : List ℕ) (at i : ℕ) (some : at < i) (h : i ≤ length s) where
       let e : i - 1 - at ≡ i - at - 1 = omega arith in
       let n : suc (i - 1) ≡ i = omega arith in
       let stored : drop (i - 1) (set s (i - 1) b) ≡ b ∷ drop i s =
-      ap (drop (i - 1)) (set-split s (i - 1) b (omega arith)) ∙ drop-at (take (i - 1) s) (b ∷ drop (suc (i - 1)) s) (i - 1) (length-take-le (i - 1) s (omega arith)) ∙ ap (λ (y : ℕ). b ∷ drop y s) n in
-      ap₂ (λ (k : ℕ) (l : List ℕ). lastBytes k (x / 10) ++ l) e stored ∙ sym (append-assoc (lastBytes (i - at - 1) (x / 10)) (b ∷ []) (drop i s)) ∙ ap (λ (l : List ℕ). l ++ drop i s) (sym (last-byte (i - at) x (omega arith)))
+      ap (drop (i - 1)) (set-split s (i - 1) b (omega arith)) ∙ drop-at (take (i - 1) s) (b ∷ drop (suc (i - 1)) s) (i - 1) (length-take-le (i - 1) s (omega arith)) ∙ ap
+      (λ (y : ℕ). b ∷ drop y s) n in
+      ap₂ (λ (k : ℕ) (l : List ℕ). lastBytes k (x / 10) ++ l) e stored ∙ sym (append-assoc (lastBytes (i - at - 1) (x / 10)) (b ∷ []) (drop i s)) ∙ ap
+      (λ (l : List ℕ). l ++ drop i s) (sym (last-byte (i - at) x (omega arith)))
 
 -- the same in front of i, the same in front of what is before it
 pub front-kept : (s t : List ℕ) (i : ℕ) → take i s ≡ take i t → take (i - 1) s ≡ take (i - 1) t

@@ -1,6 +1,6 @@
 // Whole numbers and fixes as people write them, in decimal digits.
 ghost use mathlib.Core.Path.{_≡_};
-ghost use mathlib.Core.List.{_∷_, _++_};
+ghost use mathlib.Core.List.{_++_};
 ghost use Prim.Native.Nat.{_+_, _≤_, _<_};
 ghost use lib.ListN.{length, take, drop};
 ghost use Rattle.decimal.specs.Decimal.{wholeIn, numberIn, fixIn, signedNumber, ahead, trimmed, printed};

@@ -33,7 +33,8 @@ added-taken code room held = go (ltb room (length (inserted code held)))
 
 pub taken-in :
     (code : ℕ) (codes : List ℕ) (count : ℕ) (r : Added) (exit : List ℕ) →
-    (r ≡ added (length codes) (take count codes) code) × ((exit ≡ memory codes (take count codes) code) × Held exit (heldAfter r count)) → Takes (coded-as.Code code) codes count (asTaken r) exit
+    (r ≡ added (length codes) (take count codes) code) × ((exit ≡ memory codes (take count codes) code) × Held exit (heldAfter r count)) → Takes (coded-as.Code code) codes count
+    (asTaken r) exit
 unfolding takenMemory
 taken-in code codes count r exit h = (ap asTaken (h .0) ∙ added-taken code (length codes) (take count codes), (h .1 .0, held r (h .1 .1)))
   where

@@ -3,7 +3,6 @@ use mathlib.Core.List.{List}
 use Prim.Native.Nat.{ℕ}
 use lib.IntN.{ℤ}
 use Rattle.logic.specs.Refusal.{_otherwise_}
-use Rattle.cell.specs.declared.Arrangement.{Arrangement}
 use Rattle.code.specs.declared.Coded.{Coded}
 use Rattle.code.specs.declared.Coded.the-variants.{Refused}
 use Rattle.code.specs.Code.{codeOf, coded}

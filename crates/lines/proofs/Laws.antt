@@ -7,8 +7,8 @@ use Prim.Native.Nat.{ℕ, zero, suc, _+_, _-_, _≤_, _<_}
 use native.Mathlib.Numerals.{add-one}
 use native.Mathlib.Omega.{arith}
 use lib.Dec.{eqb}
-use lib.ListN.{length, take, drop, getD, set, length-append, length-drop}
-use lib.Seq.{take-all, take-take, take-length, take-suc, take-suc-set, take-append-add, getD-drop, drop-drop, length-take-le}
+use lib.ListN.{length, take, drop, getD, set, length-drop}
+use lib.Seq.{take-all, take-take, take-length, take-suc, take-suc-set, take-append-add, getD-drop, drop-drop}
 use borrow.Author.Tests.{eqb-true, eqb-false}
 use Rattle.bytes.specs.Bytes.{slice, indexOf, indexAfter}
 use Rattle.lines.specs.Lines.{Unended}

@@ -1,13 +1,12 @@
 -- One line more is answered. Assumes nothing.
-use mathlib.Core.Path.{_≡_, refl, sym, ap, ap₂, _∙_, subst}
+use mathlib.Core.Path.{_≡_, refl, sym, ap, _∙_, subst}
 use mathlib.Core.Bool.{Bool, true, false, cond}
-use mathlib.Core.List.{List, [], _∷_, _++_, append-assoc, append-nil}
-use Prim.Native.Nat.{ℕ, _+_, _-_, _≤_, _<_}
+use mathlib.Core.List.{List, [], _∷_, _++_, append-assoc}
+use Prim.Native.Nat.{ℕ, _+_, _-_, _≤_}
 use native.Mathlib.Omega.{arith}
 use lib.Dec.{ltb}
 use lib.ListN.{length, take}
 use borrow.Author.Tests.{ltb-false}
-use Rattle.lines.specs.Lines.{Unended}
 use Rattle.lines.specs.Fold.{OfBytes, OfEnded}
 use Rattle.lines.specs.Laws.Fold.{then-line, then-last, then-none}
 use Rattle.code.specs.declared.Coded.{Coded}
@@ -18,7 +17,6 @@ use Rattle.report.specs.Answer.{answerOf, answerLine}
 use Rattle.console.specs.declared.Room.{Room}
 use Rattle.console.specs.declared.Room.the-variants.{From}
 use Rattle.console.specs.Room.{startFor, Made}
-use Rattle.console.specs.declared.LineRead.{LineRead}
 use Rattle.console.specs.declared.LineRead.the-variants.{Line, Last}
 use Rattle.console.specs.Input.{Given}
 use Rattle.name_fixes.specs.declared.Waiting.{Waiting}

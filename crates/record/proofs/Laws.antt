@@ -1,10 +1,9 @@
 -- One line more is recorded. Assumes nothing.
-use mathlib.Core.Path.{_≡_, refl, sym, ap, ap₂, _∙_, subst}
-use mathlib.Core.Bool.{Bool, false}
-use mathlib.Core.List.{List, [], _++_}
+use mathlib.Core.Path.{_≡_, sym, ap, ap₂, _∙_, subst}
+use mathlib.Core.Bool.{Bool}
+use mathlib.Core.List.{List, _++_}
 use Prim.Native.Nat.{ℕ, _≤_}
 use lib.ListN.{length, take}
-use Rattle.track.specs.Track.{Held}
 use Rattle.lines.specs.Fold.{OfBytes, OfEnded}
 use Rattle.lines.specs.Laws.Fold.{then-line, then-last}
 use Rattle.code.specs.declared.Coded.{Coded}
@@ -30,7 +29,8 @@ pub line-taken :
 line-taken s line codes later count full q e f h =
     ap₂ (λ (x : Taken) (l : List ℕ). memoryAs x l count full) (sym h ∙ e) f ∙ taken-memory (lineCode s line) codes count full
 
-module _ (s : Setting) (room : List ℕ) (big : 43 ≤ length room) (size n : ℕ) {first : Memory} (m next : Memory) (o : OfEnded (withLine s size) first m) (e : next ≡ withLine s size m (take n room)) where
+module _ (s : Setting) (room : List ℕ) (big : 43 ≤ length room) (size n : ℕ) {first : Memory} (m next : Memory) (o : OfEnded (withLine s size) first m)
+    (e : next ≡ withLine s size m (take n room)) where
   -- a line that was cut to its room
   cut : (x : List ℕ) → take n room ≡ take (length room) x → withLine s size m x ≡ next
   cut x f = sym (e ∙ ap (λ (c : Coded). withCode size c m) (ap (lineCode s) f ∙ cut-line s (length room) x big))

@@ -1,7 +1,7 @@
 -- A cell's name, where it has room; bytes put into a part of the lent memory; names one after the other. Assumes nothing.
 use mathlib.Core.Path.{_≡_, refl, sym, ap, ap₂, _∙_, subst}
-use mathlib.Core.Bool.{Bool, true, false}
-use mathlib.Core.List.{List, [], _∷_, _++_, append-nil, append-assoc}
+use mathlib.Core.Bool.{Bool}
+use mathlib.Core.List.{List, [], _∷_, _++_, append-nil}
 use Prim.Native.Nat.{ℕ, zero, suc, _+_, _-_, _≤_, _<_}
 use native.Mathlib.Numerals.{add-one}
 use native.Mathlib.Omega.{arith}
@@ -14,7 +14,7 @@ use Rattle.logic.specs.Refusal.{refuse, _otherwise_, given}
 use Rattle.logic.specs.Laws.Refusal.{stops, passes, given-value}
 use Rattle.code.specs.declared.Coded.{Coded}
 use Rattle.code.specs.declared.Coded.the-variants as coded-as
-use Rattle.code.specs.Code.{isCode, cellOf, codeRefusal}
+use Rattle.code.specs.Code.{cellOf, codeRefusal}
 use Rattle.code.specs.Laws.Code.{a-code, code-passes, code-is-cell}
 use Rattle.name.specs.declared.Named.{Named}
 use Rattle.name.specs.declared.Named.the-variants.{Length, Refused}
@@ -94,7 +94,8 @@ module _ (out : List ℕ) (at : ℕ) (h : at ≤ length out) where
   pub part-room : at + 16 ≤ length out → 16 ≤ length (take (length out - at) (drop at out))
   part-room k = rw part (omega (arith, part-length))
 
-  pub part-put : (bytes : List ℕ) {later : List ℕ} → later ≡ bytes ++ drop (length bytes) (take (length out - at) (drop at out)) → putMid at (length out - at) out later ≡ putAt at bytes out
+  pub part-put : (bytes : List ℕ) {later : List ℕ} → later ≡ bytes ++ drop (length bytes) (take (length out - at) (drop at out)) → putMid at (length out - at) out later ≡ putAt
+      at bytes out
   part-put bytes e =
       let p : postOf at (length out - at) out ≡ [] = post-is at (length out) out h ∙ drop-length out in
       ap₂ (λ (x y : List ℕ). take at out ++ (x ++ y)) (e ∙ ap (λ (x : List ℕ). bytes ++ drop (length bytes) x) part) p

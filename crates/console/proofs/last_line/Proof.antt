@@ -1,7 +1,5 @@
 -- `last_line` meets its contract. Assumes nothing.
 use Rattle.console.proofs.Laws.{last-some}
-use native.Mathlib.Omega.{arith}
-use borrow.Author.Needs.{needs}
 use Rattle.console.proofs.last_line.Statement.{statement}
 use Rattle.console.proofs.last_line.Tie as tie
 

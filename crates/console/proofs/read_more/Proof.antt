@@ -1,6 +1,5 @@
 -- `read_more` meets its contract. Assumes nothing.
 use Rattle.console.specs.Laws.Input.{count-fits}
-use native.Mathlib.Omega.{arith}
 use borrow.Author.Needs.{needs}
 use Rattle.console.proofs.read_more.Statement.{statement}
 use Rattle.console.proofs.read_more.Tie as tie

@@ -2,7 +2,6 @@
 use mathlib.Core.Path.{sym}
 use lib.Seq.{length-take-le}
 use Rattle.console.specs.Laws.Input.{count-fits}
-use native.Mathlib.Omega.{arith}
 use borrow.Author.Needs.{needs}
 use Rattle.coverage.proofs.answer_file.Statement.{statement}
 use Rattle.coverage.proofs.answer_file.Tie as tie

@@ -1,6 +1,5 @@
 -- `write_text` is safe: the codes and the text lie within their room. Assumes nothing.
 use Rattle.coverage.proofs.Laws.{read-fits, text-length}
-use native.Mathlib.Omega.{arith}
 use borrow.Author.Needs.{needs}
 use Rattle.coverage.proofs.write_text.Statement.{statement}
 use Rattle.coverage.proofs.write_text.Tie as tie

@@ -165,7 +165,8 @@ number-printed (pos n) h =
 number-printed (negsuc n) h = number-minus (printed (suc n)) ∙ ap (signedNumber true) (whole-printed (suc n) (omega arith)) ∙ number-of true (suc n) h
 
 -- a line that is this once its return is off
-fix-trimmed : (longitude z : ℤ) (line : List ℕ) → FitsSigned longitude → FitsSigned z → trimmed line ≡ printedNumber longitude ++ (32 ∷ printedNumber z) → fixIn line ≡ Lines.Fix longitude z
+fix-trimmed : (longitude z : ℤ) (line : List ℕ) → FitsSigned longitude → FitsSigned z → trimmed line ≡ printedNumber longitude ++ (32 ∷ printedNumber z) → fixIn line ≡
+    Lines.Fix longitude z
 unfolding fixIn fixOf
 fix-trimmed longitude z line h k e =
     let f = free-number 32 longitude (omega arith) in

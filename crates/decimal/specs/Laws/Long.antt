@@ -1,16 +1,16 @@
 -- A line of more than 42 bytes is no fix: a sign and 19 digits, a space, the same again and a carriage return are 42. Assumes nothing.
-use mathlib.Core.Path.{_≡_, refl, sym, ap, ap₂, _∙_}
+use mathlib.Core.Path.{_≡_, refl, ap, _∙_}
 use mathlib.Core.Logic.{⊎-elim}
 use mathlib.Core.Bool.{Bool, true, false, _&&_, cond}
 use mathlib.Core.List.{List, [], _∷_}
-use Prim.Native.Nat.{ℕ, suc, _+_, _≤_, _<_}
+use Prim.Native.Nat.{ℕ, suc, _+_, _≤_}
 use native.Mathlib.Omega.{arith}
 use lib.Dec.{eqb, leb}
 use lib.ListN.{length, take}
 use borrow.Author.Tests.{lt-leb}
 use Rattle.logic.specs.Laws.Bools.{by-cond}
 use Rattle.logic.specs.Laws.Order.{lt-or}
-use Rattle.decimal.specs.Decimal.{allDecimal, wholeIn, signedNumber, numberIn, ahead, behind, trimmed, fixOf, fixIn}
+use Rattle.decimal.specs.Decimal.{wholeIn, signedNumber, numberIn, ahead, behind, trimmed, fixOf, fixIn}
 use Rattle.decimal.specs.declared.Whole.{Whole}
 use Rattle.decimal.specs.declared.Whole.the-variants as Wholes
 use Rattle.decimal.specs.declared.Number.{Number}

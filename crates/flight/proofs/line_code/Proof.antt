@@ -1,5 +1,5 @@
 -- `flight::line_code` meets its contract: each way is one case of the line's reading. Assumes nothing.
-use mathlib.Core.Path.{_≡_, sym, ap, ap₂, _∙_}
+use mathlib.Core.Path.{sym, ap, ap₂, _∙_}
 use Rattle.signed.specs.Laws.Sign.{back-result}
 use Rattle.cell.specs.Laws.Found.{found-is-cell}
 use Rattle.code.specs.Code.{foundCode}

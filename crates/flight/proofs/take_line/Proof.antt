@@ -1,5 +1,5 @@
 -- `flight::take_line` meets its contract: the memory's answer, or a refused line. Assumes nothing.
-use mathlib.Core.Path.{_≡_, sym, ap, _∙_, subst}
+use mathlib.Core.Path.{sym, _∙_, subst}
 use Rattle.code.specs.declared.Coded.{Coded}
 use Rattle.track.specs.declared.Added.{Added}
 use Rattle.flight.specs.declared.Taken.the-variants.{Refused}

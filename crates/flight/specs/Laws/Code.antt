@@ -1,15 +1,13 @@
 -- A line's code is a cell's. Assumes nothing.
-use mathlib.Core.Path.{_≡_, refl, sym, ap, _∙_, subst}
+use mathlib.Core.Path.{_≡_, refl, ap, subst}
 use mathlib.Core.Bool.{true}
 use mathlib.Core.List.{List}
-use Prim.Native.Nat.{ℕ, zero, suc, _+_, _≤_}
+use Prim.Native.Nat.{ℕ, zero, suc}
 use native.Mathlib.Omega.{arith}
 use lib.IntN.{ℤ}
-use lib.ListN.{length}
 use Rattle.cell.specs.declared.Arrangement.{Arrangement}
-use Rattle.code.specs.declared.Coded.{Coded}
-use Rattle.code.specs.declared.Coded.the-variants.{Code, Refused}
-use Rattle.code.specs.Code.{codeOf, cellOf, isCode, coded, codeIn}
+use Rattle.code.specs.declared.Coded.the-variants.{Code}
+use Rattle.code.specs.Code.{codeOf, isCode, coded, codeIn}
 use Rattle.code.specs.Laws.Code.{cell-has-code}
 use Rattle.decimal.specs.declared.FixLine.{FixLine}
 use Rattle.decimal.specs.declared.FixLine.the-variants as Lines

@@ -29,7 +29,11 @@ module _ {S : Type 0} (step : S → List ℕ → S) where
     -- the last line, which has no end
     pub then-last : (x : List ℕ) → Unended x → 0 < length x → OfEnded step first s → OfBytes step first (step s x)
     then-last [] u h o = absurd (omega arith)
-    then-last (b ∷ x) u h (bytes, shut, e) = (bytes ++ (b ∷ x), ap (λ (a : S). step a (b ∷ x)) e ∙ sym (ap (after step first) lines ∙ after-append first (ended [] bytes) ((b ∷ x) ∷ [])))
+    then-last (b ∷ x) u h (bytes, shut, e) = (
+      bytes ++ (b ∷ x),
+      ap (λ (a : S). step a (b ∷ x)) e ∙ sym (ap (after step first) lines ∙ after-append first (ended [] bytes)
+          ((b ∷ x) ∷ [])),
+    )
       where
         rest : begun [] (bytes ++ (b ∷ x)) ≡ b ∷ x
         rest = begun-append [] bytes (b ∷ x) ∙ ap (λ (l : List ℕ). begun l (b ∷ x)) shut ∙ begun-on [] (b ∷ x) u

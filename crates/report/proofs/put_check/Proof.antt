@@ -2,7 +2,6 @@
 use mathlib.Core.Path.{sym, ap}
 use Rattle.report.specs.Lines.{checkLine}
 use Rattle.report.proofs.Laws.{put-as}
-use native.Mathlib.Omega.{arith}
 use borrow.Author.Needs.{needs}
 use Rattle.report.proofs.put_check.Statement.{statement}
 use Rattle.report.proofs.put_check.Tie as tie

@@ -1,30 +1,29 @@
 -- A text that was written stands in front of its room. Assumes nothing.
-use mathlib.Core.Path.{_≡_, refl, sym, ap, ap₂, _∙_}
-use mathlib.Core.Bool.{Bool, true, false}
-use mathlib.Core.List.{List, _++_}
+use mathlib.Core.Path.{_≡_, refl, sym, ap, _∙_}
+use mathlib.Core.List.{List}
 use Prim.Native.Nat.{ℕ, zero, suc, _≤_}
 use native.Mathlib.Omega.{arith}
 use lib.Dec.{ltb}
 use lib.ListN.{length, take, drop}
 use lib.Seq.{take-at}
 use borrow.Author.Tests.{ltb-false}
-use Rattle.logic.specs.Refusal.{refuse, _otherwise_, given}
+use Rattle.logic.specs.Refusal.{refuse, given}
 use Rattle.logic.specs.Laws.Refusal.{both, allowed}
 use Rattle.cell.specs.declared.Arrangement.{Arrangement}
 use Rattle.cell.specs.Cell.{arrangementRefusal}
 use Rattle.writing.specs.declared.Written.{Written}
 use Rattle.writing.specs.declared.Written.the-variants.{Length, Refused}
-use Rattle.writing.specs.Write.{codesRefusal, textOf, textIn, writeRefusal, written, lengthIn, refusalIn}
+use Rattle.writing.specs.Write.{codesRefusal, textOf, textIn, writeRefusal, written}
 
 as-written : (r n m : ℕ) → written r n ≡ Length m → (r ≡ 0) × (n ≡ m)
 unfolding written
-as-written zero n m e = (refl, ap lengthIn e)
+as-written zero n m e = (refl, (cc))
 as-written (suc r) n m e = let z : _≡_ {A = ℕ} 0 1 = cc in absurd (omega arith)
 
 not-written : (r n q : ℕ) → written r n ≡ Refused q → (r ≡ q) × (q ≡ 0 → ⊥)
 unfolding written
 not-written zero n q e = let z : _≡_ {A = ℕ} 0 1 = cc in absurd (omega arith)
-not-written (suc r) n q e = let k : suc r ≡ q = ap refusalIn e in (k, λ z. omega arith)
+not-written (suc r) n q e = let k : suc r ≡ q = cc in (k, λ z. omega arith)
 
 module _ (a : Arrangement) (codes text later : List ℕ) {r : Written} (e : r ≡ written (writeRefusal a codes (length text)) (length (textOf a codes))) where
   has-room : writeRefusal a codes (length text) ≡ 0 → length (textOf a codes) ≤ length text
