@@ -57,6 +57,12 @@ printf '%b' "CVR\x00\x0132P(0123567)" >other.cvr
 try "an arrangement of its own" 'coverage ask other.cvr P0' 'yes\n' ''
 try "its n and s" 'coverage check other.cvr' "0 0 3 2 7 $((7 * 9 ** 14))\n" ''
 try "all but two children" 'coverage ask other.cvr P' 'no\n' ''
+for n in 0 1 2 3; do
+    for s in 0 1 2 3; do
+        printf '%b' "CVR\x00\x01$n${s}N" >other.cvr
+        try "each arrangement checked" 'coverage check other.cvr' "0 0 $n $s 1 $((9 ** 15))\n" ''
+    done
+done
 for name in "''" T M n p 0 9 "' '" "' P3'" '-' "$'\xff'" '-1'; do try "no letter N to S" "coverage ask two.cvr $name" '1\n' 1; done
 try "an empty name" "coverage ask two.cvr ''" '1\n' 1
 for name in P9 P3x P-1 "'P3 '" P33333333333339 "$'P\xff'" P34:; do try "no digit 0 to 8" "coverage ask two.cvr $name" '3\n' 3; done
