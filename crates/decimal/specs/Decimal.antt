@@ -1,6 +1,5 @@
 -- Whole numbers in decimal, and the lines of a flight: "a line for each fix, `longitude z`, two whole numbers in decimal". Bytes 48 to 57 are the
 -- digits, 45 is the minus sign, 32 the space, 13 the carriage return. Assumes nothing.
-use mathlib.Core.Path.{_≡_, refl}
 use mathlib.Core.Bool.{Bool, true, false, _&&_, cond}
 use mathlib.Core.List.{List, [], _∷_, _++_, map}
 use Prim.Native.Nat.{ℕ, zero, suc, _+_, _-_, _/_, _%_, _^_}
@@ -83,21 +82,3 @@ unfoldable pub printedNumber : ℤ → List ℕ
 unfolding printed
 printedNumber (pos n) = printed n
 printedNumber (negsuc n) = 45 ∷ printed (suc n)
-
--- `-42 7` with a carriage return; `7`, which is one number; 2^63 is too large
-a-fix : fixIn (45 ∷ 52 ∷ 50 ∷ 32 ∷ 55 ∷ 13 ∷ []) ≡ Lines.Fix (negsuc 41) (pos 7)
-unfolding fixIn fixOf numberIn signedNumber wholeIn allDecimal value
-a-fix = refl
-
-no-fix : fixIn (55 ∷ []) ≡ Lines.Not
-unfolding fixIn fixOf numberIn signedNumber wholeIn allDecimal value
-no-fix = refl
-
-too-large : numberIn (printed (2 ^ 63)) ≡ Numbers.Not
-unfolding printed numberIn signedNumber wholeIn allDecimal value
-too-large = refl
-
--- 0 is `0`, 205 is `205`
-some-printed : (printed 0 ≡ 48 ∷ []) × (printed 205 ≡ 50 ∷ 48 ∷ 53 ∷ [])
-unfolding printed
-some-printed = (refl, refl)

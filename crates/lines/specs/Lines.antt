@@ -1,5 +1,5 @@
 -- The lines of an input, as its bytes come in. 10 is the line feed. Assumes nothing.
-use mathlib.Core.Path.{_≡_, refl}
+use mathlib.Core.Path.{_≡_}
 use mathlib.Core.Bool.{cond}
 use mathlib.Core.List.{List, [], _∷_, _++_}
 use Prim.Native.Nat.{ℕ}
@@ -28,7 +28,3 @@ linesOf bytes = ended [] bytes ++ last (begun [] bytes)
 abbrev pub Unended : List ℕ → Type 0
 Unended [] = Unit {0}
 Unended (b ∷ bs) = (b ≡ 10 → ⊥) × Unended bs
-
--- `1`, the end of a line, an empty line and its end, `2` `3`: three lines, the last without an end
-some-lines : linesOf (49 ∷ 10 ∷ 10 ∷ 50 ∷ 51 ∷ []) ≡ (49 ∷ []) ∷ [] ∷ (50 ∷ 51 ∷ []) ∷ []
-some-lines = refl
