@@ -1,7 +1,7 @@
--- A line's code is a cell's. Assumes nothing.
+-- A line's code is a cell's, and that of the fix that stands on the line. Assumes nothing.
 use mathlib.Core.Path.{_≡_, refl, ap, subst}
 use mathlib.Core.Bool.{true}
-use mathlib.Core.List.{List}
+use mathlib.Core.List.{List, _∷_, _++_}
 use Prim.Native.Nat.{ℕ, zero, suc}
 use native.Mathlib.Omega.{arith}
 use lib.IntN.{ℤ}
@@ -11,7 +11,8 @@ use Rattle.code.specs.Code.{codeOf, isCode, coded, codeIn}
 use Rattle.code.specs.Laws.Code.{cell-has-code}
 use Rattle.decimal.specs.declared.FixLine.{FixLine}
 use Rattle.decimal.specs.declared.FixLine.the-variants as Lines
-use Rattle.decimal.specs.Decimal.{fixIn}
+use Rattle.decimal.specs.Decimal.{fixIn, printedNumber}
+use Rattle.decimal.specs.Laws.Decimal.{FitsSigned, fix-printed}
 use Rattle.locate.specs.Fix.{fixRefusal, fixCell}
 use Rattle.locate.specs.Laws.Fix.{fix-allowed}
 use Rattle.flight.specs.declared.Setting.{Setting}
@@ -38,3 +39,11 @@ of-line s Lines.Not c e = let z : _≡_ {A = ℕ} 0 1 = cc in absurd (omega arit
 pub line-is-code : (s : Setting) (line : List ℕ) (c : ℕ) → lineCode s line ≡ Code c → isCode c ≡ true
 unfolding lineCode
 line-is-code s line c e = of-line s (fixIn line) c e
+
+-- a line `longitude z` has the code of the cell of that fix, or the refusal of it
+pub line-fix :
+    (s : Setting) (longitude z : ℤ) → FitsSigned longitude → FitsSigned z →
+    lineCode s (printedNumber longitude ++ (32 ∷ printedNumber z)) ≡
+    coded (fixRefusal (s .arrangement) (s .resolution) longitude z) (codeOf (fixCell (s .arrangement) (s .resolution) longitude z))
+unfolding lineCode ofLine fixCoded
+line-fix s longitude z h k = ap (ofLine s) (fix-printed longitude z h k)
