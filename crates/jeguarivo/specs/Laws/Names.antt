@@ -4,7 +4,7 @@ use mathlib.Core.Path.{_≡_, refl, sym, ap, _∙_}
 use mathlib.Core.List.{List, [], _∷_}
 use Prim.Native.Nat.{ℕ, _+_}
 use Rattle.cell.specs.declared.Cell.{Cell}
-use Rattle.code.specs.Code.{codeOf, cellOf}
+use Rattle.code.specs.Code.{cellOf}
 use Rattle.code.specs.Laws.Code.{cell-code}
 use Rattle.name.specs.Name.{digitBytes, nameOf, nameCode}
 use Rattle.name.specs.Laws.Name.{name-code}

@@ -1,14 +1,17 @@
 -- The first refusal that applies: what a chain of tests answers, and when a number is given. Assumes nothing.
 use mathlib.Core.Path.{_≡_, refl, sym, _∙_}
-use mathlib.Core.Logic.{_↔_, _⊎_, inl, inr}
-use mathlib.Core.Bool.{Bool, true, false, _&&_, not}
-use mathlib.Core.List.{List, [], _∷_}
-use Prim.Native.Nat.{ℕ, suc}
+use mathlib.Core.Logic.{_↔_, _⊎_, inl, inr, ⊎-elim}
+use mathlib.Core.Bool.{Bool, true, false, _&&_, _||_, not}
+use mathlib.Core.List.{[], _∷_, _++_}
+use Prim.Native.Nat.{ℕ, suc, _≤_, _<_}
 use native.Mathlib.Omega.{arith}
-use lib.Dec.{eqb}
-use borrow.Author.Tests.{eqb-true, eqb-false, eq-eqb, not-true}
+use lib.IntN.{ℤ}
+use lib.Signed.{leZ, ltZ, _≤ℤ_, _<ℤ_}
+use lib.Dec.{T, leb, ltb, eqb}
+use borrow.Author.Tests.{ltb-true, ltb-false, leb-true, leb-false, eqb-true, eqb-false, eq-eqb, not-true, not-false}
 use Rattle.logic.specs.Laws.Bools.{and-left, and-right, clash}
 use Rattle.logic.specs.Refusal.{refuse, _otherwise_}
+use Rattle.logic.specs.Laws.Refusal.{stops, passes}
 use Rattle.jeguarivo.specs.Order.{Chain, numbers, First, FirstOf, Choice, Applies, NoneOf, absent, distinct}
 
 -- ---- a test and its condition
@@ -22,11 +25,60 @@ pub last : {t : Bool} {C : Type 0} (q : ℕ) → Decides t C → FirstOf ((suc q
 last {t = true} q d = record { first = inl (d .holds refl, refl) }
 last {t = false} q d = record { first = inr (d .fails refl, refl) }
 
--- a test in front of others, which may use that its condition does not hold
-pub test : {r : ℕ} {t : Bool} {C : Type 0} {xs : Chain} (q : ℕ) → Decides t C → ((C → ⊥) → FirstOf xs r) → FirstOf ((suc q, C) ∷ xs) (refuse t (suc q) otherwise r)
+-- tests in front of others, which may use that their conditions do not hold
+append : (xs ys : Chain) (p r : ℕ) → absent 0 (numbers xs) ≡ true → First xs p → (NoneOf xs → First ys r) → First (xs ++ ys) (p otherwise r)
+append [] ys p r z e f = rw (passes r e) (f tt)
+append (x ∷ xs) ys p r z (inl h) f =
+    let n : p ≡ 0 → ⊥ = λ e. eqb-false 0 (x .0) (not-true (eqb 0 (x .0)) (and-left (not (eqb 0 (x .0))) (absent 0 (numbers xs)) z)) (sym e ∙ h .1) in
+    inl (h .0, stops p r n ∙ h .1)
+append (x ∷ xs) ys p r z (inr h) f =
+    inr (h .0, append xs ys p r (and-right (not (eqb 0 (x .0))) (absent 0 (numbers xs)) z) (h .1) (λ n. f (h .0, n)))
+
+pub then : {xs ys : Chain} {p r : ℕ} → FirstOf xs p → absent 0 (numbers xs) ≡ true → (NoneOf xs → FirstOf ys r) → FirstOf (xs ++ ys) (p otherwise r)
+then {xs} {ys} {p} {r} h z f = record { first = append xs ys p r z (h .first) (λ n. f n .first) }
+
+-- two tests that give one number
+pub twice : {s t : Bool} {A B : Type 0} (q : ℕ) → Decides s A → Decides t B → FirstOf ((suc q, A ⊎ B) ∷ []) (refuse s (suc q) otherwise refuse t (suc q))
 unfolding _otherwise_
-test {t = true} q d f = record { first = inl (d .holds refl, refl) }
-test {t = false} q d f = record { first = inr (d .fails refl, f (d .fails refl) .first) }
+twice {s = true} q d e = record { first = inl (inl (d .holds refl), refl) }
+twice {s = false} {t = true} q d e = record { first = inl (inr (e .holds refl), refl) }
+twice {s = false} {t = false} q d e = record { first = inr (⊎-elim (d .fails refl) (e .fails refl), refl) }
+
+-- ---- tests
+
+pub lt-decides : (a b : ℕ) → Decides (ltb a b) (a < b)
+lt-decides a b = record { holds = ltb-true a b; fails = λ e h. let k = ltb-false a b e in omega arith }
+
+pub le-decides : (a b : ℕ) → Decides (leb a b) (a ≤ b)
+le-decides a b = record { holds = leb-true a b; fails = λ e h. let k = leb-false a b e in omega arith }
+
+pub eq-decides : (a b : ℕ) → Decides (eqb a b) (a ≡ b)
+eq-decides a b = record { holds = eqb-true a b; fails = eqb-false a b }
+
+passed : (t : Bool) → t ≡ true → T t
+passed true e = tt
+passed false e = clash (sym e)
+
+failed : (t : Bool) → t ≡ false → T t → ⊥
+failed true e h = clash e
+failed false e h = h
+
+pub ltZ-decides : (a b : ℤ) → Decides (ltZ a b) (a <ℤ b)
+ltZ-decides a b = record { holds = λ e. record { lt = passed (ltZ a b) e }; fails = λ e h. failed (ltZ a b) e (h .lt) }
+
+pub leZ-decides : (a b : ℤ) → Decides (leZ a b) (a ≤ℤ b)
+leZ-decides a b = record { holds = λ e. record { le = passed (leZ a b) e }; fails = λ e h. failed (leZ a b) e (h .le) }
+
+pub not-decides : {t : Bool} {A : Type 0} → Decides t A → Decides (not t) (A → ⊥)
+not-decides {t} d = record { holds = λ e h. d .fails (not-true t e) h; fails = λ e n. n (d .holds (not-false t e)) }
+
+pub and-decides : {s t : Bool} {A B : Type 0} → Decides s A → Decides t B → Decides (s && t) (A × B)
+and-decides {s = true} d e = record { holds = λ h. (d .holds refl, e .holds h); fails = λ h k. e .fails h (k .1) }
+and-decides {s = false} d e = record { holds = λ h. clash (sym h); fails = λ h k. d .fails refl (k .0) }
+
+pub or-decides : {s t : Bool} {A B : Type 0} → Decides s A → Decides t B → Decides (s || t) (A ⊎ B)
+or-decides {s = true} d e = record { holds = λ h. inl (d .holds refl); fails = λ h. clash h }
+or-decides {s = false} d e = record { holds = λ h. inr (e .holds h); fails = λ h. ⊎-elim (d .fails refl) (e .fails h) }
 
 -- ---- when a number is given
 
