@@ -77,7 +77,7 @@ use Rattle.jeguarivo.specs.Entries.{
   noFix,
 }
 use Rattle.jeguarivo.specs.Texts.{checkNumbers, listNumbers, askNumbers, writtenNumbers}
-use Rattle.jeguarivo.specs.Order.{Chain, numbers, NoneOf, FirstOf}
+use Rattle.jeguarivo.specs.Order.{Chain, NoneOf, FirstOf}
 use Rattle.jeguarivo.specs.Laws.Order.{Decides, last, then, twice, lt-decides, le-decides, eq-decides, ltZ-decides, leZ-decides, not-decides, and-decides, or-decides}
 use Rattle.jeguarivo.specs.Refusals.{
   NoLetter,
