@@ -62,6 +62,13 @@ module _ (t : List ℕ) where
     unfolding checkedOf
     check-size = ap (λ (r : ℕ). checkNumbers (answer r t) .size) accepted
 
+    -- n and s are the heading's
+    pub check-heading : take 7 t ≡ heading (checkNumbers (checkedOf t) .n) (checkNumbers (checkedOf t) .s)
+    unfolding checkedOf
+    check-heading =
+        ap (take 7) (accepted-reads t accepted .body .all)
+        ∙ sym (ap₂ heading (ap (λ (r : ℕ). checkNumbers (answer r t) .n) accepted) (ap (λ (r : ℕ). checkNumbers (answer r t) .s) accepted))
+
     -- "Every list of cells that covers exactly an accepted text's ground has at least as many cells as the reader reports for that text."
     pub check-fewest : (qs : List Cell) → Cells qs → SameGround qs (wholeCells (nodesOf t)) → checkNumbers (checkedOf t) .cells ≤ length qs
     check-fewest qs c g = omega (arith, check-cells, reported-fewest t accepted qs c g)
