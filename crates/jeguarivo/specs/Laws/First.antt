@@ -44,62 +44,14 @@ use Rattle.jeguarivo.specs.declared.SquareAnswer.{SquareAnswer}
 use Rattle.jeguarivo.specs.declared.PointAnswer.{PointAnswer}
 use Rattle.jeguarivo.specs.declared.VerticesAnswer.{VerticesAnswer}
 use Rattle.jeguarivo.specs.declared.FixAnswer.{FixAnswer}
-use Rattle.jeguarivo.specs.Entries.{
-  arrangement,
-  codeAnswer,
-  cellCode,
-  nameAnswer,
-  parentCode,
-  childCode,
-  pointCode,
-  fixCode,
-  neighbourCode,
-  codeCell,
-  foundAnswer,
-  namedAnswer,
-  writtenName,
-  cellSize,
-  cellShape,
-  cornerCount,
-  placedRefusal,
-  placedAnswer,
-  cellSquare,
-  cellNucleus,
-  cellVertices,
-  groundFix,
-  aSquare,
-  noSquare,
-  aPoint,
-  noPoint,
-  theVertices,
-  noVertices,
-  aFix,
-  noFix,
-}
+use Rattle.jeguarivo.specs.Entries.{arrangement, codeAnswer, cellCode, nameAnswer, parentCode, childCode, pointCode, fixCode, neighbourCode, codeCell}
+use Rattle.jeguarivo.specs.Entries.{foundAnswer, namedAnswer, writtenName, cellSize, cellShape, cornerCount, placedRefusal, placedAnswer, cellSquare}
+use Rattle.jeguarivo.specs.Entries.{cellNucleus, cellVertices, groundFix, aSquare, noSquare, aPoint, noPoint, theVertices, noVertices, aFix, noFix}
 use Rattle.jeguarivo.specs.Texts.{checkNumbers, listNumbers, askNumbers, writtenNumbers}
 use Rattle.jeguarivo.specs.Order.{Chain, NoneOf, FirstOf}
 use Rattle.jeguarivo.specs.Laws.Order.{Decides, last, then, twice, lt-decides, le-decides, eq-decides, ltZ-decides, leZ-decides, not-decides, and-decides, or-decides}
-use Rattle.jeguarivo.specs.Refusals.{
-  NoLetter,
-  NoDigit,
-  InRange,
-  OnImage,
-  arrangementTests,
-  codeTests,
-  textTests,
-  cellTests,
-  nameTests,
-  codeNameTests,
-  parentTests,
-  childTests,
-  pointTests,
-  fixTests,
-  neighbourTests,
-  placedTests,
-  listTests,
-  askTests,
-  writeTests,
-}
+use Rattle.jeguarivo.specs.Refusals.{NoLetter, NoDigit, InRange, OnImage, arrangementTests, codeTests, textTests, cellTests, nameTests, codeNameTests}
+use Rattle.jeguarivo.specs.Refusals.{parentTests, childTests, pointTests, fixTests, neighbourTests, placedTests, listTests, askTests, writeTests}
 
 -- ---- what the tests decide
 
@@ -345,6 +297,10 @@ list-first t room =
 
 -- jgv_coverage_ask
 module _ (t : List ℕ) where
+  -- a text that is not one not of the grammar is of the grammar
+  pub of-grammar : ((Accepted t → ⊥) → ⊥) → Accepted t
+  of-grammar n = is-accepted t (passed (grammar t) n)
+
   -- a text that is no longer refused has a reading
   read : NoneOf (textTests t) → ReadsAs (northOf t) (southOf t) t (nodesOf t)
   read n = reads-own t (passed (grammar t) (n .1 .1 .0))
@@ -410,6 +366,10 @@ module _ (codes : List ℕ) (a : allCodes codes ≡ true) where
     where
       off : codesRefusal codes ≡ 11 → codesRefusal codes ≡ 0 → ⊥
       off p q = omega arith
+
+-- a list that is not one out of order is in order
+pub of-order : (codes : List ℕ) → (Any NoCell codes → ⊥) → ((Rise codes × Apart (map cellOf codes) → ⊥) → ⊥) → Rise codes × Apart (map cellOf codes)
+of-order codes a n = let d = in-rising-order codes (missed (allCodes codes) (cells-of codes) a) in d .holds (passed d n)
 
 codes-first : (codes : List ℕ) → FirstOf ((4, Any NoCell codes) ∷ (11, Rise codes × Apart (map cellOf codes) → ⊥) ∷ []) (codesRefusal codes)
 unfolding codesRefusal

@@ -26,43 +26,11 @@ use Rattle.jeguarivo.specs.Entries.{arrangement, cellCode, nameAnswer, p
 use Rattle.jeguarivo.specs.Texts.{checkNumbers, listNumbers, askNumbers, writtenNumbers}
 use Rattle.jeguarivo.specs.Order.{order, orderInWriting, numbers, inOrder, NoneOf}
 use Rattle.jeguarivo.specs.Laws.Order.{given-exactly, none-exactly}
-use Rattle.jeguarivo.specs.Refusals.{
-  NoLetter,
-  NoDigit,
-  InRange,
-  OnImage,
-  codeTests,
-  textTests,
-  cellTests,
-  nameTests,
-  codeNameTests,
-  parentTests,
-  childTests,
-  pointTests,
-  fixTests,
-  neighbourTests,
-  placedTests,
-  listTests,
-  askTests,
-  writeTests,
-}
-use Rattle.jeguarivo.specs.Laws.First.{
-  name-refusal,
-  cell-code-first,
-  name-code-first,
-  point-code-first,
-  fix-code-first,
-  neighbour-first,
-  parent-first,
-  child-first,
-  code-cell-first,
-  code-name-first,
-  square-first,
-  check-first,
-  list-first,
-  ask-first,
-  write-first,
-}
+use Rattle.jeguarivo.specs.Refusals.{NoLetter, NoDigit, InRange, OnImage, codeTests, textTests, cellTests, nameTests, codeNameTests, parentTests, childTests}
+use Rattle.jeguarivo.specs.Refusals.{pointTests, fixTests, neighbourTests, placedTests, listTests, askTests, writeTests}
+use Rattle.jeguarivo.specs.Laws.First.{name-refusal, cell-code-first, name-code-first, point-code-first, fix-code-first, neighbour-first, parent-first}
+use Rattle.jeguarivo.specs.Laws.First.{child-first, code-cell-first, code-name-first, square-first, check-first, list-first, ask-first, write-first}
+use Rattle.jeguarivo.specs.Laws.First.{of-grammar, of-order}
 
 -- ---- "Order where several apply"
 
@@ -172,6 +140,9 @@ module _ (n s : ℕ) where
   pub two-fix : (k : ℕ) (L z : ℤ) → (fixCode n s k L z .refusal ≡ 2) ↔ (((3 < n) ⊎ (3 < s) → ⊥) × (15 < k))
   two-fix k L z = given-exactly 1 (fix-code-first n s k L z) refl
 
+  pub two-point : (k : ℕ) (x y : ℤ) → (pointCode n s k x y .refusal ≡ 2) ↔ (((3 < n) ⊎ (3 < s) → ⊥) × (15 < k))
+  two-point k x y = given-exactly 1 (point-code-first n s k x y) refl
+
   -- 6: "L or z out of range"
   pub six-fix : (k : ℕ) (L z : ℤ) → (fixCode n s k L z .refusal ≡ 6) ↔ (((3 < n) ⊎ (3 < s) → ⊥) × ((15 < k → ⊥) × (InRange L z → ⊥)))
   six-fix k L z = given-exactly 5 (fix-code-first n s k L z) refl
@@ -207,45 +178,73 @@ module _ (t : List ℕ) where
   pub eight-list :
       (room : ℕ) →
       (listNumbers (listed (listingRefusal t room) t) .refusal ≡ 8)
-      ↔ ((65536 < length t → ⊥) × ((WrongVersion t → ⊥) × (((Accepted t → ⊥) → ⊥) × (room < length (codesOf t)))))
-  eight-list room = given-exactly 7 (list-first t room) refl
+      ↔ ((65536 < length t → ⊥) × ((WrongVersion t → ⊥) × (Accepted t × (room < length (codesOf t)))))
+  eight-list room =
+      let k = given-exactly 7 (list-first t room) refl in (
+        (λ e. let a = k .0 e in (a .0, (a .1 .0, (of-grammar t (a .1 .1 .0), a .1 .1 .1)))),
+        (λ a. k .1 (a .0, (a .1 .0, ((λ n. n (a .1 .1 .0)), a .1 .1 .1)))),
+      )
+
+-- ---- asking
+
+module _ (n s : ℕ) (t : List ℕ) (code : ℕ) where
+  -- what jgv_coverage_ask refuses
+  abbrev refusedAsk : ℕ
+  refusedAsk = askNumbers (asked (askRefusal (arrangement n s) t code) t code) .refusal
+
+  -- 5: "n or s given as a number above 3"
+  pub five-ask : (refusedAsk ≡ 5) ↔ ((3 < n) ⊎ (3 < s))
+  five-ask = given-exactly 4 (ask-first t n s code) refl
 
   -- 14: "asked arrangement differs from the heading's"
   pub fourteen-ask :
-      (n s code : ℕ) →
-      (askNumbers (asked (askRefusal (arrangement n s) t code) t code) .refusal ≡ 14)
+      (refusedAsk ≡ 14)
       ↔ (((3 < n) ⊎ (3 < s) → ⊥)
-      × ((NoCell code → ⊥)
-      × ((65536 < length t → ⊥) × ((WrongVersion t → ⊥) × (((Accepted t → ⊥) → ⊥) × (take 7 t ≡ heading n s → ⊥))))))
-  fourteen-ask n s code = given-exactly 13 (ask-first t n s code) refl
+      × ((NoCell code → ⊥) × ((65536 < length t → ⊥) × ((WrongVersion t → ⊥) × (Accepted t × (take 7 t ≡ heading n s → ⊥))))))
+  fourteen-ask =
+      let k = given-exactly 13 (ask-first t n s code) refl in (
+        (λ e. let a = k .0 e in let b = a .1 .1 in (a .0, (a .1 .0, (b .0, (b .1 .0, (of-grammar t (b .1 .1 .0), b .1 .1 .1)))))),
+        (λ a. let b = a .1 .1 in k .1 (a .0, (a .1 .0, (b .0, (b .1 .0, ((λ m. m (b .1 .1 .0)), b .1 .1 .1)))))),
+      )
 
--- ---- of a text that is written
+-- ---- writing
 
 module _ (n s : ℕ) (codes : List ℕ) (room : ℕ) where
-  -- what jgv_coverage_write refuses
-  abbrev refused : ℕ
-  refused = writtenNumbers (written (writeRefusal (arrangement n s) codes room) (length (textOf (arrangement n s) codes))) .refusal
+  -- the length of the text, and what jgv_coverage_write refuses
+  abbrev long : ℕ
+  long = length (textOf (arrangement n s) codes)
+
+  abbrev refusedWrite : ℕ
+  refusedWrite = writtenNumbers (written (writeRefusal (arrangement n s) codes room) long) .refusal
+
+  -- 5: "n or s given as a number above 3"
+  pub five-write : (refusedWrite ≡ 5) ↔ ((3 < n) ⊎ (3 < s))
+  five-write = given-exactly 4 (write-first n s codes room) refl
 
   -- 4: "a code is no cell's"
-  pub four-write : (refused ≡ 4) ↔ (((3 < n) ⊎ (3 < s) → ⊥) × Any NoCell codes)
+  pub four-write : (refusedWrite ≡ 4) ↔ (((3 < n) ⊎ (3 < s) → ⊥) × Any NoCell codes)
   four-write = given-exactly 3 (write-first n s codes room) refl
 
   -- 11: "list not strictly rising, or one cell inside another"
-  pub eleven-write : (refused ≡ 11) ↔ (((3 < n) ⊎ (3 < s) → ⊥) × ((Any NoCell codes → ⊥) × (Rise codes × Apart (map cellOf codes) → ⊥)))
+  pub eleven-write : (refusedWrite ≡ 11) ↔ (((3 < n) ⊎ (3 < s) → ⊥) × ((Any NoCell codes → ⊥) × (Rise codes × Apart (map cellOf codes) → ⊥)))
   eleven-write = given-exactly 10 (write-first n s codes room) refl
 
   -- 13: "text longer than 65,536 bytes, .. to be written", "judged on the text of a good list"
   pub thirteen-write :
-      (refused ≡ 13)
-      ↔ (((3 < n) ⊎ (3 < s) → ⊥)
-      × ((Any NoCell codes → ⊥) × (((Rise codes × Apart (map cellOf codes) → ⊥) → ⊥) × (65536 < length (textOf (arrangement n s) codes)))))
-  thirteen-write = given-exactly 12 (write-first n s codes room) refl
+      (refusedWrite ≡ 13) ↔ (((3 < n) ⊎ (3 < s) → ⊥) × ((Any NoCell codes → ⊥) × ((Rise codes × Apart (map cellOf codes)) × (65536 < long))))
+  thirteen-write =
+      let k = given-exactly 12 (write-first n s codes room) refl in (
+        (λ e. let a = k .0 e in (a .0, (a .1 .0, (of-order codes (a .1 .0) (a .1 .1 .0), a .1 .1 .1)))),
+        (λ a. k .1 (a .0, (a .1 .0, ((λ m. m (a .1 .1 .0)), a .1 .1 .1)))),
+      )
 
   -- 8: "lent buffer shorter than the answer", a text
   pub eight-write :
-      (refused ≡ 8)
+      (refusedWrite ≡ 8)
       ↔ (((3 < n) ⊎ (3 < s) → ⊥)
-      × ((Any NoCell codes → ⊥)
-      × (((Rise codes × Apart (map cellOf codes) → ⊥) → ⊥)
-      × ((65536 < length (textOf (arrangement n s) codes) → ⊥) × (room < length (textOf (arrangement n s) codes))))))
-  eight-write = given-exactly 7 (write-first n s codes room) refl
+      × ((Any NoCell codes → ⊥) × ((Rise codes × Apart (map cellOf codes)) × ((65536 < long → ⊥) × (room < long)))))
+  eight-write =
+      let k = given-exactly 7 (write-first n s codes room) refl in (
+        (λ e. let a = k .0 e in (a .0, (a .1 .0, (of-order codes (a .1 .0) (a .1 .1 .0), a .1 .1 .1)))),
+        (λ a. k .1 (a .0, (a .1 .0, ((λ m. m (a .1 .1 .0)), a .1 .1 .1)))),
+      )
