@@ -277,23 +277,28 @@ module _ (n s code : ℕ) where
   ground-first = placed-first (λ (x : FixAnswer). x .refusal) n s code (λ a c. aFix (groundNucleus a c)) noFix (λ a c. refl) (λ r. refl)
 
 -- jgv_coverage_check
-pub check-first : (t : List ℕ) → FirstOf (textTests t) (checkNumbers (checkedOf t) .refusal)
+answer-refusal : (r : ℕ) (t : List ℕ) → checkNumbers (answer r t) .refusal ≡ r
+answer-refusal zero t = refl
+answer-refusal (suc r) t = refl
+
+pub check-refusal : (t : List ℕ) → checkNumbers (checkedOf t) .refusal ≡ textRefusal t
 unfolding checkedOf
-check-first t = subst (FirstOf (textTests t)) (sym (go (textRefusal t))) (text-first t)
-  where
-    go : (r : ℕ) → checkNumbers (answer r t) .refusal ≡ r
-    go zero = refl
-    go (suc r) = refl
+check-refusal t = answer-refusal (textRefusal t) t
+
+pub check-first : (t : List ℕ) → FirstOf (textTests t) (checkNumbers (checkedOf t) .refusal)
+check-first t = subst (FirstOf (textTests t)) (sym (check-refusal t)) (text-first t)
 
 -- jgv_coverage_list
+pub list-refusal : (r : ℕ) (t : List ℕ) → listNumbers (listed r t) .refusal ≡ r
+unfolding listed
+list-refusal zero t = refl
+list-refusal (suc r) t = refl
+
 pub list-first : (t : List ℕ) (room : ℕ) → FirstOf (listTests t room) (listNumbers (listed (listingRefusal t room) t) .refusal)
-unfolding listingRefusal listed
+unfolding listingRefusal
 list-first t room =
-    subst (FirstOf (listTests t room)) (sym (go (listingRefusal t room))) (then (text-first t) refl (λ _. last 7 (lt-decides room (length (codesOf t)))))
-  where
-    go : (r : ℕ) → listNumbers (listed r t) .refusal ≡ r
-    go zero = refl
-    go (suc r) = refl
+    subst (FirstOf (listTests t room)) (sym (list-refusal (listingRefusal t room) t))
+    (then (text-first t) refl (λ _. last 7 (lt-decides room (length (codesOf t)))))
 
 -- jgv_coverage_ask
 module _ (t : List ℕ) where
@@ -318,15 +323,16 @@ module _ (t : List ℕ) where
           let j : 48 + s ≡ 48 + s′ = cc in
           (omega arith, omega arith)
 
+  pub ask-refusal : (r code : ℕ) → askNumbers (asked r t code) .refusal ≡ r
+  unfolding asked
+  ask-refusal zero code = refl
+  ask-refusal (suc r) code = refl
+
   pub ask-first : (n s code : ℕ) → FirstOf (askTests n s t code) (askNumbers (asked (askRefusal (arrangement n s) t code) t code) .refusal)
-  unfolding askRefusal asked
+  unfolding askRefusal
   ask-first n s code =
-      subst (FirstOf (askTests n s t code)) (sym (go (askRefusal (arrangement n s) t code)))
+      subst (FirstOf (askTests n s t code)) (sym (ask-refusal (askRefusal (arrangement n s) t code) code))
       (then (arrangement-first n s) refl (λ _. then (code-first code) refl (λ _. then (text-first t) refl (λ k. last 13 (not-decides (headed n s k))))))
-    where
-      go : (r : ℕ) → askNumbers (asked r t code) .refusal ≡ r
-      go zero = refl
-      go (suc r) = refl
 
 -- jgv_coverage_write
 
@@ -376,15 +382,16 @@ unfolding codesRefusal
 codes-first codes =
     then (last 3 (cells-of codes)) refl (λ n. last 10 (not-decides (in-rising-order codes (missed (allCodes codes) (cells-of codes) (n .0)))))
 
+pub write-refusal : (r n : ℕ) → writtenNumbers (written r n) .refusal ≡ r
+unfolding written
+write-refusal zero n = refl
+write-refusal (suc r) n = refl
+
 pub write-first :
     (n s : ℕ) (codes : List ℕ) (room : ℕ) → let a : Arrangement = arrangement n s in
     FirstOf (writeTests n s codes room) (writtenNumbers (written (writeRefusal a codes room) (length (textOf a codes))) .refusal)
-unfolding writeRefusal written
+unfolding writeRefusal
 write-first n s codes room =
     let z : ℕ = length (textOf (arrangement n s) codes) in
-    subst (FirstOf (writeTests n s codes room)) (sym (go (writeRefusal (arrangement n s) codes room)))
+    subst (FirstOf (writeTests n s codes room)) (sym (write-refusal (writeRefusal (arrangement n s) codes room) z))
     (then (arrangement-first n s) refl (λ _. then (codes-first codes) refl (λ _. then (last 12 (lt-decides 65536 z)) refl (λ _. last 7 (lt-decides room z)))))
-  where
-    go : (r : ℕ) → writtenNumbers (written r (length (textOf (arrangement n s) codes))) .refusal ≡ r
-    go zero = refl
-    go (suc r) = refl

@@ -3,7 +3,7 @@ use mathlib.Core.Path.{_≡_, refl, sym, ap, ap₂, _∙_}
 use mathlib.Core.Logic.{_↔_}
 use mathlib.Core.Bool.{Bool, true, false, _&&_, cond}
 use mathlib.Core.List.{List, [], _∷_, map}
-use Prim.Native.Nat.{ℕ, zero, suc, _≤_}
+use Prim.Native.Nat.{ℕ, _≤_}
 use native.Mathlib.Omega.{arith}
 use lib.ListN.{length, take, drop}
 use lib.Seq.{take-append-seam}
@@ -33,6 +33,7 @@ use Rattle.writing.specs.Write.{allCodes, GoodList, writeRefusal, textOf, textI
 use Rattle.writing.specs.Laws.List.{good-list, list-good, codes-cells}
 use Rattle.jeguarivo.specs.Entries.{arrangement}
 use Rattle.jeguarivo.specs.Texts.{checkNumbers, listNumbers, askNumbers, writtenNumbers}
+use Rattle.jeguarivo.specs.Laws.First.{check-refusal, list-refusal, ask-refusal, write-refusal}
 use Rattle.jeguarivo.specs.declared.LengthAnswer.{LengthAnswer}
 use Rattle.jeguarivo.specs.declared.ListAnswer.{ListAnswer}
 use Rattle.jeguarivo.specs.declared.AskAnswer.{AskAnswer}
@@ -41,17 +42,9 @@ use Rattle.jeguarivo.specs.declared.AskAnswer.{AskAnswer}
 
 -- what the entry answers
 module _ (t : List ℕ) where
-  pub check-refusal : checkNumbers (checkedOf t) .refusal ≡ textRefusal t
-  unfolding checkedOf
-  check-refusal = go (textRefusal t)
-    where
-      go : (r : ℕ) → checkNumbers (answer r t) .refusal ≡ r
-      go zero = refl
-      go (suc r) = refl
-
   module _ (e : checkNumbers (checkedOf t) .refusal ≡ 0) where
     accepted : textRefusal t ≡ 0
-    accepted = sym check-refusal ∙ e
+    accepted = sym (check-refusal t) ∙ e
 
     -- "the number of whole cells in the reading and the sum of their sizes"
     pub check-cells : checkNumbers (checkedOf t) .cells ≡ length (wholeCells (nodesOf t))
@@ -102,12 +95,7 @@ module _ (n s : ℕ) (codes lent : List ℕ) where
 
   module _ (e : writeAnswer .refusal ≡ 0) where
     allows : writeRefusal (arrangement n s) codes (length lent) ≡ 0
-    unfolding written
-    allows = go (writeRefusal (arrangement n s) codes (length lent)) e
-      where
-        go : (r : ℕ) → writtenNumbers (written r (length (textOf (arrangement n s) codes))) .refusal ≡ 0 → r ≡ 0
-        go zero h = refl
-        go (suc r) h = h
+    allows = sym (write-refusal (writeRefusal (arrangement n s) codes (length lent)) (length (textOf (arrangement n s) codes))) ∙ e
 
     cells : Cells (map cellOf codes)
     unfolding writeRefusal
@@ -179,12 +167,7 @@ module _ (t lent : List ℕ) where
 
   module _ (e : listAnswer .refusal ≡ 0) where
     none : listingRefusal t (length lent) ≡ 0
-    unfolding listed
-    none = go (listingRefusal t (length lent)) e
-      where
-        go : (r : ℕ) → listNumbers (listed r t) .refusal ≡ 0 → r ≡ 0
-        go zero h = refl
-        go (suc r) h = h
+    none = sym (list-refusal (listingRefusal t (length lent)) t) ∙ e
 
     -- "the codes of the whole cells"
     pub listed-codes : listedCodes ≡ codesOf t
@@ -197,12 +180,12 @@ module _ (t lent : List ℕ) where
     pub relisted :
         (bytes : List ℕ) → length t ≤ length bytes →
         (writeAnswer (northOf t) (southOf t) listedCodes bytes .refusal ≡ 0) × (writtenBytes (northOf t) (southOf t) listedCodes bytes ≡ t)
-    unfolding listingRefusal written
+    unfolding listingRefusal
     relisted bytes h =
         let p : textRefusal t ≡ 0 = both _ _ none .0 in
         let z = allowed-again t p (length bytes) h in
         rw listed-codes (
-          ap (λ (r : ℕ). writtenNumbers (written r (length (textOf (arrangement (northOf t) (southOf t)) (codesOf t)))) .refusal) z,
+          write-refusal (writeRefusal (arrangement (northOf t) (southOf t)) (codesOf t) (length bytes)) _ ∙ z,
           write-text (northOf t) (southOf t) (codesOf t) bytes z ∙ again t p,
         )
 
@@ -215,12 +198,7 @@ module _ (n s : ℕ) (t : List ℕ) (code : ℕ) where
   -- "whether all of one cell's finest cells are covered": 1 exactly then, and 0 exactly where not
   module _ (e : askAnswer .refusal ≡ 0) where
     asks : askRefusal (arrangement n s) t code ≡ 0
-    unfolding asked
-    asks = go (askRefusal (arrangement n s) t code) e
-      where
-        go : (r : ℕ) → askNumbers (asked r t code) .refusal ≡ 0 → r ≡ 0
-        go zero h = refl
-        go (suc r) h = h
+    asks = sym (ask-refusal t (askRefusal (arrangement n s) t code) code) ∙ e
 
     told : askAnswer .covered ≡ cond (anyWithin (wholeCells (nodesOf t)) (cellOf code)) 1 0
     unfolding asked
