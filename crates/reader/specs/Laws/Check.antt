@@ -194,7 +194,7 @@ mark-lead b₃ b₄ u v =
     (λ n. omega (arith, lead-other 0 b₃ low₄ high₄ (b₄ ∷ u) n)) (eq-or b₃ 0) in
     (omega arith, omega arith)
 
-version-bytes : (t : List ℕ) → otherVersion t ≡ true → WrongVersion t
+pub version-bytes : (t : List ℕ) → otherVersion t ≡ true → WrongVersion t
 version-bytes [] e = absurd (omega (arith, version-tests [] e .0))
 version-bytes (a ∷ []) e = absurd (omega (arith, version-tests (a ∷ []) e .0))
 version-bytes (a ∷ b ∷ []) e = absurd (omega (arith, version-tests (a ∷ b ∷ []) e .0))
@@ -208,7 +208,7 @@ version-bytes (a ∷ b ∷ c ∷ d ∷ f ∷ u) e =
     let e₂ : c ≡ 82 = m .2 in
     (d, f, u, (cc), m .3)
 
-bytes-version : (t : List ℕ) → WrongVersion t → otherVersion t ≡ true
+pub bytes-version : (t : List ℕ) → WrongVersion t → otherVersion t ≡ true
 bytes-version t v =
     let k = mark-lead (v .0) (v .1) (v .2) (v .4) in
     ap otherVersion (v .3) ∙ version-other (67 ∷ 86 ∷ 82 ∷ v .0 ∷ v .1 ∷ v .2) (omega arith) (k .0) (k .1)
@@ -234,10 +234,10 @@ module _ (t : List ℕ) where
   accepted-is : Accepted t → isText t ≡ true
   accepted-is a = read-text (a .3)
 
-  is-accepted : isText t ≡ true → Accepted t
+  pub is-accepted : isText t ≡ true → Accepted t
   is-accepted e = (northOf t, southOf t, nodesOf t, reads-own t e)
 
-  is-not : isText t ≡ false → Accepted t → ⊥
+  pub is-not : isText t ≡ false → Accepted t → ⊥
   is-not e a = clash (sym (accepted-is a) ∙ e)
 
   -- a text of the grammar has version 1
