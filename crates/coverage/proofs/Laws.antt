@@ -124,7 +124,8 @@ module _ (room : List ℕ) (big : 18 ≤ length room) (codes later : List ℕ) (
   whole x f r h =
       sym (cut-name (length codes) (length room) (take count codes) x big) ∙ ap (withName (length codes) (read (take count codes))) (sym f) ∙ is r h
 
-  line-comes : (left bytes : List ℕ) (from end : ℕ) → Given left bytes room (Line n from end) → (r : Taken) (h : NameTaken (take n room) codes count later r) → OfEnded (withName (length codes)) (read []) (comes r h)
+  line-comes : (left bytes : List ℕ) (from end : ℕ) → Given left bytes room (Line n from end) → (r : Taken) (h : NameTaken (take n room) codes count later r) → OfEnded
+      (withName (length codes)) (read []) (comes r h)
   line-comes left bytes from end (more, x, u, g, f, i, j, l) r h = subst (OfEnded (withName (length codes)) (read [])) (whole x f r h) (then-line (withName (length codes)) x u o)
 
   last-comes : (left bytes : List ℕ) → Given left bytes room (Last n) → (r : Taken) (h : NameTaken (take n room) codes count later r) → OfBytes (withName (length codes)) (read []) (comes r h)

@@ -30,7 +30,8 @@ pub line-taken :
 line-taken s line codes later count full q e f h =
     ap₂ (λ (x : Taken) (l : List ℕ). memoryAs x l count full) (sym h ∙ e) f ∙ taken-memory (lineCode s line) codes count full
 
-module _ (s : Setting) (room : List ℕ) (big : 43 ≤ length room) (size n : ℕ) {first : Memory} (m next : Memory) (o : OfEnded (withLine s size) first m) (e : next ≡ withLine s size m (take n room)) where
+module _ (s : Setting) (room : List ℕ) (big : 43 ≤ length room) (size n : ℕ) {first : Memory} (m next : Memory) (o : OfEnded (withLine s size) first m)
+    (e : next ≡ withLine s size m (take n room)) where
   -- a line that was cut to its room
   cut : (x : List ℕ) → take n room ≡ take (length room) x → withLine s size m x ≡ next
   cut x f = sym (e ∙ ap (λ (c : Coded). withCode size c m) (ap (lineCode s) f ∙ cut-line s (length room) x big))

@@ -16,7 +16,8 @@ enum-known-count : tie.Need-enum-known-count
 enum-known-count c = search needs
 
 count : (c : tie.After-known-told) → c .before .count .given .0 .0 ≤ length (c .before .before .before .before .before .before .before .before .before .before .args .codes .now)
-count c = listed-fits _ (length (c .before .before .before .before .before .before .before .before .before .before .args .codes .now)) _ (c .before .before .before .before .before .list .ensures .0) (c .before .count .given .1)
+count c = listed-fits _ (length (c .before .before .before .before .before .before .before .before .before .before .args .codes .now)) _
+    (c .before .before .before .before .before .list .ensures .0) (c .before .count .given .1)
 
 slice-reshare-prefix-put-all-names : tie.Need-slice-reshare-prefix-put-all-names
 slice-reshare-prefix-put-all-names c = let l = c .before .before .before .before .before .list in omega (arith, count c)

@@ -42,15 +42,18 @@ put-names-requires c κs = search needs
 add-from : tie.Need-add-from Inv-loop μ-loop
 add-from c =
     let l = c .before .before .before .before .before .before .before .before .before .loop in
-    let w = part-within (c .before .before .before .before .before .before .before .before .before .before .before .before .args .codes .now) (l .out) _ (l .from) (l .end) _ (c .before .before .before .before .before .before .before .before .loop-test .taken) (c .before .before .before .put-names .ensures) in
+    let w = part-within (c .before .before .before .before .before .before .before .before .before .before .before .before .args .codes .now) (l .out) _ (l .from) (l .end) _
+    (c .before .before .before .before .before .before .before .before .loop-test .taken) (c .before .before .before .put-names .ensures) in
     omega (arith, w)
 
 loop-less : tie.Need-loop-less Inv-loop μ-loop
 loop-less c =
     let l = c .before .before .before .before .before .before .before .before .before .loop in
     let p = c .before .before .before .put-names in
-    let w = part-within (c .before .before .before .before .before .before .before .before .before .before .before .before .args .codes .now) (l .out) _ (l .from) (l .end) _ (c .before .before .before .before .before .before .before .before .loop-test .taken) (p .ensures) in
-    let s = part-some (c .before .before .before .before .before .before .before .before .before .before .before .before .args .codes .now) (l .out) _ (l .from) (l .end) _ (c .before .before .before .before .before .before .before .before .loop-test .taken) (p .ensures) (omega (arith, l .inv .2)) in
+    let w = part-within (c .before .before .before .before .before .before .before .before .before .before .before .before .args .codes .now) (l .out) _ (l .from) (l .end) _
+    (c .before .before .before .before .before .before .before .before .loop-test .taken) (p .ensures) in
+    let s = part-some (c .before .before .before .before .before .before .before .before .before .before .before .before .args .codes .now) (l .out) _ (l .from) (l .end) _
+    (c .before .before .before .before .before .before .before .before .loop-test .taken) (p .ensures) (omega (arith, l .inv .2)) in
     omega (arith, w, s)
 
 loop-again : tie.Need-loop-again Inv-loop μ-loop
@@ -59,8 +62,14 @@ loop-again c =
     let p = c .before .before .before .put-names in
     let t = c .before .before .before .before .before .before .before .before .loop-test .taken in
     let v = l .inv .3 in
-    let same : length (p .last .1 .0) ≡ length (l .out) = search needs in
-    (part-within (c .before .before .before .before .before .before .before .before .before .before .before .before .args .codes .now) (l .out) _ (l .from) (l .end) _ t (p .ensures), omega (arith, p .ensures .within, same), search needs, part-written (c .before .before .before .before .before .before .before .before .before .before .before .before .args .codes .now) (l .out) _ (l .from) (l .end) _ t (p .ensures) (v .0) (v .1))
+    let same : length (p .last .1 .0) ≡ length (l .out) = search needs in (
+      part-within (c .before .before .before .before .before .before .before .before .before .before .before .before .args .codes .now) (l .out) _ (l .from) (l .end) _ t
+          (p .ensures),
+      omega (arith, p .ensures .within, same),
+      search needs,
+      part-written
+          (c .before .before .before .before .before .before .before .before .before .before .before .before .args .codes .now) (l .out) _ (l .from) (l .end) _ t (p .ensures) (v .0) (v .1),
+    )
 
 same-length : tie.Need-same-length Inv-loop μ-loop
 same-length c = search needs

@@ -34,7 +34,8 @@ same-length c = search needs
 returns : tie.Need-returns
 returns c =
     let a = c .before .before .before .before .before .before .before .before .before .args in
-    name-taken (a .line .now) (a .codes .now) (a .count) (c .before .before .before .before .before .before .before .before .before .pre) (c .before .before .before .before .before .before .trimmed-length .ensures .0) (c .before .before .before .before .name-code .ensures) _ (c .before .before .code .given .1) (c .if1 .taken)
+    name-taken (a .line .now) (a .codes .now) (a .count) (c .before .before .before .before .before .before .before .before .before .pre)
+    (c .before .before .before .before .before .before .trimmed-length .ensures .0) (c .before .before .before .before .name-code .ensures) _ (c .before .before .code .given .1) (c .if1 .taken)
 
 enum-known-refusal : tie.Need-enum-known-refusal
 enum-known-refusal c = search needs
@@ -42,12 +43,14 @@ enum-known-refusal c = search needs
 returns-2 : tie.Need-returns-2
 returns-2 c =
     let a = c .before .before .before .before .before .before .before .before .before .args in
-    name-full (a .line .now) (a .codes .now) (a .count) (c .before .before .before .before .before .before .before .before .before .pre) (c .before .before .before .before .before .before .trimmed-length .ensures .0) (c .before .before .before .before .name-code .ensures) _ (c .before .before .code .given .1) (c .if1 .left)
+    name-full (a .line .now) (a .codes .now) (a .count) (c .before .before .before .before .before .before .before .before .before .pre)
+    (c .before .before .before .before .before .before .trimmed-length .ensures .0) (c .before .before .before .before .name-code .ensures) _ (c .before .before .code .given .1) (c .if1 .left)
 
 returns-3 : tie.Need-returns-3
 returns-3 c =
     let a = c .before .before .before .before .before .before .before .before .args in
-    name-refused (a .line .now) (a .codes .now) (a .count) (c .before .before .before .before .before .before .before .before .pre) (c .before .before .before .before .before .trimmed-length .ensures .0) (c .before .before .before .name-code .ensures) _ (c .before .refusal .given .1)
+    name-refused (a .line .now) (a .codes .now) (a .count) (c .before .before .before .before .before .before .before .before .pre)
+    (c .before .before .before .before .before .trimmed-length .ensures .0) (c .before .before .before .name-code .ensures) _ (c .before .refusal .given .1)
 
 pub take-name-spec : {M : Type 1} → statement M
 take-name-spec =

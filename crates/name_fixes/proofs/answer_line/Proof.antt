@@ -29,7 +29,8 @@ returns c = search needs
 put-answer-requires : tie.Need-put-answer-requires
 put-answer-requires c κs =
     let a = c .before .before .before .before .before .before .before .before .args in
-    start-room (length (a .out .now)) (a .waiting) (omega arith) (omega arith) (made-start (length (a .out .now)) (a .waiting) 21 (c .before .before .before .before .make-room .ensures) (c .before .before .start .given .1))
+    start-room (length (a .out .now)) (a .waiting) (omega arith) (omega arith)
+    (made-start (length (a .out .now)) (a .waiting) 21 (c .before .before .before .before .make-room .ensures) (c .before .before .start .given .1))
 
 same-length-2 : tie.Need-same-length-2
 same-length-2 c = search needs
@@ -37,7 +38,8 @@ same-length-2 c = search needs
 returns-2 : tie.Need-returns-2
 returns-2 c =
     let a = c .before .before .before .before .before .before .before .before .before .before .before .args in
-    let e = made-start (length (a .out .now)) (a .waiting) 21 (c .before .before .before .before .before .before .before .make-room .ensures) (c .before .before .before .before .before .start .given .1) in
+    let e = made-start (length (a .out .now)) (a .waiting) 21 (c .before .before .before .before .before .before .before .make-room .ensures)
+    (c .before .before .before .before .before .start .given .1) in
     let q = c .before .before .put-answer .ensures in
     let r = start-room (length (a .out .now)) (a .waiting) (omega arith) (omega arith) e in
     (put-taken (q .0) (omega (arith, q .1, r)) ∙ ap (λ (i : ℕ). take i (a .out .now) ++ answerLine (a .setting) (a .line .now)) e, omega (arith, q .1, r))

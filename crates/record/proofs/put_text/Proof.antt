@@ -50,8 +50,12 @@ returns-2 c =
     let a = c .before .before .before .before .before .before .before .before .before .before .before .args in
     let w = c .before .before .before .before .before .write in
     let codes = take (a .memory .count) (a .codes .now) in
-    let fits = text-fits (a .setting .arrangement) codes (a .text .now) (w .last .1 .1 .0) (w .ensures .0) _ (c .before .length .given .1) in
-    (c .before .before .before .before .before .before .before .before .if1 .left, text-put (a .setting .arrangement) codes (a .text .now) _ (w .ensures .0) _ (c .before .length .given .1) (w .ensures .1), omega (arith, fits))
+    let fits = text-fits (a .setting .arrangement) codes (a .text .now) (w .last .1 .1 .0) (w .ensures .0) _ (c .before .length .given .1) in (
+      c .before .before .before .before .before .before .before .before .if1 .left,
+      text-put (a .setting .arrangement) codes (a .text .now) _ (w .ensures .0) _
+          (c .before .length .given .1) (w .ensures .1),
+      omega (arith, fits),
+    )
 
 same-length-2 : tie.Need-same-length-2
 same-length-2 c = search needs
@@ -60,7 +64,8 @@ returns-3 : tie.Need-returns-3
 returns-3 c =
     let a = c .before .before .before .before .before .before .before .before .before .before .before .before .before .before .args in
     let w = c .before .before .before .before .before .before .before .before .write in
-    let k = text-refused (a .setting .arrangement) (take (a .memory .count) (a .codes .now)) (a .text .now) (w .last .1 .1 .0) (w .ensures .0) _ (c .before .before .before .before .refusal .given .1) in
+    let k = text-refused (a .setting .arrangement) (take (a .memory .count) (a .codes .now)) (a .text .now) (w .last .1 .1 .0) (w .ensures .0) _
+    (c .before .before .before .before .refusal .given .1) in
     inr (λ z. k .1 (sym (k .0) ∙ z))
 
 pub put-text-spec : {M : Type 1} → statement M
