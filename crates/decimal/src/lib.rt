@@ -78,7 +78,7 @@ pub fn number_in(text: &[u8]) -> Number
     if text.len() == 0 {
         return Number::Not;
     }
-    if text[0] == 45 {
+    if text[0] == b'-' {
         return number_of(true, whole_in(&text[1..]));
     }
     number_of(false, whole_in(text))
@@ -107,7 +107,7 @@ pub fn trimmed_length(line: &[u8]) -> usize
     if n == 0 {
         return 0;
     }
-    if line[n - 1] == 13 {
+    if line[n - 1] == b'\r' {
         return n - 1;
     }
     n
@@ -119,7 +119,7 @@ pub fn fix_in(line: &[u8]) -> FixLine
 {
     let end = trimmed_length(line);
     let text = &line[..end];
-    let space = ahead_of(text, 32);
+    let space = ahead_of(text, b' ');
     if space == end {
         return FixLine::Not;
     }

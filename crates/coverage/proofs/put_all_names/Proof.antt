@@ -63,12 +63,12 @@ loop-again c =
     let t = c .before .before .before .before .before .before .before .before .loop-test .taken in
     let v = l .inv .3 in
     let same : length (p .last .1 .0) ≡ length (l .out) = search needs in (
-      part-within (c .before .before .before .before .before .before .before .before .before .before .before .before .args .codes .now) (l .out) _ (l .from) (l .end) _ t (p .ensures),
-      omega
-          (arith, p .ensures .within, same),
+      part-within (c .before .before .before .before .before .before .before .before .before .before .before .before .args .codes .now) (l .out) _ (l .from) (l .end) _ t
+          (p .ensures),
+      omega (arith, p .ensures .within, same),
       search needs,
-      part-written (c .before .before .before .before .before .before .before .before .before .before .before .before .args .codes .now)
-          (l .out) _ (l .from) (l .end) _ t (p .ensures) (v .0) (v .1),
+      part-written
+          (c .before .before .before .before .before .before .before .before .before .before .before .before .args .codes .now) (l .out) _ (l .from) (l .end) _ t (p .ensures) (v .0) (v .1),
     )
 
 same-length : tie.Need-same-length Inv-loop μ-loop

@@ -39,8 +39,8 @@ slice-reshare-prefix-take-name : tie.Need-slice-reshare-prefix-take-name Inv-loo
 slice-reshare-prefix-take-name c = line-length _ _ _ (c .before .before .before .before .before .before .before .next-line .ensures) _ _ _ (c .before .length .given .1)
 
 slice-aggregate-take-name : tie.Need-slice-aggregate-take-name Inv-loop μ-loop
-slice-aggregate-take-name c = sym (length-take-le _ _ (line-length _ _ _ (c .before .before .before .before .before .before .before .before .next-line .ensures) _ _ _
-    (c .before .before .length .given .1)))
+slice-aggregate-take-name c = sym
+    (length-take-le _ _ (line-length _ _ _ (c .before .before .before .before .before .before .before .before .next-line .ensures) _ _ _ (c .before .before .length .given .1)))
 
 take-name-requires : tie.Need-take-name-requires Inv-loop μ-loop
 take-name-requires c κs = search needs
@@ -66,8 +66,8 @@ loop-again c =
     let t = c .before .before .before .before .before .take-name in
     let e = c .before .more .given .1 in
     let m = taken-more (n .next-line .last .1 .1 .1 .1 .0) (search needs) (l .codes) (t .last .1 .0) (l .count) (line .0 .0) (l .inv .6) (t .ensures) _ e in
-    let v = line-read (n .next-line .last .1 .1 .1 .1 .0) (search needs) (l .codes) (t .last .1 .0) (l .count) (line .0 .0) (l .inv .6) (t .ensures) (unread (l .bytes) (l .from) (l .end))
-    (n .next-line .last .1 .0) _ _ _ g e in
+    let v = line-read (n .next-line .last .1 .1 .1 .1 .0) (search needs) (l .codes) (t .last .1 .0) (l .count) (line .0 .0) (l .inv .6) (t .ensures)
+    (unread (l .bytes) (l .from) (l .end)) (n .next-line .last .1 .0) _ _ _ g e in
     let same : length (t .last .1 .0) ≡ length (l .codes) = search needs in
     (g .6, g .7, m .0, search needs, search needs, search needs, rw same v)
 
@@ -99,8 +99,9 @@ returns c =
     let line = c .before .before .before .before .before .before .before .before .before .before .before .length .given in
     let g = line-given _ _ _ (n .next-line .ensures) _ _ _ (line .1) in
     let t = c .before .before .before .before .before .before .before .take-name in
-    rw (sym (l .inv .5)) (line-stops (n .next-line .last .1 .1 .1 .1 .0) (search needs) (l .codes) (t .last .1 .0) (l .count) (line .0 .0) (l .inv .6) (t .ensures)
-    (unread (l .bytes) (l .from) (l .end)) (n .next-line .last .1 .0) _ _ _ g (c .before .before .before .refusal .given .1))
+    rw (sym (l .inv .5))
+    (line-stops (n .next-line .last .1 .1 .1 .1 .0) (search needs) (l .codes) (t .last .1 .0) (l .count) (line .0 .0) (l .inv .6) (t .ensures) (unread (l .bytes) (l .from) (l .end))
+    (n .next-line .last .1 .0) _ _ _ g (c .before .before .before .refusal .given .1))
 
 enum-known-length-2 : tie.Need-enum-known-length-2 Inv-loop μ-loop
 enum-known-length-2 c = search needs
@@ -109,8 +110,8 @@ slice-reshare-prefix-take-name-2 : tie.Need-slice-reshare-prefix-take-name-2 Inv
 slice-reshare-prefix-take-name-2 c = last-length _ _ _ (c .before .before .before .before .before .before .before .next-line .ensures) _ (c .before .length2 .given .1)
 
 slice-aggregate-take-name-2 : tie.Need-slice-aggregate-take-name-2 Inv-loop μ-loop
-slice-aggregate-take-name-2 c = sym (length-take-le _ _ (last-length _ _ _ (c .before .before .before .before .before .before .before .before .next-line .ensures) _
-    (c .before .before .length2 .given .1)))
+slice-aggregate-take-name-2 c = sym
+    (length-take-le _ _ (last-length _ _ _ (c .before .before .before .before .before .before .before .before .next-line .ensures) _ (c .before .before .length2 .given .1)))
 
 take-name-requires-2 : tie.Need-take-name-requires-2 Inv-loop μ-loop
 take-name-requires-2 c κs = search needs
@@ -134,8 +135,9 @@ returns-2 c =
     let line = c .before .before .before .before .before .before .before .before .before .length2 .given in
     let g = last-given _ _ _ (n .next-line .ensures) _ (line .1) in
     let t = c .before .before .before .before .before .take-name2 in
-    rw (sym (l .inv .5)) (last-read (n .next-line .last .1 .1 .1 .1 .0) (search needs) (l .codes) (t .last .1 .0) (l .count) (line .0 .0) (l .inv .6) (t .ensures)
-    (unread (l .bytes) (l .from) (l .end)) (n .next-line .last .1 .0) _ g (c .before .more2 .given .1))
+    rw (sym (l .inv .5))
+    (last-read (n .next-line .last .1 .1 .1 .1 .0) (search needs) (l .codes) (t .last .1 .0) (l .count) (line .0 .0) (l .inv .6) (t .ensures) (unread (l .bytes) (l .from) (l .end))
+    (n .next-line .last .1 .0) _ g (c .before .more2 .given .1))
 
 enum-known-refusal-2 : tie.Need-enum-known-refusal-2 Inv-loop μ-loop
 enum-known-refusal-2 c = search needs
@@ -165,8 +167,9 @@ returns-3 c =
     let line = c .before .before .before .before .before .before .before .before .before .before .before .length2 .given in
     let g = last-given _ _ _ (n .next-line .ensures) _ (line .1) in
     let t = c .before .before .before .before .before .before .before .take-name2 in
-    rw (sym (l .inv .5)) (last-stops (n .next-line .last .1 .1 .1 .1 .0) (search needs) (l .codes) (t .last .1 .0) (l .count) (line .0 .0) (l .inv .6) (t .ensures)
-    (unread (l .bytes) (l .from) (l .end)) (n .next-line .last .1 .0) _ g (c .before .before .before .refusal2 .given .1))
+    rw (sym (l .inv .5))
+    (last-stops (n .next-line .last .1 .1 .1 .1 .0) (search needs) (l .codes) (t .last .1 .0) (l .count) (line .0 .0) (l .inv .6) (t .ensures) (unread (l .bytes) (l .from) (l .end))
+    (n .next-line .last .1 .0) _ g (c .before .before .before .refusal2 .given .1))
 
 enum-told : tie.Need-enum-told Inv-loop μ-loop
 enum-told c = search needs

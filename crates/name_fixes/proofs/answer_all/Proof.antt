@@ -39,8 +39,8 @@ slice-reshare-prefix-answer-line : tie.Need-slice-reshare-prefix-answer-line Inv
 slice-reshare-prefix-answer-line c = line-length _ _ _ (c .before .before .before .before .before .before .before .next-line .ensures) _ _ _ (c .before .length .given .1)
 
 slice-aggregate-answer-line : tie.Need-slice-aggregate-answer-line Inv-loop μ-loop
-slice-aggregate-answer-line c = sym (length-take-le _ _ (line-length _ _ _ (c .before .before .before .before .before .before .before .before .next-line .ensures) _ _ _
-    (c .before .before .length .given .1)))
+slice-aggregate-answer-line c = sym
+    (length-take-le _ _ (line-length _ _ _ (c .before .before .before .before .before .before .before .before .next-line .ensures) _ _ _ (c .before .before .length .given .1)))
 
 answer-line-requires : tie.Need-answer-line-requires Inv-loop μ-loop
 answer-line-requires c κs = search needs
@@ -70,8 +70,8 @@ slice-reshare-prefix-answer-line-2 : tie.Need-slice-reshare-prefix-answer-line-2
 slice-reshare-prefix-answer-line-2 c = last-length _ _ _ (c .before .before .before .before .before .before .before .next-line .ensures) _ (c .before .length2 .given .1)
 
 slice-aggregate-answer-line-2 : tie.Need-slice-aggregate-answer-line-2 Inv-loop μ-loop
-slice-aggregate-answer-line-2 c = sym (length-take-le _ _ (last-length _ _ _ (c .before .before .before .before .before .before .before .before .next-line .ensures) _
-    (c .before .before .length2 .given .1)))
+slice-aggregate-answer-line-2 c = sym
+    (length-take-le _ _ (last-length _ _ _ (c .before .before .before .before .before .before .before .before .next-line .ensures) _ (c .before .before .length2 .given .1)))
 
 answer-line-requires-2 : tie.Need-answer-line-requires-2 Inv-loop μ-loop
 answer-line-requires-2 c κs = search needs
@@ -92,8 +92,8 @@ returns-2 c =
     let a = n .before .before .before .before .before .before .before .before .before .args in
     let g = last-given _ _ _ (n .next-line .ensures) _ (c .before .before .before .before .before .before .length2 .given .1) in
     let r = c .before .before .answer-line2 in
-    last-answered (a .setting) _ (search needs) (l .out) (r .last .1 .1 .0) (l .waiting) (c .before .before .before .before .before .before .length2 .given .0 .0) (l .inv .6) (r .result)
-    (r .ensures) (unread (l .bytes) (l .from) (l .end)) (n .next-line .last .1 .0) g
+    last-answered (a .setting) _ (search needs) (l .out) (r .last .1 .1 .0) (l .waiting) (c .before .before .before .before .before .before .length2 .given .0 .0) (l .inv .6)
+    (r .result) (r .ensures) (unread (l .bytes) (l .from) (l .end)) (n .next-line .last .1 .0) g
 
 enum-told-2 : tie.Need-enum-told-2 Inv-loop μ-loop
 enum-told-2 c = search needs
@@ -139,8 +139,8 @@ loop-again c =
     let line = c .before .before .before .before .before .before .before .before .before .length .given .1 in
     let g = line-given _ _ _ (n .next-line .ensures) _ _ _ line in
     let p = line-places _ _ _ (n .next-line .ensures) _ _ _ line in
-    let v = line-answered (a .setting) _ (search needs) (l .out) _ _ _ (l .inv .6) _ (c .before .before .before .before .before .answer-line .ensures) (unread (l .bytes) (l .from) (l .end))
-    _ _ _ _ g (c .before .count .given .1) in
+    let v = line-answered (a .setting) _ (search needs) (l .out) _ _ _ (l .inv .6) _ (c .before .before .before .before .before .answer-line .ensures)
+    (unread (l .bytes) (l .from) (l .end)) _ _ _ _ g (c .before .count .given .1) in
     (p .0, p .1, v .1, search needs, search needs, search needs, v .0)
 
 same-length-13 : tie.Need-same-length-13 Inv-loop μ-loop

@@ -29,8 +29,8 @@ returns c = search needs
 put-answer-requires : tie.Need-put-answer-requires
 put-answer-requires c κs =
     let a = c .before .before .before .before .before .before .before .before .args in
-    start-room (length (a .out .now)) (a .waiting) (omega arith) (omega arith) (made-start (length (a .out .now)) (a .waiting) 21 (c .before .before .before .before .make-room .ensures)
-    (c .before .before .start .given .1))
+    start-room (length (a .out .now)) (a .waiting) (omega arith) (omega arith)
+    (made-start (length (a .out .now)) (a .waiting) 21 (c .before .before .before .before .make-room .ensures) (c .before .before .start .given .1))
 
 same-length-2 : tie.Need-same-length-2
 same-length-2 c = search needs

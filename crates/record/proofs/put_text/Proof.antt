@@ -52,8 +52,8 @@ returns-2 c =
     let codes = take (a .memory .count) (a .codes .now) in
     let fits = text-fits (a .setting .arrangement) codes (a .text .now) (w .last .1 .1 .0) (w .ensures .0) _ (c .before .length .given .1) in (
       c .before .before .before .before .before .before .before .before .if1 .left,
-      text-put (a .setting .arrangement) codes (a .text .now) _ (w .ensures .0) _ (c .before .length .given .1)
-          (w .ensures .1),
+      text-put (a .setting .arrangement) codes (a .text .now) _ (w .ensures .0) _
+          (c .before .length .given .1) (w .ensures .1),
       omega (arith, fits),
     )
 

@@ -44,8 +44,8 @@ slice-reshare-prefix-record-line : tie.Need-slice-reshare-prefix-record-line Inv
 slice-reshare-prefix-record-line c = line-length _ _ _ (c .before .before .before .before .before .before .before .next-line .ensures) _ _ _ (c .before .length .given .1)
 
 slice-aggregate-record-line : tie.Need-slice-aggregate-record-line Inv-loop μ-loop
-slice-aggregate-record-line c = sym (length-take-le _ _ (line-length _ _ _ (c .before .before .before .before .before .before .before .before .next-line .ensures) _ _ _
-    (c .before .before .length .given .1)))
+slice-aggregate-record-line c = sym
+    (length-take-le _ _ (line-length _ _ _ (c .before .before .before .before .before .before .before .before .next-line .ensures) _ _ _ (c .before .before .length .given .1)))
 
 record-line-requires : tie.Need-record-line-requires Inv-loop μ-loop
 record-line-requires c κs = search needs
@@ -72,8 +72,8 @@ slice-reshare-prefix-record-line-2 : tie.Need-slice-reshare-prefix-record-line-2
 slice-reshare-prefix-record-line-2 c = last-length _ _ _ (c .before .before .before .before .before .before .before .next-line .ensures) _ (c .before .length2 .given .1)
 
 slice-aggregate-record-line-2 : tie.Need-slice-aggregate-record-line-2 Inv-loop μ-loop
-slice-aggregate-record-line-2 c = sym (length-take-le _ _ (last-length _ _ _ (c .before .before .before .before .before .before .before .before .next-line .ensures) _
-    (c .before .before .length2 .given .1)))
+slice-aggregate-record-line-2 c = sym
+    (length-take-le _ _ (last-length _ _ _ (c .before .before .before .before .before .before .before .before .next-line .ensures) _ (c .before .before .length2 .given .1)))
 
 record-line-requires-2 : tie.Need-record-line-requires-2 Inv-loop μ-loop
 record-line-requires-2 c κs = search needs
