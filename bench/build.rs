@@ -1,12 +1,11 @@
-//! Links the proved library and the shims that `bench/run` could compile into the program `bench`; each shim is a cfg.
-//! BENCH_LIBRARY is the archive; BENCH_SHIMS the folder of healpix.o, proj.o and s2.o, each with a file of its link words.
+//! Links the shims that `bench/run` could compile into the program `bench`; each is a cfg.
+//! BENCH_SHIMS is the folder of healpix.o, proj.o and s2.o, each with a file of its link words.
 
 use std::env::var;
 use std::fs::read_to_string;
 use std::path::Path;
 
 fn main() {
-    println!("cargo:rerun-if-env-changed=BENCH_LIBRARY");
     println!("cargo:rerun-if-env-changed=BENCH_SHIMS");
     println!("cargo:rerun-if-changed=build.rs");
     for name in ["healpix", "proj", "s2"] {
@@ -14,10 +13,6 @@ fn main() {
         if let Ok(folder) = var("BENCH_SHIMS") {
             link_shim(Path::new(&folder), name);
         }
-    }
-    if let Ok(archive) = var("BENCH_LIBRARY") {
-        println!("cargo:rustc-link-arg-bin=bench={archive}");
-        println!("cargo:rerun-if-changed={archive}");
     }
 }
 

@@ -43,7 +43,7 @@ typedef struct { uint64_t refusal; int64_t left, top, side; } jgv_square_answer;
 typedef struct { uint64_t refusal; int64_t x, y; } jgv_point;
 typedef struct { uint64_t refusal; int64_t x[4], y[4]; } jgv_vertices_answer;
 typedef struct { uint64_t refusal; int64_t longitude, z; } jgv_fix;
-typedef struct { uint64_t refusal, place, cells, size; } jgv_check;
+typedef struct { uint64_t refusal, place, n, s, cells, size; } jgv_check;
 typedef struct { uint64_t refusal, place, count; } jgv_list;
 typedef struct { uint64_t refusal, place, covered; } jgv_ask;
 
@@ -97,7 +97,7 @@ jgv_fix jgv_ground_nucleus(uint64_t n, uint64_t s, uint64_t code);
 /* The neighbour of a cell: direction 0 is up, 1 right, 2 down, 3 left. Refusals 5, 3, 4. */
 jgv_code jgv_neighbour(uint64_t n, uint64_t s, uint64_t code, uint64_t direction);
 
-/* Checks a coverage text: the number of its whole cells and the sum of their sizes. Refusals 13, 10, 9. */
+/* Checks a coverage text: the heading's n and s, the number of its whole cells and the sum of their sizes. Refusals 13, 10, 9. */
 jgv_check jgv_coverage_check(const uint8_t *text, size_t length);
 
 /* The codes of a text's whole cells, in rising order, written to the first of `codes`. A text has fewer whole cells than bytes, so a room of

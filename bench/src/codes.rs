@@ -1,11 +1,11 @@
 //! Codes to cells and names and back, and neighbours.
 
 use crate::inputs::{code, codes, Random};
-use crate::library::{jgv_cell_code, jgv_code_cell, jgv_code_name, jgv_name_code, jgv_neighbour};
-use crate::library::{CellCode, CodeCell, CodeName, NameCode, Neighbour};
+use crate::library::{CellCode, CodeCell, CodeName, Fold, NameCode, Neighbour};
 use crate::measure::{compare, pair, Plan, Row, Work};
 use crate::plain::codes::{cell_code, code_cell, code_name, name_code};
 use crate::plain::neighbour::neighbour;
+use jeguarivo::{jgv_cell_code, jgv_code_cell, jgv_code_name, jgv_name_code, jgv_neighbour};
 
 pub fn run(plan: Plan, random: &mut Random) -> Vec<Row> {
     let count = plan.count(10_000_000);
@@ -54,8 +54,8 @@ fn cells(plan: Plan, work: &str, codes: &[u64], goal: Option<f64>) -> Vec<Row> {
     );
     let sides = pair(goal, library, plain, |(out, back), turn| {
         part(codes, turn).iter().fold(0, |sum, &code| {
-            let cell = unsafe { out(code) };
-            let again = unsafe { back(cell.face, cell.resolution, cell.row, cell.column) };
+            let cell = out(code);
+            let again = back(cell.face, cell.resolution, cell.row, cell.column);
             again.fold(cell.fold(sum))
         })
     });
@@ -86,7 +86,7 @@ fn neighbours(plan: Plan, work: &str, codes: &[u64], goal: Option<f64>) -> Vec<R
             .zip(0..)
             .fold(0, |sum, (&code, i)| {
                 (0..4).fold(sum, |sum, direction| {
-                    unsafe { step(i & 3, i >> 2 & 3, code, direction) }.fold(sum)
+                    step(i & 3, i >> 2 & 3, code, direction).fold(sum)
                 })
             })
     });

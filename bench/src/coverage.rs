@@ -1,11 +1,11 @@
 //! Coverage texts of 1, 4, 16 and 64 KiB: check, list, ask and write.
 
 use crate::inputs::{code, swath, Random};
-use crate::library::{jgv_coverage_ask, jgv_coverage_check, jgv_coverage_list, jgv_coverage_write};
-use crate::library::{CoverageAsk, CoverageCheck, CoverageList, CoverageWrite};
+use crate::library::{CoverageAsk, CoverageCheck, CoverageList, CoverageWrite, Fold};
 use crate::measure::{compare, pair, Plan, Row, Work};
 use crate::plain::coverage::{coverage_ask, coverage_check, coverage_list};
 use crate::plain::writing::coverage_write;
+use jeguarivo::{jgv_coverage_ask, jgv_coverage_check, jgv_coverage_list, jgv_coverage_write};
 use std::cell::RefCell;
 
 const GOAL: Option<f64> = Some(1.1);

@@ -1,9 +1,10 @@
 //! Fix to code at resolution 15, and the ground nucleus.
 
 use crate::inputs::{codes, Points, Random};
-use crate::library::{jgv_fix_code, jgv_ground_nucleus, FixCode, GroundNucleus};
+use crate::library::{FixCode, Fold, GroundNucleus};
 use crate::measure::{compare, pair, Plan, Row, Side, Work};
 use crate::plain::fixes::{fix_code, ground_nucleus};
+use jeguarivo::{jgv_fix_code, jgv_ground_nucleus};
 
 #[cfg(any(healpix, proj, s2))]
 mod shims {
@@ -42,7 +43,7 @@ fn sides(points: &Points, goals: bool) -> Vec<Side<'_>> {
     let goal = |ratio: f64| goals.then_some(ratio);
     let mut sides = pair::<FixCode>(goal(1.1), jgv_fix_code, fix_code, |entry, _| {
         points.fixes.iter().fold(0, |sum, &(longitude, z)| {
-            unsafe { entry(0, 0, 15, longitude, z) }.fold(sum)
+            entry(0, 0, 15, longitude, z).fold(sum)
         })
     });
     others(points, goal, &mut sides);
@@ -92,7 +93,7 @@ fn nucleus(plan: Plan, random: &mut Random, count: usize) -> Vec<Row> {
     let sides = pair::<GroundNucleus>(Some(1.1), jgv_ground_nucleus, ground_nucleus, |entry, _| {
         codes
             .iter()
-            .fold(0, |sum, &code| unsafe { entry(0, 0, code) }.fold(sum))
+            .fold(0, |sum, &code| entry(0, 0, code).fold(sum))
     });
     compare(
         plan,

@@ -1,6 +1,5 @@
 //! Compares the proved library with what people would use instead. `bench [--check] [--seed N] [--rounds N]`.
 
-mod answers;
 mod codes;
 mod coverage;
 mod fixes;

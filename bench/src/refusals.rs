@@ -1,12 +1,14 @@
 //! The answers of both sides to inputs good and bad, one by one. No times.
 
 use crate::inputs::{code, swath, Random};
-use crate::library::*;
 use crate::plain::codes::{cell_code, code_cell, code_name, name_code};
 use crate::plain::coverage::{coverage_ask, coverage_check, coverage_list};
 use crate::plain::fixes::{fix_code, ground_nucleus};
 use crate::plain::neighbour::neighbour;
 use crate::plain::writing::coverage_write;
+use jeguarivo::{
+    jgv_cell_code, jgv_code_cell, jgv_fix_code, jgv_ground_nucleus, jgv_neighbour, lent,
+};
 use std::fmt::Debug;
 
 const BYTES: &[u8] = b"()()0123456789NOPQRSMTCVR\0\x01";
@@ -49,29 +51,27 @@ fn numbers(random: &mut Random) {
         random.between(-1_850_000_000, 1_850_000_000),
         random.between(-1_010_000_000_000_000_000, 1_010_000_000_000_000_000),
     );
-    unsafe {
-        same(
-            "cell to code",
-            jgv_cell_code(face, k, row, column),
-            cell_code(face, k, row, column),
-        );
-        same("code to cell", jgv_code_cell(code), code_cell(code));
-        same(
-            "fix to code",
-            jgv_fix_code(n, s, k, longitude, z),
-            fix_code(n, s, k, longitude, z),
-        );
-        same(
-            "ground nucleus",
-            jgv_ground_nucleus(n, s, code),
-            ground_nucleus(n, s, code),
-        );
-        same(
-            "neighbour",
-            jgv_neighbour(n, s, code, direction),
-            neighbour(n, s, code, direction),
-        );
-    }
+    same(
+        "cell to code",
+        jgv_cell_code(face, k, row, column),
+        cell_code(face, k, row, column),
+    );
+    same("code to cell", jgv_code_cell(code), code_cell(code));
+    same(
+        "fix to code",
+        jgv_fix_code(n, s, k, longitude, z),
+        fix_code(n, s, k, longitude, z),
+    );
+    same(
+        "ground nucleus",
+        jgv_ground_nucleus(n, s, code),
+        ground_nucleus(n, s, code),
+    );
+    same(
+        "neighbour",
+        jgv_neighbour(n, s, code, direction),
+        neighbour(n, s, code, direction),
+    );
     edges(random, n, s, k);
 }
 
@@ -81,7 +81,7 @@ fn edges(random: &mut Random, n: u64, s: u64, k: u64) {
     let height = 1_000_000_000_000_000_000 - ninth + random.between(-1, 1);
     let longitude = -1_350_000_000 + 900_000_000 * random.between(0, 3) + random.between(-1, 1);
     for z in [height, -height] {
-        let library = unsafe { jgv_fix_code(n, s, k, longitude, z) };
+        let library = jgv_fix_code(n, s, k, longitude, z);
         same("fix at an edge", library, fix_code(n, s, k, longitude, z));
     }
 }
@@ -89,19 +89,17 @@ fn edges(random: &mut Random, n: u64, s: u64, k: u64) {
 fn names(random: &mut Random) {
     let (code, room) = (any_code(random), random.below(18) as usize);
     let (mut library, mut plain) = ([7; 18], [7; 18]);
-    let lengths = unsafe {
-        (
-            jgv_code_name(code, library.as_mut_ptr(), room),
-            code_name(code, plain.as_mut_ptr(), room),
-        )
-    };
+    let lengths = (
+        lent::code_name(code, &mut library[..room]),
+        code_name(code, plain.as_mut_ptr(), room),
+    );
     same("name", (lengths.0, library), (lengths.1, plain));
     if random.below(2) == 0 {
         library[random.below(18) as usize] = BYTES[random.below(BYTES.len() as u64) as usize];
     }
     same(
         "name to code",
-        unsafe { jgv_name_code(library.as_ptr(), room) },
+        lent::name_code(&library[..room]),
         name_code(library.as_ptr(), room),
     );
 }
@@ -124,6 +122,10 @@ fn spoil(random: &mut Random, text: &mut Vec<u8>) {
 fn texts(random: &mut Random) {
     let resolution = 5 + random.below(11);
     let (_, mut text) = swath(random, resolution, 300);
+    if random.below(4) == 0 {
+        text[5] = b'0' + random.below(4) as u8;
+        text[6] = b'0' + random.below(4) as u8;
+    }
     spoil(random, &mut text);
     let (at, length, n, room) = (
         text.as_ptr(),
@@ -133,23 +135,21 @@ fn texts(random: &mut Random) {
     );
     let code = any_code(random);
     let (mut library, mut plain) = ([7; 400], [7; 400]);
-    unsafe {
-        same(
-            "check",
-            jgv_coverage_check(at, length),
-            coverage_check(at, length),
-        );
-        same(
-            "ask",
-            jgv_coverage_ask(n / 4, n / 3, at, length, code),
-            coverage_ask(n / 4, n / 3, at, length, code),
-        );
-        let counts = (
-            jgv_coverage_list(at, length, library.as_mut_ptr(), room),
-            coverage_list(at, length, plain.as_mut_ptr(), room),
-        );
-        same("list", (counts.0, library), (counts.1, plain));
-    }
+    same(
+        "check",
+        lent::coverage_check(&text),
+        coverage_check(at, length),
+    );
+    same(
+        "ask",
+        lent::coverage_ask(n / 4, n / 3, &text, code),
+        coverage_ask(n / 4, n / 3, at, length, code),
+    );
+    let counts = (
+        lent::coverage_list(&text, &mut library[..room]),
+        coverage_list(at, length, plain.as_mut_ptr(), room),
+    );
+    same("list", (counts.0, library), (counts.1, plain));
 }
 
 fn lists(random: &mut Random) {
@@ -161,12 +161,9 @@ fn lists(random: &mut Random) {
     }
     let (n, room) = (random.below(5), text.len() - random.below(2) as usize);
     let (mut library, mut plain) = ([7; 2_000], [7; 2_000]);
-    let lengths = unsafe {
-        let list = (codes.as_ptr(), codes.len());
-        (
-            jgv_coverage_write(n, 1, list.0, list.1, library.as_mut_ptr(), room),
-            coverage_write(n, 1, list.0, list.1, plain.as_mut_ptr(), room),
-        )
-    };
+    let lengths = (
+        lent::coverage_write(n, 1, &codes, &mut library[..room]),
+        coverage_write(n, 1, codes.as_ptr(), codes.len(), plain.as_mut_ptr(), room),
+    );
     same("write", (lengths.0, library), (lengths.1, plain));
 }

@@ -1,9 +1,9 @@
 //! The greatest stack depth of each entry: it runs on a painted stack, over many inputs, and the deepest byte that changed counts.
 
 use crate::inputs::{code, swath, Points, Random};
-use crate::library::*;
 use crate::plain::coverage::coverage_list;
 use crate::plain::NINE;
+use jeguarivo::*;
 use std::arch::asm;
 
 const SIZE: usize = 1 << 20;
@@ -117,6 +117,7 @@ pub fn depths(random: &mut Random, check: bool) -> Vec<(&'static str, usize)> {
 macro_rules! depths {
     ($($entry:ident: $inputs:expr, $input:pat => ($($argument:expr),*);)*) => {
         vec![$((stringify!($entry), depth(|| for $input in $inputs {
+            #[allow(unused_unsafe)] // for the entries that take numbers alone
             std::hint::black_box(unsafe { $entry($($argument),*) });
         }))),*]
     };

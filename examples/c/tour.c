@@ -205,7 +205,8 @@ static void coverage(void) {
 
     jgv_check check = jgv_coverage_check(text, length);
     expect_answer(check.refusal);
-    printf("coverage_check: P(34(1)) -> %" PRIu64 " whole cells, size %" PRIu64 "\n", check.cells, check.size);
+    printf("coverage_check: P(34(1)) -> n %" PRIu64 ", s %" PRIu64 ", ", check.n, check.s);
+    printf("%" PRIu64 " whole cells, size %" PRIu64 "\n", check.cells, check.size);
     uint64_t codes[32]; /* a text has fewer whole cells than bytes */
     jgv_list list = jgv_coverage_list(text, length, codes, 32);
     expect_answer(list.refusal);

@@ -70,6 +70,8 @@ class Fix(NamedTuple):
 
 
 class Check(NamedTuple):
+    n: int
+    s: int
     cells: int
     size: int
 
@@ -89,7 +91,7 @@ _Square = _struct("jgv_square_answer", c_int64, "left", "top", "side")
 _Point = _struct("jgv_point", c_int64, "x", "y")
 _Vertices = _struct("jgv_vertices_answer", c_int64 * 4, "x", "y")
 _Fix = _struct("jgv_fix", c_int64, "longitude", "z")
-_Check = _struct("jgv_check", c_uint64, "place", "cells", "size")
+_Check = _struct("jgv_check", c_uint64, "place", "n", "s", "cells", "size")
 _List = _struct("jgv_list", c_uint64, "place", "count")
 _Ask = _struct("jgv_ask", c_uint64, "place", "covered")
 
@@ -245,9 +247,9 @@ def neighbour(n: int, s: int, code: int, direction: int) -> int:
 
 
 def coverage_check(text: bytes) -> Check:
-    """The number of a text's whole cells and the sum of their sizes."""
+    """A text's n and s, the number of its whole cells and the sum of their sizes."""
     got = _coverage_check(text, len(text))
-    return Check(got.cells, got.size)
+    return Check(got.n, got.s, got.cells, got.size)
 
 
 def coverage_list(text: bytes) -> List[int]:

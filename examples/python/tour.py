@@ -100,7 +100,7 @@ def coverage():
     write_text(["O", "P0", "P1", "P2", "P3", "P4", "P5", "P6", "P7", "P8"])  # nine whole siblings become their parent
     text = write_text(["P3", "P41"])
     check = jgv.coverage_check(text)
-    print(f"coverage_check: P(34(1)) -> {check.cells} whole cells, size {check.size}")
+    print(f"coverage_check: P(34(1)) -> n {check.n}, s {check.s}, {check.cells} whole cells, size {check.size}")
     print("coverage_list: P(34(1)) ->", *map(code_name, jgv.coverage_list(text)))
     for name in ("P3", "P41", "P418", "P4"):  # P4 is covered in part only: no
         covered = jgv.coverage_ask(0, 0, text, name_code(name))

@@ -31,7 +31,8 @@ ANSWER(jgv_point, 24); SIGNED(jgv_point, x, 8); SIGNED(jgv_point, y, 16);
 ANSWER(jgv_vertices_answer, 72); SIGNED(jgv_vertices_answer, x[0], 8); SIGNED(jgv_vertices_answer, x[3], 32);
 SIGNED(jgv_vertices_answer, y[0], 40); SIGNED(jgv_vertices_answer, y[3], 64);
 ANSWER(jgv_fix, 24); SIGNED(jgv_fix, longitude, 8); SIGNED(jgv_fix, z, 16);
-ANSWER(jgv_check, 32); UNSIGNED(jgv_check, place, 8); UNSIGNED(jgv_check, cells, 16); UNSIGNED(jgv_check, size, 24);
+ANSWER(jgv_check, 48); UNSIGNED(jgv_check, place, 8); UNSIGNED(jgv_check, n, 16); UNSIGNED(jgv_check, s, 24);
+UNSIGNED(jgv_check, cells, 32); UNSIGNED(jgv_check, size, 40);
 ANSWER(jgv_list, 24); UNSIGNED(jgv_list, place, 8); UNSIGNED(jgv_list, count, 16);
 ANSWER(jgv_ask, 24); UNSIGNED(jgv_ask, place, 8); UNSIGNED(jgv_ask, covered, 16);
 
@@ -474,40 +475,44 @@ static jgv_check checked(const uint8_t *text, size_t length) {
     return got;
 }
 
-#define TEXT_ANSWER(call, want_refusal, want_place, want_cells, want_size) \
-    do {                                                                   \
-        jgv_check got = (call);                                            \
-        CHECK(got.refusal, want_refusal, #call ": refusal");               \
-        CHECK(got.place, want_place, #call ": place");                     \
-        CHECK(got.cells, want_cells, #call ": cells");                     \
-        CHECK(got.size, want_size, #call ": size");                        \
+#define TEXT_ANSWER(call, want_refusal, want_place, want_n, want_s, want_cells, want_size) \
+    do {                                                                                   \
+        jgv_check got = (call);                                                            \
+        CHECK(got.refusal, want_refusal, #call ": refusal");                               \
+        CHECK(got.place, want_place, #call ": place");                                     \
+        CHECK(got.n, want_n, #call ": n");                                                 \
+        CHECK(got.s, want_s, #call ": s");                                                 \
+        CHECK(got.cells, want_cells, #call ": cells");                                     \
+        CHECK(got.size, want_size, #call ": size");                                        \
     } while (0)
 
 static void coverage_check(void) {
-    TEXT_ANSWER(checked(TEXT(HEAD)), 0, 0, 0, 0);
-    TEXT_ANSWER(checked(TEXT(HEAD "OP")), 0, 0, 2, 2 * NINE_15);
-    TEXT_ANSWER(checked(TEXT(HEAD "P(34(1))")), 0, 0, 2, UINT64_C(25418658283290));
-    TEXT_ANSWER(checked(TEXT("CVR\0\1" "32" "NOPQRS")), 0, 0, 6, 6 * NINE_15);
-    TEXT_ANSWER(checked(TEXT(HEAD "O(012345678(0))")), 0, 0, 9, 8 * NINE_14 + NINE_13);
-    TEXT_ANSWER(checked(TEXT(HEAD "N" DEEP_14 "(0" ")))))))))))))))")), 0, 0, 1, 1);
-    TEXT_ANSWER(checked(TEXT(HEAD "O()")), 9, 9, 0, 0); /* line 10 of the proved table */
-    TEXT_ANSWER(checked(TEXT(HEAD "O(012345678)")), 9, 18, 0, 0); /* line 11 */
-    TEXT_ANSWER(checked(TEXT(HEAD "O(012345678")), 9, 18, 0, 0); /* cut: its whole length */
-    TEXT_ANSWER(checked(TEXT(HEAD "N" DEEP_14 "(012345678")), 9, 45, 0, 0); /* at depth 15 the last 8 can't stand */
-    TEXT_ANSWER(checked(TEXT(HEAD "N" DEEP_14 "(0(")), 9, 38, 0, 0);
-    TEXT_ANSWER(checked(TEXT(HEAD "PO")), 9, 8, 0, 0);
-    TEXT_ANSWER(checked(TEXT(HEAD "P(33)")), 9, 10, 0, 0);
-    TEXT_ANSWER(checked(TEXT("")), 9, 0, 0, 0);
-    TEXT_ANSWER(checked(TEXT("CVR\1")), 9, 3, 0, 0);
-    TEXT_ANSWER(checked(TEXT("CVR\0")), 9, 4, 0, 0);
-    TEXT_ANSWER(checked(TEXT("CVX\0\2")), 9, 2, 0, 0);
-    TEXT_ANSWER(checked(TEXT("CVR\0\1" "40")), 9, 5, 0, 0);
-    TEXT_ANSWER(checked(TEXT("CVR\0\1" "04")), 9, 6, 0, 0);
-    TEXT_ANSWER(checked(TEXT("CVR\1\1")), 10, 0, 0, 0);
-    TEXT_ANSWER(checked(TEXT("CVR\0\2" "00O()")), 10, 0, 0, 0);
-    TEXT_ANSWER(jgv_coverage_check(NULL, 0), 9, 0, 0, 0);
-    TEXT_ANSWER(jgv_coverage_check(long_text, LONGEST), 9, 0, 0, 0); /* zeros */
-    TEXT_ANSWER(jgv_coverage_check(long_text, LONGEST + 1), 13, 0, 0, 0);
+    TEXT_ANSWER(checked(TEXT(HEAD)), 0, 0, 0, 0, 0, 0);
+    TEXT_ANSWER(checked(TEXT(HEAD "OP")), 0, 0, 0, 0, 2, 2 * NINE_15);
+    TEXT_ANSWER(checked(TEXT(HEAD "P(34(1))")), 0, 0, 0, 0, 2, UINT64_C(25418658283290));
+    TEXT_ANSWER(checked(TEXT("CVR\0\1" "32" "NOPQRS")), 0, 0, 3, 2, 6, 6 * NINE_15);
+    TEXT_ANSWER(checked(TEXT("CVR\0\1" "13")), 0, 0, 1, 3, 0, 0);
+    TEXT_ANSWER(checked(TEXT("CVR\0\1" "13" "NN")), 9, 8, 0, 0, 0, 0);
+    TEXT_ANSWER(checked(TEXT(HEAD "O(012345678(0))")), 0, 0, 0, 0, 9, 8 * NINE_14 + NINE_13);
+    TEXT_ANSWER(checked(TEXT(HEAD "N" DEEP_14 "(0" ")))))))))))))))")), 0, 0, 0, 0, 1, 1);
+    TEXT_ANSWER(checked(TEXT(HEAD "O()")), 9, 9, 0, 0, 0, 0); /* line 10 of the proved table */
+    TEXT_ANSWER(checked(TEXT(HEAD "O(012345678)")), 9, 18, 0, 0, 0, 0); /* line 11 */
+    TEXT_ANSWER(checked(TEXT(HEAD "O(012345678")), 9, 18, 0, 0, 0, 0); /* cut: its whole length */
+    TEXT_ANSWER(checked(TEXT(HEAD "N" DEEP_14 "(012345678")), 9, 45, 0, 0, 0, 0); /* at depth 15 the last 8 can't stand */
+    TEXT_ANSWER(checked(TEXT(HEAD "N" DEEP_14 "(0(")), 9, 38, 0, 0, 0, 0);
+    TEXT_ANSWER(checked(TEXT(HEAD "PO")), 9, 8, 0, 0, 0, 0);
+    TEXT_ANSWER(checked(TEXT(HEAD "P(33)")), 9, 10, 0, 0, 0, 0);
+    TEXT_ANSWER(checked(TEXT("")), 9, 0, 0, 0, 0, 0);
+    TEXT_ANSWER(checked(TEXT("CVR\1")), 9, 3, 0, 0, 0, 0);
+    TEXT_ANSWER(checked(TEXT("CVR\0")), 9, 4, 0, 0, 0, 0);
+    TEXT_ANSWER(checked(TEXT("CVX\0\2")), 9, 2, 0, 0, 0, 0);
+    TEXT_ANSWER(checked(TEXT("CVR\0\1" "40")), 9, 5, 0, 0, 0, 0);
+    TEXT_ANSWER(checked(TEXT("CVR\0\1" "04")), 9, 6, 0, 0, 0, 0);
+    TEXT_ANSWER(checked(TEXT("CVR\1\1")), 10, 0, 0, 0, 0, 0);
+    TEXT_ANSWER(checked(TEXT("CVR\0\2" "00O()")), 10, 0, 0, 0, 0, 0);
+    TEXT_ANSWER(jgv_coverage_check(NULL, 0), 9, 0, 0, 0, 0, 0);
+    TEXT_ANSWER(jgv_coverage_check(long_text, LONGEST), 9, 0, 0, 0, 0, 0); /* zeros */
+    TEXT_ANSWER(jgv_coverage_check(long_text, LONGEST + 1), 13, 0, 0, 0, 0, 0);
 }
 
 /* Lists the text into lent codes and checks the answer, the codes and their guards. */
@@ -664,7 +669,7 @@ static void long_lists(void) {
     CHECK(written.refusal, 0, "a long text: refusal");
     CHECK(written.length > MANY / 8 * 11 && written.length <= LONGEST, 1, "a long text: has a likely length");
     CHECK(changes(long_text, text) + changes(text + written.length, long_text + sizeof long_text), 0, "a long text: bytes about it");
-    TEXT_ANSWER(jgv_coverage_check(text, (size_t)written.length), 0, 0, MANY, MANY);
+    TEXT_ANSWER(jgv_coverage_check(text, (size_t)written.length), 0, 0, 0, 0, MANY, MANY);
     jgv_list list = jgv_coverage_list(text, (size_t)written.length, listed, MANY);
     CHECK(list.refusal, 0, "a long text listed: refusal");
     CHECK(list.count, MANY, "a long text listed: count");

@@ -1,11 +1,12 @@
 # coverage: check, list and ask of a file, write of names.
 
-# BODY PLACE [HEADING]: a text that is refused with 9 at this place. Checking prints `refusal place cells size`; listing and asking the number.
+# BODY PLACE [HEADING]: a text that is refused with 9 at this place. Checking prints `refusal place n s cells size`; listing and asking the number.
+# Standard error says the place.
 not_a_text() {
     printf '%b' "${3-$H}$1" >bad.cvr
-    try "no text" "coverage check bad.cvr # $1" "9 $2 0 0\n" 9
-    try "no text to list" "coverage list bad.cvr # $1" '9\n' 9
-    try "no text to ask" "coverage ask bad.cvr N # $1" '9\n' 9
+    try "no text" "coverage check bad.cvr # $1" "9 $2 0 0 0 0\n" "9 at place $2"
+    try "no text to list" "coverage list bad.cvr # $1" '9\n' "9 at place $2"
+    try "no text to ask" "coverage ask bad.cvr N # $1" '9\n' "9 at place $2"
 }
 
 # files that cannot be read
@@ -30,14 +31,14 @@ fi
 
 # texts that are accepted
 printf '%b' "$H" >heading.cvr
-try "the heading alone" 'coverage check heading.cvr' '0 0 0 0\n' ''
+try "the heading alone" 'coverage check heading.cvr' '0 0 0 0 0 0\n' ''
 try "no cell" 'coverage list heading.cvr' '' ''
 try "nothing is covered" 'coverage ask heading.cvr N' 'no\n' ''
 printf '%b' "${H}P(34(1))" >two.cvr
-try "the paper's text" 'coverage check two.cvr' '0 0 2 25418658283290\n' ''
+try "the paper's text" 'coverage check two.cvr' '0 0 0 0 2 25418658283290\n' ''
 try "its cells" 'coverage list two.cvr' 'P3\nP41\n' ''
 printf '%b' "${H}NOPQRS" >all.cvr
-try "six faces" 'coverage check all.cvr' "0 0 6 $((6 * 9 ** 15))\n" ''
+try "six faces" 'coverage check all.cvr' "0 0 0 0 6 $((6 * 9 ** 15))\n" ''
 cp two.cvr 'two cells of P.cvr'
 try "a file name with spaces" "coverage list 'two cells of P.cvr'" 'P3\nP41\n' ''
 cp two.cvr "$(printf 'n\xc3\xa9v\xe9.cvr')"
@@ -45,16 +46,23 @@ try "a file name with bytes above 127" "coverage list n*v*.cvr" 'P3\nP41\n' ''
 cp two.cvr -- -two
 try "a file name with a dash" 'coverage list -two' 'P3\nP41\n' ''
 in_parts() { head -c 3 two.cvr; sleep 0.1; tail -c +4 two.cvr | head -c 7; sleep 0.1; tail -c +11 two.cvr; }
-try "a pipe, in parts" 'coverage check <(in_parts)' '0 0 2 25418658283290\n' ''
+try "a pipe, in parts" 'coverage check <(in_parts)' '0 0 0 0 2 25418658283290\n' ''
 try "a pipe, in parts, listed" 'coverage list <(in_parts)' 'P3\nP41\n' ''
-try "standard input as the file" 'in_parts | coverage check /dev/stdin' '0 0 2 25418658283290\n' ''
+try "standard input as the file" 'in_parts | coverage check /dev/stdin' '0 0 0 0 2 25418658283290\n' ''
 
 # asking
 for name in P3 P30 P38 P388888888888888 P41 P410 P411111111111111; do try "covered" "coverage ask two.cvr $name" 'yes\n' ''; done
 for name in P P4 P40 P42 P2 P400000000000000 N O Q S; do try "not covered, or partly" "coverage ask two.cvr $name" 'no\n' ''; done
 printf '%b' "CVR\x00\x0132P(0123567)" >other.cvr
 try "an arrangement of its own" 'coverage ask other.cvr P0' 'yes\n' ''
+try "its n and s" 'coverage check other.cvr' "0 0 3 2 7 $((7 * 9 ** 14))\n" ''
 try "all but two children" 'coverage ask other.cvr P' 'no\n' ''
+for n in 0 1 2 3; do
+    for s in 0 1 2 3; do
+        printf '%b' "CVR\x00\x01$n${s}N" >other.cvr
+        try "each arrangement checked" 'coverage check other.cvr' "0 0 $n $s 1 $((9 ** 15))\n" ''
+    done
+done
 for name in "''" T M n p 0 9 "' '" "' P3'" '-' "$'\xff'" '-1'; do try "no letter N to S" "coverage ask two.cvr $name" '1\n' 1; done
 try "an empty name" "coverage ask two.cvr ''" '1\n' 1
 for name in P9 P3x P-1 "'P3 '" P33333333333339 "$'P\xff'" P34:; do try "no digit 0 to 8" "coverage ask two.cvr $name" '3\n' 3; done
@@ -66,8 +74,10 @@ try "a bad name comes before a bad text" 'coverage ask bad.cvr P9' '3\n' 3
 
 # texts that are refused
 printf '' >bad.cvr
-try "an empty file" 'coverage check bad.cvr' '9 0 0 0\n' 9
-try "an empty file, listed" 'coverage list bad.cvr' '9\n' 9
+try "an empty file" 'coverage check bad.cvr' '9 0 0 0 0 0\n' '9 at place 0'
+try "an empty file, listed" 'coverage list bad.cvr' '9\n' '9 at place 0'
+printf '%b' "${H}O(012345678)" >bad.cvr
+try "what is said of it" 'coverage list bad.cvr 2>&1' '9\ncoverage: refusal 9 at place 18: not a coverage text\n' ''
 not_a_text 'O()' 9
 not_a_text 'O(012345678)' 18
 not_a_text 'O(012345678' 18
@@ -102,7 +112,7 @@ not_a_text '' 0 '\xef\xbb\xbfCVR\x00\x0100'
 not_a_text '' 0 'cvr\x00\x0100'
 for heading in 'CVR\x01\x01' 'CVR\x00\x0200' 'CVR\x00\x00' 'CVR\xff\xff00NO' 'CVR\x00\x02???'; do
     printf '%b' "$heading" >bad.cvr
-    try "another version" 'coverage check bad.cvr' '10 0 0 0\n' 10
+    try "another version" 'coverage check bad.cvr' '10 0 0 0 0 0\n' 10
     try "another version, listed" 'coverage list bad.cvr' '10\n' 10
     try "another version, asked" 'coverage ask bad.cvr N' '10\n' 10
 done
@@ -112,10 +122,10 @@ listed() { local i all=; for ((i = 0; i < $2; i++)); do all+=$i$1; done; printf 
 B="($(listed '(01234567)' 9))" && C="($(listed "$B" 9))" && D="($(listed "$C" 9))"
 printf '%b' "${H}O($(listed "$D" 7)7($(listed "$C" 8)8(0${B}123456)))" >full.cvr
 try "65,536 bytes" 'wc -c <full.cvr' '65536\n' ''
-try "checked" 'coverage check full.cvr' "0 0 46086 $((46080 * 9 ** 10 + 6 * 9 ** 12))\n" ''
+try "checked" 'coverage check full.cvr' "0 0 0 0 46086 $((46080 * 9 ** 10 + 6 * 9 ** 12))\n" ''
 try "all its cells listed" 'coverage list full.cvr | wc -l' '46086\n' ''
 try "asked" 'coverage ask full.cvr O783' 'yes\n' ''
-try "from a pipe" 'coverage check <(cat full.cvr)' "0 0 46086 $((46080 * 9 ** 10 + 6 * 9 ** 12))\n" ''
+try "from a pipe" 'coverage check <(cat full.cvr)' "0 0 0 0 46086 $((46080 * 9 ** 10 + 6 * 9 ** 12))\n" ''
 try "listed and written again" 'coverage list full.cvr | coverage write 0 0' @full.cvr ''
 coverage list full.cvr >full.names && (cat full.names; echo P) >longer.names
 try "a list whose text has 65,537 bytes" 'coverage write 0 0 <longer.names' '' 13
@@ -123,12 +133,12 @@ try "13 comes after 11" '(cat longer.names; echo P0) | coverage write 0 0' '' 11
 (cat full.cvr; printf P) >long.cvr
 (cat full.cvr full.cvr full.cvr) >longest.cvr
 for file in long.cvr longest.cvr /dev/zero; do
-    try "over 65,536 bytes" "coverage check $file" '13 0 0 0\n' 13
+    try "over 65,536 bytes" "coverage check $file" '13 0 0 0 0 0\n' 13
     try "over 65,536 bytes, listed" "coverage list $file" '13\n' 13
     try "over 65,536 bytes, asked" "coverage ask $file O" '13\n' 13
 done
 (printf '%b' 'CVR\x00\x02'; cat full.cvr) >long.cvr
-try "13 comes before 10" 'coverage check long.cvr' '13 0 0 0\n' 13
+try "13 comes before 10" 'coverage check long.cvr' '13 0 0 0 0 0\n' 13
 
 # writing
 try "no names" 'coverage write 0 0 </dev/null' "$H" ''
@@ -152,10 +162,13 @@ try "a bad name at the end" "printf 'P3\nT' | coverage write 0 0" '' 'line 2: 1'
 try "an empty line" "printf 'P3\n\nP41\n' | coverage write 0 0" '' 'line 2: 1'
 printf '%s\n' {N,O}{0..8}{0..8}{0..8}{0..8}{0..8} >names
 try "65,536 names" 'head -n 65536 names | coverage write 0 0' "${H}NO(0(012345678(012345678(0(0123456)))))" ''
-try "more than 65,536 names" 'head -n 65537 names | coverage write 0 0' '' '*13'
-try "many more" 'coverage write 0 0 <names' '' '*13'
+try "more than 65,536 names" 'head -n 65537 names | coverage write 0 0' '' 'line 65537: 13'
+try "many more" 'coverage write 0 0 <names' '' 'line 65537: 13'
 try "a bad name after 65,536 good ones" '(head -n 65536 names; echo T) | coverage write 0 0' '' 'line 65537: 1'
+try "a bad name in an input that never ends" "yes X | coverage write 0 0" '' 'line 1: 1'
+try "too many names in an input that never ends" "yes N | coverage write 0 0" '' 'line 65537: 13'
 try "a folder as input" 'coverage write 0 0 <.' '' 'coverage: standard input: Is a directory'
+try "an input that fails" "failing 'P3\nP4' coverage write 0 0" '' 'coverage: standard input: Resource temporarily unavailable'
 try "no input" 'coverage write 0 0 <&-' '' 'coverage: standard input: Bad file descriptor'
 
 # there and back

@@ -52,6 +52,13 @@ for program in record name_fixes; do
     try "input in parts" "(printf 0; sleep 0.1; printf ' '; sleep 0.1; printf '0\n1 0') | $program 0 0 0 | tail -c 2 | tr -d '\n' | tail -c 1" 'Q' ''
 done
 
+failure='standard input: Resource temporarily unavailable'
+try "an input that fails in a line: the lines before it are named" "failing '0 0\n0 0\n1 0' name_fixes 0 0 0" 'Q\nQ\n' "name_fixes: $failure"
+try "an input that fails at a line's end" "failing '0 0\n' name_fixes 0 0 0" 'Q\n' "name_fixes: $failure"
+for text in '0 0' '0 0\n' '0 0\n1 0'; do
+    try "an input that fails: nothing is written" "failing '$text' record 0 0 0" '' "record: $failure"
+done
+
 try "an input that never ends, and a reader who leaves" 'yes 0 0 | name_fixes 0 0 0 | head -n 2' 'Q\nQ\n' ''
 
 # long flights. Once round the equator at resolution 3 is row 13, 111 in base three, so every digit is 3, 4 or 5

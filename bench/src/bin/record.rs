@@ -1,9 +1,6 @@
 //! The program `record` in plain Rust: `record n s resolution` reads lines `longitude z` and writes the coverage text of the cells
 //! flown. A line that is no fix and a fix that is refused are said on standard error and skipped.
 
-#[path = "../answers.rs"]
-#[allow(dead_code)]
-mod answers;
 #[path = "../plain/mod.rs"]
 #[allow(dead_code)]
 mod plain;
@@ -39,7 +36,7 @@ fn main() {
             continue;
         };
         match fix_code(n, s, resolution, longitude, z) {
-            answers::Code { refusal: 0, code } => {
+            jeguarivo::Code { refusal: 0, code } => {
                 cells.insert(code);
             }
             refused => eprintln!("line {}: refusal {}", i + 1, refused.refusal),

@@ -1,7 +1,7 @@
 //! Codes, cells and names, digit by digit.
 
 use super::{Place, NINE, THREE};
-use crate::answers::{Cell, Code, Length};
+use jeguarivo::{Cell, Code, Length};
 
 /// (face x 9^15 + path x 9^(15-k)) x 16 + k.
 pub fn code_of(cell: Place) -> u64 {

@@ -2,7 +2,7 @@
 
 use super::codes::parts;
 use super::NINE;
-use crate::answers::{Ask, Check, List};
+use jeguarivo::{Ask, Check, List};
 
 pub const LONGEST: usize = 65_536;
 pub const HEADING: usize = 7;
@@ -116,6 +116,8 @@ fn checked(text: &[u8]) -> Check {
         Ok(()) => Check {
             refusal: 0,
             place: 0,
+            n: (text[5] - b'0') as u64,
+            s: (text[6] - b'0') as u64,
             cells,
             size,
         },

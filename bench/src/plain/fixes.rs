@@ -2,7 +2,7 @@
 
 use super::codes::{cell_of, code_of};
 use super::{Place, THREE};
-use crate::answers::{Code, Fix};
+use jeguarivo::{Code, Fix};
 
 const QUARTER: u64 = 900_000_000;
 const ONE: u64 = 1_000_000_000_000_000_000;

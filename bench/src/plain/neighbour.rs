@@ -2,7 +2,7 @@
 
 use super::codes::{cell_of, code_of};
 use super::{Place, THREE};
-use crate::answers::Code;
+use jeguarivo::Code;
 
 #[inline(never)]
 pub extern "C" fn neighbour(n: u64, s: u64, code: u64, direction: u64) -> Code {

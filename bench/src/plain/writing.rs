@@ -3,7 +3,7 @@
 use super::codes::parts;
 use super::coverage::LONGEST;
 use super::NINE;
-use crate::answers::Length;
+use jeguarivo::Length;
 
 /// The first finest cell and the one after the last.
 fn range(code: u64) -> (u64, u64) {

@@ -5,17 +5,16 @@ use mathlib.Core.List.{List}
 use Prim.Native.Nat.{ℕ, zero, suc}
 use native.Mathlib.Omega.{arith}
 use lib.Dec.{eqb}
-use Rattle.logic.specs.Refusal.{refuse, _otherwise_}
-use Rattle.logic.specs.RefusalLaws.{stops, passes}
+use Rattle.logic.specs.Refusal.{refuse}
+use Rattle.logic.specs.Laws.Refusal.{stops, passes}
 use Rattle.cell.specs.declared.Arrangement.{Arrangement}
 use Rattle.cell.specs.Cell.{arrangementRefusal}
-use Rattle.cell.specs.CellLaws.{five}
+use Rattle.cell.specs.Laws.Cell.{five-refused}
 use Rattle.code.specs.Code.{cellOf, codeRefusal}
 use Rattle.reading.specs.Ground.{wholeCells}
 use Rattle.reading.specs.TextReading.{nodesOf, northOf, southOf}
 use Rattle.reader.specs.Check.{placeWith}
-use Rattle.reader.specs.AnswerLaws.{Read, Unread}
-use Rattle.asking.specs.declared.Asked.{Asked}
+use Rattle.reader.specs.Laws.Answer.{TextChecked, TextRefused}
 use Rattle.asking.specs.declared.Asked.the-variants.{Covered, Refused}
 use Rattle.asking.specs.Ask.{anyWithin, askRefusal, asked, askedAs}
 
@@ -29,7 +28,7 @@ module _ (a : Arrangement) (t : List ℕ) (code : ℕ) where
   pub not-arranged : {r : ℕ} → r ≡ arrangementRefusal a → (r ≡ 0 → ⊥) → Refused r 0 ≡ asked (askRefusal a t code) t code
   unfolding askRefusal
   not-arranged {r} e h =
-      let f : r ≡ 5 = e ∙ five a (λ z. h (e ∙ z)) in
+      let f : r ≡ 5 = e ∙ five-refused a (λ z. h (e ∙ z)) in
       refusal t code (stops _ _ (λ z. h (e ∙ z)) ∙ sym e) h (ap (λ (x : ℕ). placeWith x t) (sym f))
 
   module _ {r : ℕ} (e : r ≡ arrangementRefusal a) (z : r ≡ 0) where
@@ -40,13 +39,13 @@ module _ (a : Arrangement) (t : List ℕ) (code : ℕ) where
 
     module _ (f : codeRefusal code ≡ 0) where
       -- the text's
-      pub not-read : {q p : ℕ} → Unread t q p → Refused q p ≡ asked (askRefusal a t code) t code
+      pub not-read : {q p : ℕ} → TextRefused t q p → Refused q p ≡ asked (askRefusal a t code) t code
       unfolding askRefusal
       not-read u =
           refusal t code (passes _ (sym e ∙ z) ∙ passes _ f ∙ stops _ _ (λ y. u .some (sym (u .refusal) ∙ y)) ∙ u .refusal) (u .some) (u .place)
 
       -- 14, or the answer
-      pub read-to : {n s c y : ℕ} → Read t n s c y → askedAs a n s (anyWithin (wholeCells (nodesOf t)) (cellOf code)) ≡ asked (askRefusal a t code) t code
+      pub read-to : {n s c y b : ℕ} → TextChecked t n s c y b → askedAs a n s (anyWithin (wholeCells (nodesOf t)) (cellOf code)) ≡ asked (askRefusal a t code) t code
       unfolding askRefusal askedAs asked
       read-to r =
           ap₂ (λ (x y : ℕ). cond (eqb (a .north) x && eqb (a .south) y) (Covered (anyWithin (wholeCells (nodesOf t)) (cellOf code))) (Refused 14 0)) (r .north) (r .south)

@@ -1,7 +1,7 @@
 -- The answer along the nodes of a text: the nodes from here on decide. Assumes nothing.
 use mathlib.Core.Path.{_≡_, refl, sym, ap, ap₂, _∙_}
 use mathlib.Core.Logic.{⊎-elim}
-use mathlib.Core.Bool.{Bool, true, false, _&&_, _||_, not, cond}
+use mathlib.Core.Bool.{Bool, true, false, _&&_, _||_, not}
 use mathlib.Core.List.{List, [], _∷_, _++_, append-nil, append-assoc}
 use Prim.Native.Nat.{ℕ, suc, _+_, _-_, _*_, _/_, _^_, _≤_, _<_}
 use native.Mathlib.Omega.{arith}
@@ -9,18 +9,21 @@ use native.Mathlib.Nat.{suc-mul, mul-le-mul-right}
 use lib.ListN.{length, drop, getD, drop-of-length-le}
 use lib.Seq.{drop-drop, drop-append-add}
 use lib.Dec.{leb, eqb}
-use borrow.Author.Tests.{le-leb, lt-leb, eq-eqb, ne-eqb}
-use Rattle.logic.specs.Bools.{clash}
-use Rattle.logic.specs.Order.{lt-or}
+use borrow.Author.Tests.{le-leb, lt-leb}
+use Rattle.logic.specs.Laws.Bools.{clash, and-none}
+use Rattle.logic.specs.Laws.Order.{lt-or}
 use Rattle.reading.specs.declared.Level.{Level}
 use Rattle.reading.specs.declared.Level.the-variants.{Faces, Digits}
 use Rattle.reading.specs.Reading.{Nodes, end, whole, listed, first, many, room, render, Good}
-use Rattle.reading.specs.ReadingLaws.{many-most}
-use Rattle.reading.specs.ParseLaws.{Stop}
-use Rattle.reading.specs.TextReading.{isText, nodesOf}
+use Rattle.reading.specs.Laws.Reading.{many-most}
+use Rattle.reading.specs.Laws.Parse.{Stop}
+use Rattle.reading.specs.TextReading.{isText, nodesOf, bodyStart}
+use Rattle.reading.specs.Laws.TextReading.{good-nodes, body-nodes}
 use Rattle.walk.specs.Walk.{opens, wholeAt}
-use Rattle.walk.specs.WalkLaws.{not-shut, whole-name, opens-nodes, body, good, byte-at}
-use Rattle.asking.specs.AskNodes.{anyIn, and-none, in-short, in-behind, openPast, shutIn, shut-list, nodeIn}
+use Rattle.walk.specs.Past.{nodeIn}
+use Rattle.walk.specs.Laws.Walk.{not-shut, whole-name, opens-nodes, byte-at}
+use Rattle.walk.specs.Laws.Past.{node-whole, node-listed}
+use Rattle.asking.specs.Internal.AskNodes.{anyIn, in-short, in-behind}
 
 -- the byte at a place, where the bytes from there on are known
 module _ (t : List ℕ) (i : ℕ) {b : ℕ} {bs : List ℕ} (e : drop i t ≡ b ∷ bs) where
@@ -59,17 +62,17 @@ pub record Asks (t : List ℕ) (from to : ℕ) (r : Bool) (base before size i : 
   pub same : anyIn from to before size nodes ≡ r
   pub fits : before + 9 * size ≤ 9 ^ 16
 
-pub asks-start : (t : List ℕ) (from to : ℕ) → isText t ≡ true → Asks t from to (anyIn from to 0 (9 ^ 15) (nodesOf t)) 78 0 (9 ^ 15) 7
-asks-start t from to e =
+pub asks-start : (t : List ℕ) (from to : ℕ) {i : ℕ} → isText t ≡ true → i ≡ bodyStart t → Asks t from to (anyIn from to 0 (9 ^ 15) (nodesOf t)) 78 0 (9 ^ 15) i
+asks-start t from to e h =
     record {
       level = Faces;
       depth = 15;
       lo = 0;
       nodes = nodesOf t;
       rest = [];
-      left = body t e ∙ sym (append-nil (render Faces (nodesOf t)));
+      left = ap (λ (x : ℕ). drop x t) h ∙ body-nodes t e ∙ sym (append-nil (render Faces (nodesOf t)));
       stop = tt;
-      good = good t e;
+      good = good-nodes t e;
       kind = refl;
       same = refl;
       fits = omega arith;
@@ -148,13 +151,16 @@ module _ {t : List ℕ} {from to : ℕ} {r : Bool} {base before size i : ℕ} (v
       go (listed c is ns) e g s =
           sym (in-behind from to (listed c is ns) (v .level) (v .depth) c before size (omega arith, g .1, g .2, g .3, g .4, g .5, g .6) (omega (arith, start-is c e))) ∙ s
 
-  -- a whole node, and one that holds a list
-  whole-here : (c : ℕ) (ns : Nodes) → c < many (v .level) → drop i t ≡ (first (v .level) + c) ∷ (render (v .level) ns ++ v .rest) → wholeAt (drop i t) ≡ true
-  whole-here c ns k e =
-      ap wholeAt e ∙ whole-name c (v .level) k 0 0 (render (v .level) ns ++ v .rest) ∙ ap not (opens-nodes ns (v .level) (v .rest) (stop-opens (v .rest) (v .stop)))
+  nodes-stop : (ns : Nodes) → opens (render (v .level) ns ++ v .rest) ≡ false
+  nodes-stop ns = opens-nodes ns (v .level) (v .rest) (stop-opens (v .rest) (v .stop))
 
-  list-here : (c : ℕ) {bs : List ℕ} → c < many (v .level) → drop i t ≡ (first (v .level) + c) ∷ 40 ∷ bs → wholeAt (drop i t) ≡ false
-  list-here c {bs} k e = ap wholeAt e ∙ whole-name c (v .level) k 0 0 (40 ∷ bs)
+  -- a whole node, and one that holds a list
+  whole-here : (c : ℕ) (ns : Nodes) → drop i t ≡ (first (v .level) + c) ∷ (render (v .level) ns ++ v .rest) → wholeAt (drop i t) ≡ true
+  whole-here c ns e =
+      ap wholeAt e ∙ whole-name c (v .level) (render (v .level) ns ++ v .rest) ∙ ap not (nodes-stop ns)
+
+  list-here : (c : ℕ) {bs : List ℕ} → drop i t ≡ (first (v .level) + c) ∷ 40 ∷ bs → wholeAt (drop i t) ≡ false
+  list-here c {bs} e = ap wholeAt e ∙ whole-name c (v .level) (40 ∷ bs)
 
   listed-here : (c : ℕ) (is ns : Nodes) → drop i t ≡ render (v .level) (listed c is ns) ++ v .rest
       → drop i t ≡ (first (v .level) + c) ∷ 40 ∷ (render Digits is ++ (41 ∷ (render (v .level) ns ++ v .rest)))
@@ -163,13 +169,15 @@ module _ {t : List ℕ} {from to : ℕ} {r : Bool} {base before size i : ℕ} (v
 
   -- it ends before the asked one does
   pub asks-past : starts + size < to → Asks t from to r base before size (i + nodeIn (drop i t))
-  unfolding anyIn nodeIn
+  unfolding anyIn
   asks-past k = go (v .nodes) (v .left) (v .good) (v .same)
     where
-      go : (ns : Nodes) → drop i t ≡ render (v .level) ns ++ v .rest → Good (v .level) (v .depth) (v .lo) ns → anyIn from to before size ns ≡ r → Asks t from to r base before size (i + nodeIn (drop i t))
+      go :
+          (ns : Nodes) → drop i t ≡ render (v .level) ns ++ v .rest → Good (v .level) (v .depth) (v .lo) ns → anyIn from to before size ns ≡ r →
+          Asks t from to r base before size (i + nodeIn (drop i t))
       go end e g s = absurd (none (v .rest) (v .stop) e)
       go (whole c ns) e g s =
-          let n : nodeIn (drop i t) ≡ 1 = ap (λ (b : Bool). cond b 1 (2 + shutIn 1 (drop 2 (drop i t)))) (whole-here c ns (g .1) e) in
+          let n : nodeIn (drop i t) ≡ 1 = ap nodeIn e ∙ node-whole c (v .level) (render (v .level) ns ++ v .rest) (nodes-stop ns) in
           let f : (leb (before + c * size) from && leb to (before + c * size + size)) ≡ false =
           ap (λ (b : Bool). leb (before + c * size) from && b) (lt-leb to (before + c * size + size) (omega (arith, start-is c e))) ∙ and-none (leb (before + c * size) from) in
           record {
@@ -189,9 +197,7 @@ module _ {t : List ℕ} {from to : ℕ} {r : Bool} {base before size i : ℕ} (v
           let tail : List ℕ = render (v .level) ns ++ v .rest in
           let o : drop i t ≡ (first (v .level) + c) ∷ 40 ∷ (render Digits is ++ (41 ∷ tail)) = listed-here c is ns e in
           let xs : List ℕ = (first (v .level) + c) ∷ 40 ∷ render Digits is in
-          let n : nodeIn (drop i t) ≡ length xs + 1 =
-          ap (λ (b : Bool). cond b 1 (2 + shutIn 1 (drop 2 (drop i t)))) (list-here c (g .1) o)
-          ∙ ap (λ (x : List ℕ). 2 + shutIn 1 (drop 2 x)) o ∙ omega (arith, shut-list is tail) in
+          let n : nodeIn (drop i t) ≡ length xs + 1 = ap nodeIn o ∙ node-listed c (v .level) is tail ∙ omega arith in
           let f : anyIn from to (before + c * size) (size / 9) is ≡ false =
           in-short from to is Digits (room (v .level) c (v .depth) - 1) 0 (before + c * size) (size / 9) (g .5) (omega (arith, start-is c o)) in
           record {
@@ -220,16 +226,17 @@ module _ {t : List ℕ} {from to : ℕ} {r : Bool} {base before size i : ℕ} (v
             let f : (leb (before + c * size) from && leb to (before + c * size + size)) ≡ true =
             ap₂ _&&_ (le-leb (before + c * size) from (omega (arith, start-is c e))) (le-leb to (before + c * size + size) (omega (arith, start-is c e))) in
             sym (ap (λ (x : Bool). x || anyIn from to before size ns) f) ∙ s
-        go (listed c is ns) e g s = clash (sym w ∙ list-here c (g .1) (listed-here c is ns e))
+        go (listed c is ns) e g s = clash (sym w ∙ list-here c (listed-here c is ns e))
 
     -- the asked one lies in its list, if anywhere
     pub asks-into : from < to → wholeAt (drop i t) ≡ false → Asks t from to r 48 starts (size / 9) (i + 2)
     unfolding anyIn
     asks-into m w = go (v .nodes) (v .left) (v .good) (v .same)
       where
-        go : (ns : Nodes) → drop i t ≡ render (v .level) ns ++ v .rest → Good (v .level) (v .depth) (v .lo) ns → anyIn from to before size ns ≡ r → Asks t from to r 48 starts (size / 9) (i + 2)
+        go : (ns : Nodes) → drop i t ≡ render (v .level) ns ++ v .rest → Good (v .level) (v .depth) (v .lo) ns → anyIn from to before size ns ≡ r → Asks t from to r 48 starts
+            (size / 9) (i + 2)
         go end e g s = absurd (none (v .rest) (v .stop) e)
-        go (whole c ns) e g s = clash (sym (whole-here c ns (g .1) e) ∙ w)
+        go (whole c ns) e g s = clash (sym (whole-here c ns e) ∙ w)
         go (listed c is ns) e g s =
             let tail : List ℕ = render (v .level) ns ++ v .rest in
             let o : drop i t ≡ (first (v .level) + c) ∷ 40 ∷ (render Digits is ++ (41 ∷ tail)) = listed-here c is ns e in
@@ -250,68 +257,3 @@ module _ {t : List ℕ} {from to : ℕ} {r : Bool} {base before size i : ℕ} (v
                   ∙ sym (ap (λ (x : Bool). anyIn from to (before + c * size) (size / 9) is || x) f) ∙ s;
               fits = omega (arith, asks-fits);
             }
-
--- ---- past a list
-
-past-most : (d b : ℕ) → openPast d b ≤ d + 1
-unfolding openPast
-past-most d b = go (eqb b 40) (eqb b 41)
-  where
-    go : (x y : Bool) → cond x (d + 1) (cond y (d - 1) d) ≤ d + 1
-    go true y = omega arith
-    go false true = omega arith
-    go false false = omega arith
-
--- what holds before the byte at i, with so many lists open
-pub record Shuts (t : List ℕ) (at depth i : ℕ) : Type 0 where
-  pub tied : i + shutIn depth (drop i t) ≡ at + shutIn 1 (drop at t)
-  pub some : 0 < depth
-  pub few : depth + at ≤ i + 1
-
-pub shuts-start : (t : List ℕ) (at : ℕ) → Shuts t at 1 at
-shuts-start t at = record { tied = refl; some = omega arith; few = omega arith }
-
-pub shuts-end : {t : List ℕ} {at depth i : ℕ} → Shuts t at depth i → length t ≤ i → i ≡ at + shutIn 1 (drop at t)
-unfolding shutIn
-shuts-end {t} {at} {depth} {i} v h =
-    let e : shutIn depth (drop i t) ≡ 0 = ap (shutIn depth) (drop-of-length-le t {i = i} h) in
-    omega (arith, v .tied)
-
-module _ {t : List ℕ} {at depth i depth′ : ℕ} (v : Shuts t at depth i) (h : i < length t) (e : depth′ ≡ openPast depth (getD t i 0)) where
-  next : shutIn depth (drop i t) ≡ 1 + cond (eqb depth′ 0) 0 (shutIn depth′ (drop (i + 1) t))
-  unfolding shutIn
-  next =
-      ap (shutIn depth) (byte-at t i h) ∙ ap (λ (x : ℕ). 1 + cond (eqb x 0) 0 (shutIn x (drop (i + 1) t))) (sym e)
-
-  pub shuts-done : depth′ ≡ 0 → i + 1 ≡ at + shutIn 1 (drop at t)
-  shuts-done z =
-      let f : shutIn depth (drop i t) ≡ 1 = next ∙ ap (λ (b : Bool). 1 + cond b 0 (shutIn depth′ (drop (i + 1) t))) (eq-eqb depth′ 0 z) in
-      omega (arith, v .tied)
-
-  pub shuts-on : (depth′ ≡ 0 → ⊥) → Shuts t at depth′ (i + 1)
-  shuts-on z =
-      let f : shutIn depth (drop i t) ≡ 1 + shutIn depth′ (drop (i + 1) t) =
-      next ∙ ap (λ (b : Bool). 1 + cond b 0 (shutIn depth′ (drop (i + 1) t))) (ne-eqb depth′ 0 z) in
-      record { tied = omega (arith, v .tied); some = omega (arith, z); few = omega (arith, v .few, past-most depth (getD t i 0)) }
-
--- ---- past a node
-
-pub node-some : (bs : List ℕ) → 0 < nodeIn bs
-unfolding nodeIn
-node-some bs = go (wholeAt bs)
-  where
-    go : (b : Bool) → 0 < cond b 1 (2 + shutIn 1 (drop 2 bs))
-    go true = omega arith
-    go false = omega arith
-
-module _ (t : List ℕ) (i : ℕ) where
-  pub node-whole : wholeAt (drop i t) ≡ true → i + 1 ≡ i + nodeIn (drop i t)
-  unfolding nodeIn
-  node-whole w = sym (ap (λ (b : Bool). i + cond b 1 (2 + shutIn 1 (drop 2 (drop i t)))) w)
-
-  pub node-list : wholeAt (drop i t) ≡ false → i + 2 + shutIn 1 (drop (i + 2) t) ≡ i + nodeIn (drop i t)
-  unfolding nodeIn
-  node-list w =
-      let e : nodeIn (drop i t) ≡ 2 + shutIn 1 (drop (i + 2) t) =
-      ap (λ (b : Bool). cond b 1 (2 + shutIn 1 (drop 2 (drop i t)))) w ∙ ap (λ (x : List ℕ). 2 + shutIn 1 x) (drop-drop 2 i t) in
-      omega arith

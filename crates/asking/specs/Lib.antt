@@ -1,3 +1,3 @@
 pub mod Ask
-pub mod AskLaws
-pub mod AskNodes
+pub mod Internal
+pub mod Laws

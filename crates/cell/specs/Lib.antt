@@ -1,10 +1,5 @@
 pub mod Cell
-pub mod CellLaws
-pub mod FoundLaws
 pub mod Hierarchy
-pub mod HierarchyLaws
+pub mod Internal
+pub mod Laws
 pub mod Neighbour
-pub mod Turns
-pub mod Seams
-pub mod Towards
-pub mod NeighbourLaws

@@ -1,7 +1,7 @@
 -- The neighbours of a cell (01 "Neighbours and shapes"). Directions 0 to 3 are up, right, down, left. Assumes nothing.
 use mathlib.Core.Bool.{Bool, cond}
 use Prim.Native.Nat.{ℕ, _+_, _-_, _%_, _^_, _<_}
-use mathlib.Core.Path.{_≡_, refl}
+use mathlib.Core.Path.{_≡_}
 use lib.Dec.{eqb, ltb}
 use Rattle.logic.specs.Refusal.{refuse, _otherwise_}
 use Rattle.logic.specs.Choice.{four}
@@ -114,26 +114,3 @@ backOf a c d =
 -- being a neighbour
 abbrev pub Neighbour : Arrangement → Cell → Cell → Type 0
 Neighbour a c x = (d : ℕ) × (d < 4) × (neighbourOf a c d ≡ x)
-
--- ---- line 9 of 01's proved table: P0 up, right, down, left is N8, P1, P3, O2 with (n, s) = (0, 0)
-p0 : Cell
-p0 = record { face = 2; resolution = 1; row = 0; column = 0 }
-
-plain : Arrangement
-plain = record { north = 0; south = 0 }
-
-up : neighbourOf plain p0 0 ≡ at p0 0 2 2
-unfolding neighbourOf plain p0
-up = refl
-
-right : neighbourOf plain p0 1 ≡ at p0 2 0 1
-unfolding neighbourOf plain p0
-right = refl
-
-down : neighbourOf plain p0 2 ≡ at p0 2 1 0
-unfolding neighbourOf plain p0
-down = refl
-
-left : neighbourOf plain p0 3 ≡ at p0 1 0 2
-unfolding neighbourOf plain p0
-left = refl

@@ -1,6 +1,7 @@
 // Cells and arrangements by value, and the steps up and down the hierarchy.
 ghost use mathlib.Core.Path.{_≡_};
-ghost use Rattle.cell.specs.Cell.{cellRefusal, arrangementRefusal, found};
+ghost use Prim.Native.Nat.{_≤_, _<_};
+ghost use Rattle.cell.specs.Cell.{IsCell, cellRefusal, arrangementRefusal, found};
 ghost use Rattle.cell.specs.Hierarchy.{parentRefusal, parentOf, childRefusal, childOf};
 
 mod step;
@@ -70,14 +71,22 @@ impl Cell {
             return Found::Refused(refusal);
         }
         if self.resolution == 0 {
-            return Found::Refused(12);
+            return Found::Refused(12); // a face has no parent
         }
-        Found::At(Cell {
+        Found::At(self.parent_cell())
+    }
+
+    // The same of a cell that has a parent.
+    pub fn parent_cell(self) -> Cell
+        requires { ⌜ 0 < self .resolution ⌝ }
+        ensures { λ r. ⌜ r ≡ parentOf self ⌝ }
+    {
+        Cell {
             face: self.face,
             resolution: self.resolution - 1,
             row: self.row / 3,
             column: self.column / 3,
-        })
+        }
     }
 
     // The child that a digit names.
@@ -92,13 +101,22 @@ impl Cell {
             return Found::Refused(3);
         }
         if self.resolution == 15 {
-            return Found::Refused(12);
+            return Found::Refused(12); // a finest cell has no child
         }
-        Found::At(Cell {
+        Found::At(self.child_cell(digit))
+    }
+
+    // The same of a cell, and of a digit that names a child.
+    pub fn child_cell(self, digit: u64) -> Cell
+        requires { ⌜ IsCell self ⌝ }
+        requires { ⌜ digit ≤ 8 ⌝ }
+        ensures { λ r. ⌜ r ≡ childOf self digit ⌝ }
+    {
+        Cell {
             face: self.face,
             resolution: self.resolution + 1,
             row: 3 * self.row + digit / 3,
             column: 3 * self.column + digit % 3,
-        })
+        }
     }
 }

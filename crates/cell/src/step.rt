@@ -26,11 +26,20 @@ impl Cell {
         if direction > 3 {
             return Found::Refused(3);
         }
+        Found::At(self.neighbour(arrangement, direction))
+    }
+
+    // The same of a cell and an arrangement.
+    pub fn neighbour(self, arrangement: Arrangement, direction: u64) -> Cell
+        requires { ⌜ IsArrangement arrangement ⌝ }
+        requires { ⌜ IsCell self ⌝ }
+        ensures { λ r. ⌜ r ≡ neighbourOf arrangement self direction ⌝ }
+    {
         let last = ternary::power(self.resolution) - 1;
         if self.leaves(direction, last) {
-            return Found::At(self.across_edge(arrangement, direction, last));
+            return self.across_edge(arrangement, direction, last);
         }
-        Found::At(self.within_face(direction))
+        self.within_face(direction)
     }
 
     // The cell has no further cell of its face in that direction.

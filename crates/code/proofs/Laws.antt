@@ -6,15 +6,15 @@ use native.Mathlib.Nat.{div-add-mod', dvd-mul-right, mod-mod-of-dvd}
 use native.Mathlib.Omega.{arith}
 use lib.Dec.{eqb, ltb}
 use borrow.Author.Tests.{lt-ltb, le-ltb, eq-eqb, ne-eqb}
-use Rattle.ternary.specs.Powers.{power-le, nine-le, nine-split}
+use Rattle.ternary.specs.Laws.Powers.{power-le, nine-le, nine-split}
 use Rattle.ternary.specs.Weave.{weave, rowIn, columnIn}
-use Rattle.ternary.specs.WeaveLaws.{weave-more, row-more, column-more}
+use Rattle.ternary.specs.Laws.Weave.{weave-more, row-more, column-more}
 use Rattle.cell.specs.declared.Cell.{Cell}
 use Rattle.cell.specs.Cell.{IsCell}
 use Rattle.code.specs.declared.Coded.the-variants.{Code, Refused}
 use Rattle.code.specs.declared.Split.the-variants as split-as
 use Rattle.code.specs.Code.{coded, split, isCode, codeRefusal, pathOf, pathIn}
-use Rattle.code.specs.CodeLaws.{path-weave, path-in-small, code-passes, code-stops}
+use Rattle.code.specs.Laws.Code.{path-weave, path-in-small, code-passes, code-stops}
 
 refusal : (r code : ℕ) → (r ≡ 0 → ⊥) → Refused r ≡ coded r code
 unfolding coded

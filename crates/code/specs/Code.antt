@@ -1,5 +1,4 @@
 -- The code of a cell (01 "Faces, rows, names, codes"). Assumes nothing.
-use mathlib.Core.Path.{_≡_, refl}
 use mathlib.Core.Bool.{Bool, _&&_, not}
 use Prim.Native.Nat.{ℕ, zero, suc, _+_, _-_, _*_, _/_, _%_, _^_}
 use mathlib.Core.List.{List, [], _∷_, _++_}
@@ -38,7 +37,7 @@ codeOf c = codeAt (c .face) (c .resolution) (pathOf c)
 unfoldable pub sizeOf : Cell → ℕ
 sizeOf c = 9 ^ (15 - c .resolution)
 
--- ---- a code read back. That these undo `codeOf`, and that no other number is a code, is shown in CodeLaws
+-- ---- a code read back. That these undo `codeOf`, and that no other number is a code, is shown in Laws/Code
 
 unfoldable pub pathIn : ℕ → ℕ
 pathIn code = code / 16 % 9 ^ 15 / 9 ^ (15 - code % 16)
@@ -86,33 +85,3 @@ refusalIn (Refused r) = r
 abbrev pub codeIn : Coded → ℕ
 codeIn (Code code) = code
 codeIn (Refused r) = 0
-
--- ---- "N is 0, N0 is 1, N1 is 366,028,679,279,377, O is 3,294,258,113,514,384. The greatest code is 19,765,548,681,086,303."
-
-abbrev at : ℕ → ℕ → ℕ → ℕ → Cell
-at face k row column = record { face = face; resolution = k; row = row; column = column }
-
-n : codeOf (at 0 0 0 0) ≡ 0
-unfolding codeOf value
-n = refl
-
-n0 : codeOf (at 0 1 0 0) ≡ 1
-unfolding codeOf value
-n0 = refl
-
-n1 : codeOf (at 0 1 0 1) ≡ 366028679279377
-unfolding codeOf value
-n1 = refl
-
-o : codeOf (at 1 0 0 0) ≡ 3294258113514384
-unfolding codeOf value
-o = refl
-
-greatest : codeOf (at 5 15 14348906 14348906) ≡ 19765548681086303
-unfolding codeOf value
-greatest = refl
-
--- and back
-greatest-cell : cellOf 19765548681086303 ≡ at 5 15 14348906 14348906
-unfolding cellOf rowIn columnIn
-greatest-cell = refl

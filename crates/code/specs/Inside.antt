@@ -1,5 +1,7 @@
 -- Which cells lie inside which, and the finest cells of a cell (01 "Faces, rows, names, codes" and "The coverage text"). Assumes nothing.
 use mathlib.Core.Path.{_≡_}
+use mathlib.Core.Bool.{Bool, _&&_}
+use lib.Dec.{leb}
 use Prim.Native.Nat.{ℕ, _+_, _-_, _*_, _/_, _^_, _≤_, _<_}
 use Rattle.cell.specs.declared.Cell.{Cell}
 use Rattle.code.specs.Code.{pathOf, sizeOf}
@@ -23,3 +25,8 @@ endOf c = startOf c + sizeOf c
 pub record Within (c x : Cell) : Type 0 where
   pub from : startOf c ≤ startOf x
   pub to : endOf x ≤ endOf c
+
+-- the same as a test
+unfoldable pub liesWithin : (c x : Cell) → Bool
+unfolding startOf endOf
+liesWithin c x = leb (startOf c) (startOf x) && leb (endOf x) (endOf c)

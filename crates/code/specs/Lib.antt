@@ -1,8 +1,5 @@
 pub mod Code
-pub mod CodeLaws
-pub mod DecodedLaws
+pub mod Finest
 pub mod Inside
-pub mod InsideLaws
+pub mod Laws
 pub mod Number
-pub mod NumberLaws
-pub mod SizeLaws

@@ -1,8 +1,8 @@
--- A cell by its resolution and its number: the face and the digits of its name read in base nine (01 "Faces, rows, names, codes"). NumberLaws shows
--- that its code and its first finest cell are these. Assumes nothing.
+-- A cell by its resolution and its number: the face and the digits of its name read in base nine (01 "Faces, rows, names, codes"). Laws/Number
+-- shows that its code and its first finest cell are these. Assumes nothing.
 use Prim.Native.Nat.{ℕ, _+_, _-_, _*_, _^_}
 use Rattle.cell.specs.declared.Cell.{Cell}
-use Rattle.code.specs.Code.{pathOf}
+use Rattle.code.specs.Code.{pathOf, cellOf}
 
 unfoldable pub numberOf : Cell → ℕ
 numberOf c = c .face * 9 ^ c .resolution + pathOf c
@@ -18,3 +18,7 @@ endAs k n = startAs k n + 9 ^ (15 - k)
 -- the code
 unfoldable pub codeAs : (k n : ℕ) → ℕ
 codeAs k n = startAs k n * 16 + k
+
+-- the cell
+abbrev pub cellAs : (k n : ℕ) → Cell
+cellAs k n = cellOf (codeAs k n)

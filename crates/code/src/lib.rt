@@ -9,6 +9,9 @@ ghost use Rattle.code.specs.Number.{codeAs};
 use cell::Cell;
 use cell::Found;
 
+// The size of a face, 9^15.
+pub const FACE_SIZE: u64 = 205_891_132_094_649;
+
 // A code, or the number of the refusal.
 pub enum Coded {
     Code(u64),
@@ -31,7 +34,7 @@ pub fn code_at(face: u64, resolution: u64, path: u64) -> u64
     ensures { λ r. ⌜ r ≡ codeAt face resolution path ⌝ }
 {
     let finest = path * ternary::nine_power(15 - resolution);
-    (face * 205_891_132_094_649 + finest) * 16 + resolution
+    (face * FACE_SIZE + finest) * 16 + resolution
 }
 
 // The code of a cell.
@@ -82,13 +85,13 @@ pub fn parts_of(code: u64) -> Split
     ensures { λ r. ⌜ r ≡ split (codeRefusal code) code ⌝ }
 {
     let number = code / 16;
-    let face = number / 205_891_132_094_649;
+    let face = number / FACE_SIZE;
     if face >= 6 {
         return Split::Refused(4); // no face
     }
     let resolution = code % 16;
     let step = ternary::nine_power(15 - resolution);
-    let rest = number % 205_891_132_094_649;
+    let rest = number % FACE_SIZE;
     let path = rest / step;
     if path * step != rest {
         return Split::Refused(4); // a digit below the resolution

@@ -1,3 +1,4 @@
-pub mod Line
-pub mod LineLaws
-pub mod Setting
+pub mod Arguments
+pub mod Input
+pub mod Laws
+pub mod Room

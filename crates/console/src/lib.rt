@@ -1,28 +1,49 @@
-// What the programs share: words for people on standard error, arguments, and input that can fail.
+// What the programs share: words for people on standard error, arguments, and input and output that can fail.
 ghost use mathlib.Core.Path.{_≡_};
-ghost use mathlib.Core.Bool.{cond};
-ghost use Prim.Native.Nat.{_+_, _≤_};
-ghost use lib.Dec.{ltb};
-ghost use lib.ListN.{length, set};
-ghost use lib.Seq.{sets};
-ghost use Rattle.io.specs.Counts.{Counts};
-ghost use Rattle.console.specs.Line.{atMost};
-ghost use Rattle.console.specs.Setting.{settingRefusal, Usable};
+ghost use Prim.Native.Nat.{_≤_, _<_};
+ghost use lib.ListN.{length};
+ghost use Rattle.console.specs.Arguments.{OfWord, Usable};
+ghost use Rattle.console.specs.Input.{unread, Given, Fits, lastLine};
+ghost use Rattle.console.specs.Room.{Made};
 use cell::Arrangement;
 use decimal::Whole;
+use flight::Setting;
 use libc::STDERR_FILENO;
+use libc::STDIN_FILENO;
 use libc::STDOUT_FILENO;
-
-// How many bytes were read, and whether reading failed. No byte and no failure is the end of the input.
-pub struct Got {
-    pub count: usize,
-    pub failed: bool,
-}
+use lines::Reached;
 
 // The arguments n, s and resolution.
-pub enum Setting {
-    Given(u64, u64, u64),
+pub enum Arguments {
+    Good(Setting),
     Wrong,
+}
+
+// How many bytes were read. No byte is the end of the input.
+pub enum BytesRead {
+    Count(usize),
+    Failed,
+}
+
+// A line that ended: so many bytes of it stand in its room, and the bytes read behind it from one place up to another. Or the last line, which
+// has no end; or no further line; or reading failed.
+pub enum LineRead {
+    Line {
+        length: usize,
+        from: usize,
+        end: usize,
+    },
+    Last {
+        length: usize,
+    },
+    End,
+    Failed,
+}
+
+// From where on there is room, or writing failed.
+pub enum Room {
+    From(usize),
+    Failed,
 }
 
 // To standard error.
@@ -30,8 +51,8 @@ pub fn say(text: &[u8]) {
     io::write_all(STDERR_FILENO, text);
 }
 
-// To standard output. Where that fails, standard error says why.
-pub fn print(text: &[u8]) -> bool {
+// Whether all of it went to standard output. Where that fails, standard error says why.
+fn printed(text: &[u8]) -> bool {
     let done = io::write_all(STDOUT_FILENO, text);
     if !done {
         os::fail(b"standard output");
@@ -39,11 +60,30 @@ pub fn print(text: &[u8]) -> bool {
     done
 }
 
+// To standard output.
+pub fn print(text: &[u8]) {
+    printed(text);
+}
+
 // The first bytes of a buffer, to standard output.
-pub fn print_first(buf: &[u8], count: usize) -> bool
+pub fn print_first(buf: &[u8], count: usize)
     requires { ⌜ count ≤ length (now buf) ⌝ }
 {
-    print(&buf[..count])
+    print(&buf[..count]);
+}
+
+// Room for `size` bytes more behind the first `at`. Where there is none, all of these are printed first.
+pub fn make_room(out: &[u8], at: usize, size: usize) -> Room
+    requires { ⌜ at ≤ length (now out) ⌝ }
+    ensures { λ r. ⌜ Made (length (now (out .entry))) at size r ⌝ }
+{
+    if out.len() - at < size {
+        if printed(&out[..at]) {
+            return Room::From(0);
+        }
+        return Room::Failed;
+    }
+    Room::From(at)
 }
 
 // A number in decimal.
@@ -53,10 +93,8 @@ fn say_whole(x: u64) {
     say(&digits[..n]);
 }
 
-// The refusal's number and what it means, to the end of the line.
-pub fn say_refusal(refusal: u64) {
-    say(b"refusal ");
-    say_whole(refusal);
+// What a refusal means, to the end of the line.
+fn say_meaning(refusal: u64) {
     match refusal {
         1 => say(b": a name starts with a letter N to S\n"),
         2 => say(b": a resolution is 0 to 15, a name has at most 16 bytes\n"),
@@ -69,6 +107,25 @@ pub fn say_refusal(refusal: u64) {
         13 => say(b": the text or the list is too long\n"),
         _ => say(b"\n"),
     }
+}
+
+// The refusal's number and what it means.
+pub fn say_refusal(refusal: u64) {
+    say(b"refusal ");
+    say_whole(refusal);
+    say_meaning(refusal);
+}
+
+// The same of a text: "For 9 the place is ..".
+pub fn say_text(program: &[u8], refusal: u64, place: u64) {
+    say(program);
+    say(b": refusal ");
+    say_whole(refusal);
+    if refusal == 9 {
+        say(b" at place ");
+        say_whole(place);
+    }
+    say_meaning(refusal);
 }
 
 // What is wrong with a line of the input.
@@ -88,148 +145,141 @@ pub fn say_failure(program: &[u8], what: &[u8]) {
 }
 
 // The argument with this number, if it is a whole number.
-pub fn whole_argument(i: usize) -> Whole {
+pub fn whole_argument(i: usize) -> Whole
+    ensures { λ r. ⌜ OfWord r ⌝ }
+{
     let mut word = [0u8; 20];
     let n = os::arg(i, &mut word);
     if os::errno() != 0 {
-        return Whole::Not;
+        return decimal::whole_in(&word[..0]);
     }
     decimal::whole_in(&word[..n])
 }
 
-// 5 or 2 where n, s and the resolution cannot be used.
-fn setting_refusal(n: u64, s: u64, resolution: u64) -> u64
-    ensures { λ r. ⌜ r ≡ settingRefusal n s resolution ⌝ }
-{
-    let arrangement = Arrangement { north: n, south: s };
-    let refusal = arrangement.refusal();
-    if refusal != 0 {
-        return refusal;
-    }
-    if resolution > 15 { 2 } else { 0 }
-}
-
 // The arguments n, s and resolution, as many as there are to be. Where they cannot be used, standard error says why.
-pub fn given_setting(program: &[u8]) -> Setting
+pub fn given_setting(program: &[u8]) -> Arguments
     ensures { λ r. ⌜ Usable r ⌝ }
 {
     if os::arg_count() != 4 {
-        return Setting::Wrong;
+        return Arguments::Wrong;
     }
-    let Whole::Is(n) = whole_argument(1) else {
-        return Setting::Wrong;
+    let Whole::Is(north) = whole_argument(1) else {
+        return Arguments::Wrong;
     };
-    let Whole::Is(s) = whole_argument(2) else {
-        return Setting::Wrong;
+    let Whole::Is(south) = whole_argument(2) else {
+        return Arguments::Wrong;
     };
     let Whole::Is(resolution) = whole_argument(3) else {
-        return Setting::Wrong;
+        return Arguments::Wrong;
     };
-    let refusal = setting_refusal(n, s, resolution);
+    let setting = Setting {
+        arrangement: Arrangement { north, south },
+        resolution,
+    };
+    let refusal = setting.refusal();
     if refusal != 0 {
         say(program);
         say(b": ");
         say_refusal(refusal);
-        return Setting::Wrong;
+        return Arguments::Wrong;
     }
-    Setting::Given(n, s, resolution)
+    Arguments::Good(setting)
 }
 
 // What comes first of the input.
-pub fn read(fd: i32, buf: &mut [u8]) -> Got
-    ensures { λ r. ⌜ Counts (r .count) (now (buf .exit)) ⌝ }
+fn read(fd: i32, buf: &mut [u8]) -> BytesRead
+    ensures { λ r. ⌜ Fits (now (buf .exit)) r ⌝ }
 {
     let got = libc::read(fd, buf);
     if got < 0 {
-        return Got {
-            count: 0, // nothing was read
-            failed: true,
-        };
+        return BytesRead::Failed;
     }
-    let count = io::count(got, buf);
-    Got {
-        count,
-        failed: false,
-    }
+    BytesRead::Count(io::count(got, buf))
 }
 
 // Whether nothing is left of the input, and reading did not fail.
 fn at_end(fd: i32) -> bool {
     let mut one = [0u8; 1];
-    let got = read(fd, &mut one);
-    if got.failed {
-        return false;
+    match read(fd, &mut one) {
+        BytesRead::Count(count) => count == 0,
+        BytesRead::Failed => false,
     }
-    got.count == 0
 }
 
 // The input to its end, or as much of it as there is room for.
-pub fn read_all(fd: i32, buf: &mut [u8]) -> Got
-    ensures { λ r. ⌜ r .count ≤ length (now (buf .exit)) ⌝ }
+pub fn read_all(fd: i32, buf: &mut [u8]) -> BytesRead
+    ensures { λ r. ⌜ Fits (now (buf .exit)) r ⌝ }
 {
-    let got = read(fd, buf);
-    let first = got.count;
-    if got.failed {
-        return Got {
-            count: 0,
-            failed: true,
-        };
-    }
+    let BytesRead::Count(first) = read(fd, buf) else {
+        return BytesRead::Failed;
+    };
     let rest = io::read_full(fd, &mut buf[first..]); // a failure looks like the end to it
     let count = first + rest;
     if count < buf.len() {
-        return Got {
-            count,
-            failed: !at_end(fd),
+        if !at_end(fd) {
+            return BytesRead::Failed;
+        }
+    }
+    BytesRead::Count(count)
+}
+
+// What comes next of standard input. Where reading fails, standard error says why.
+fn read_more(program: &[u8], bytes: &mut [u8]) -> BytesRead
+    ensures { λ r. ⌜ Fits (now (bytes .exit)) r ⌝ }
+{
+    let BytesRead::Count(count) = read(STDIN_FILENO, bytes) else {
+        say_failure(program, b"standard input");
+        return BytesRead::Failed;
+    };
+    BytesRead::Count(count)
+}
+
+// What is left of the input at its end.
+fn last_line(kept: usize) -> LineRead
+    ensures { λ r. ⌜ r ≡ lastLine kept ⌝ }
+{
+    if kept == 0 {
+        return LineRead::End;
+    }
+    LineRead::Last { length: kept }
+}
+
+// The next line of standard input, as much of it as there is room for. The bytes that were read and are not yet handed on stand from one place up
+// to another. A loop has to end, and nothing says that an input does: no line has so many parts.
+pub fn next_line(
+    program: &[u8],
+    bytes: &mut [u8],
+    from: usize,
+    end: usize,
+    room: &mut [u8],
+) -> LineRead
+    requires { ⌜ (from ≤ end) × (end ≤ length (now bytes)) × (0 < length (now room)) ⌝ }
+    ensures { λ r. ⌜ Given (unread (now (bytes .entry)) from end) (now (bytes .exit)) (now (room .exit)) r ⌝ }
+{
+    let mut at = from;
+    let mut stop = end;
+    let mut kept: usize = 0;
+    let mut turns = u64::MAX;
+    while turns > 0 {
+        match lines::next(&bytes[..stop], at, room, kept) {
+            Reached::LineEnd { length, at } => {
+                return LineRead::Line {
+                    length,
+                    from: at,
+                    end: stop,
+                };
+            }
+            Reached::PartEnd { kept: more } => kept = more,
+        }
+        let BytesRead::Count(count) = read_more(program, bytes) else {
+            return LineRead::Failed;
         };
+        if count == 0 {
+            return last_line(kept);
+        }
+        at = 0;
+        stop = count;
+        turns = turns - 1;
     }
-    Got {
-        count,
-        failed: false,
-    }
-}
-
-// One more byte of a line. What has no room is left out: no line that long says anything.
-pub fn put_byte(line: &mut [u8], at: usize, byte: u8) -> usize
-    requires { ⌜ at ≤ length (now line) ⌝ }
-    ensures { λ r. ⌜ r ≡ atMost (length (now (line .entry))) (at + 1) ⌝ }
-    ensures { λ r. ⌜ now (line .exit) ≡ set (now (line .entry)) at byte ⌝ }
-    ensures { λ r. ⌜ (r ≤ length (now (line .exit))) × (length (now (line .exit)) ≡ length (now (line .entry))) ⌝ }
-{
-    if at < line.len() {
-        line[at] = byte;
-        return at + 1;
-    }
-    at
-}
-
-// The same for more bytes.
-pub fn put_bytes(line: &mut [u8], at: usize, bytes: &[u8]) -> usize
-    requires { ⌜ at ≤ length (now line) ⌝ }
-    ensures { λ r. ⌜ r ≡ atMost (length (now (line .entry))) (at + length (now (bytes .entry))) ⌝ }
-    ensures { λ r. ⌜ now (line .exit) ≡ sets (now (line .entry)) at (now (bytes .entry)) ⌝ }
-    ensures { λ r. ⌜ (r ≤ length (now (line .exit))) × (length (now (line .exit)) ≡ length (now (line .entry))) ⌝ }
-{
-    let mut end = at;
-    let mut i: usize = 0;
-    while i < bytes.len() {
-        end = put_byte(line, end, bytes[i]);
-        i = i + 1;
-    }
-    end
-}
-
-// A length that an entry answered. It is within the room; where it were not, all of the room.
-pub fn within(n: u64, room: usize) -> usize
-    ensures { λ r. ⌜ (r ≡ atMost room n) × (r ≤ room) ⌝ }
-{
-    let length = n as usize;
-    if length < room { length } else { room }
-}
-
-// The number of the next line.
-pub fn next(line: u64) -> u64
-    ensures { λ r. ⌜ r ≡ cond (ltb line 18446744073709551615) (line + 1) line ⌝ }
-{
-    if line < u64::MAX { line + 1 } else { line }
+    LineRead::Failed
 }

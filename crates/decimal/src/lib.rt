@@ -1,9 +1,9 @@
 // Whole numbers and fixes as people write them, in decimal digits.
 ghost use mathlib.Core.Path.{_≡_};
-ghost use mathlib.Core.List.{_∷_, _++_};
+ghost use mathlib.Core.List.{_++_};
 ghost use Prim.Native.Nat.{_+_, _≤_, _<_};
 ghost use lib.ListN.{length, take, drop};
-ghost use Rattle.decimal.specs.Decimal.{wholeIn, numberIn, fixIn, numberOf, ahead, trimmed, printed};
+ghost use Rattle.decimal.specs.Decimal.{wholeIn, numberIn, fixIn, signedNumber, ahead, trimmed, printed};
 
 // A whole number that some bytes write.
 pub enum Whole {
@@ -57,7 +57,7 @@ pub fn whole_in(text: &[u8]) -> Whole
 
 // A number with its sign. One whose size is 2^63 or more is refused.
 fn number_of(minus: bool, size: Whole) -> Number
-    ensures { λ r. ⌜ r ≡ numberOf minus size ⌝ }
+    ensures { λ r. ⌜ r ≡ signedNumber minus size ⌝ }
 {
     let Whole::Is(n) = size else {
         return Number::Not;
@@ -78,7 +78,7 @@ pub fn number_in(text: &[u8]) -> Number
     if text.len() == 0 {
         return Number::Not;
     }
-    if text[0] == 45 {
+    if text[0] == b'-' {
         return number_of(true, whole_in(&text[1..]));
     }
     number_of(false, whole_in(text))
@@ -107,7 +107,7 @@ pub fn trimmed_length(line: &[u8]) -> usize
     if n == 0 {
         return 0;
     }
-    if line[n - 1] == 13 {
+    if line[n - 1] == b'\r' {
         return n - 1;
     }
     n
@@ -119,7 +119,7 @@ pub fn fix_in(line: &[u8]) -> FixLine
 {
     let end = trimmed_length(line);
     let text = &line[..end];
-    let space = ahead_of(text, 32);
+    let space = ahead_of(text, b' ');
     if space == end {
         return FixLine::Not;
     }

@@ -1,2 +1,2 @@
 pub mod Division
-pub mod DivisionLaws
+pub mod Laws

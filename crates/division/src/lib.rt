@@ -1,5 +1,4 @@
 // Long division: quotients of numbers that no machine word holds.
-ghost use mathlib.Core.Path.{_≡_};
 ghost use Prim.Native.Nat.{_*_, _^_, _<_};
 ghost use Rattle.division.specs.Division.{Divided};
 

@@ -1,6 +1,4 @@
-pub mod Answer
-pub mod AnswerLaws
 pub mod Flight
-pub mod FlightLaws
-pub mod Lines
-pub mod LinesLaws
+pub mod Laws
+pub mod Memory
+pub mod Setting

@@ -1,52 +1,32 @@
 -- How the entries' answers follow from those of the crates below. Assumes nothing.
-use mathlib.Core.Path.{_≡_, refl, sym, ap, ap₂, _∙_, subst}
-use mathlib.Core.Bool.{Bool, false}
+use mathlib.Core.Path.{_≡_, refl, sym, ap, _∙_, subst}
 use Prim.Native.Nat.{ℕ, zero, suc}
 use native.Mathlib.Omega.{arith}
 use Rattle.logic.specs.Refusal.{_otherwise_, given}
-use Rattle.logic.specs.RefusalLaws.{passes, both, given-value, given-none}
+use Rattle.logic.specs.Laws.Refusal.{passes, both, given-value, given-none}
 use Rattle.cell.specs.declared.Cell.{Cell}
 use Rattle.cell.specs.declared.Found.{Found}
 use Rattle.cell.specs.declared.Found.the-variants as found-as
 use Rattle.cell.specs.declared.Arrangement.{Arrangement}
 use Rattle.cell.specs.Cell.{IsCell, IsArrangement, found}
-use Rattle.cell.specs.CellLaws.{is-arrangement}
-use Rattle.cell.specs.FoundLaws.{found-at, found-refused}
-use Rattle.code.specs.declared.Coded.{Coded}
+use Rattle.cell.specs.Laws.Cell.{is-arrangement}
+use Rattle.cell.specs.Laws.Found.{found-at, found-refused}
 use Rattle.code.specs.Code.{codeOf, cellOf, coded, foundCode}
-use Rattle.code.specs.CodeLaws.{a-code, code-is-cell, found-coded}
-use Rattle.name.specs.Name.{named}
-use Rattle.jeguarivo.specs.declared.CodeAnswer.{CodeAnswer}
-use Rattle.jeguarivo.specs.Entries.{codeAnswer, codedAnswer, foundAnswer, cellAnswer, namedAnswer, lengthAnswer, arrangement, placedRefusal, placedAnswer}
+use Rattle.code.specs.Laws.Code.{a-code, code-is-cell, found-coded}
+use Rattle.jeguarivo.specs.Entries.{codeAnswer, codedAnswer, arrangement, placedRefusal, placedAnswer}
 
 -- ---- codes as answers
 
 -- a refusal, and zero beside it
 pub code-refused : {r q : ℕ} (code : ℕ) → r ≡ q → (r ≡ 0 → ⊥) → record { refusal = r; code = 0 } ≡ codeAnswer q code
-unfolding codeAnswer given
+unfolding codeAnswer coded
 code-refused {r = zero} code e h = absurd (h refl)
 code-refused {r = suc r} code e h = ap (λ (x : ℕ). codeAnswer x code) e
 
--- a code or its refusal, made by `coded`
-pub coded-code : (r code : ℕ) → codedAnswer (coded r code) ≡ codeAnswer r code
-unfolding coded codeAnswer given
-coded-code zero code = refl
-coded-code (suc r) code = refl
-
 -- the code of a found cell
 pub found-code : (r : ℕ) (c : Cell) → codedAnswer (foundCode (found r c)) ≡ codeAnswer r (codeOf c)
-found-code r c = ap codedAnswer (found-coded r c) ∙ coded-code r (codeOf c)
-
--- a cell that was found, and the length of a name that was written, as numbers
-pub found-numbers : (r : ℕ) (c : Cell) → foundAnswer (found r c) ≡ cellAnswer r c
-unfolding found cellAnswer given
-found-numbers zero c = refl
-found-numbers (suc r) c = refl
-
-pub named-numbers : (r n : ℕ) → namedAnswer (named r n) ≡ lengthAnswer r n
-unfolding named lengthAnswer given
-named-numbers zero n = refl
-named-numbers (suc r) n = refl
+unfolding codeAnswer
+found-code r c = ap codedAnswer (found-coded r c)
 
 -- 4, whatever would come next
 pub four-first : {r : ℕ} (q : ℕ) → r ≡ 4 → 4 ≡ r otherwise q
@@ -75,7 +55,8 @@ module _ (n s code : ℕ) {f : Found} (e : f ≡ found (placedRefusal (arrangeme
       let q = both _ _ (p .0) in
       (is-arrangement (q .0), subst IsCell (sym (p .1)) (code-is-cell code (a-code code (q .1))))
 
-  pub placed-value {ℓ} : {A : Type ℓ} (value : Arrangement → Cell → A) (none : ℕ → A) {x : Cell} {y : A} → f ≡ found-as.At x → y ≡ value (arrangement n s) x → y ≡ placedAnswer n s code value none
+  pub placed-value {ℓ} : {A : Type ℓ} (value : Arrangement → Cell → A) (none : ℕ → A) {x : Cell} {y : A} → f ≡ found-as.At x → y ≡ value (arrangement n s) x →
+      y ≡ placedAnswer n s code value none
   unfolding placedAnswer
   placed-value of none {x} h v =
       let p = found-at (placedRefusal (arrangement n s) code) (cellOf code) x (sym h ∙ e) in

@@ -1,7 +1,7 @@
 -- What each public entry answers, for every input: the first refusal that applies, in 01's order, or the answer; zeros beside a refusal.
 -- Assumes nothing.
 use mathlib.Core.List.{List, [], _∷_}
-use Prim.Native.Nat.{ℕ, zero, suc}
+use Prim.Native.Nat.{ℕ}
 use lib.IntN.{ℤ, pos}
 use lib.Dec.{ltb}
 use lib.ListN.{length}
@@ -9,13 +9,13 @@ use Rattle.logic.specs.Refusal.{refuse, _otherwise_, given}
 use Rattle.cell.specs.declared.Cell.{Cell}
 use Rattle.cell.specs.declared.Arrangement.{Arrangement}
 use Rattle.cell.specs.declared.Found.{Found}
-use Rattle.cell.specs.Cell.{cellRefusal, arrangementRefusal, cellIn, refusalIn as cellRefusalIn}
+use Rattle.cell.specs.Cell.{cellRefusal, arrangementRefusal, found, cellIn, refusalIn as cellRefusalIn}
 use Rattle.cell.specs.Hierarchy.{parentOf, parentRefusal, childOf, childRefusal}
 use Rattle.cell.specs.Neighbour.{neighbourOf}
 use Rattle.code.specs.declared.Coded.{Coded}
-use Rattle.code.specs.Code.{codeOf, cellOf, codeRefusal, sizeOf, refusalIn, codeIn}
+use Rattle.code.specs.Code.{codeOf, cellOf, codeRefusal, sizeOf, coded, refusalIn, codeIn}
 use Rattle.name.specs.declared.Named.{Named}
-use Rattle.name.specs.Name.{nameRefusal, nameCode, nameOf, codeNameRefusal, lengthIn, refusalIn as nameRefusalIn}
+use Rattle.name.specs.Name.{nameRefusal, nameCode, nameOf, codeNameRefusal, named, lengthIn, refusalIn as nameRefusalIn}
 use Rattle.plane.specs.declared.Square.{Square}
 use Rattle.plane.specs.declared.Point.{Point}
 use Rattle.plane.specs.declared.Vertices.{Vertices}
@@ -23,7 +23,7 @@ use Rattle.plane.specs.Plane.{squareOf, nucleusOf, verticesOf, pointRefusal, po
 use Rattle.locate.specs.Fix.{fixCell, fixRefusal}
 use Rattle.nucleus.specs.declared.Fix.{Fix}
 use Rattle.nucleus.specs.Nucleus.{groundNucleus}
-use Rattle.shape.specs.Shape.{shapeOf, numberOf, cornersOf}
+use Rattle.shape.specs.Shape.{shapeOf, shapeNumber, cornersOf}
 use Rattle.jeguarivo.specs.declared.CodeAnswer.{CodeAnswer}
 use Rattle.jeguarivo.specs.declared.CellAnswer.{CellAnswer}
 use Rattle.jeguarivo.specs.declared.LengthAnswer.{LengthAnswer}
@@ -47,12 +47,12 @@ orZero refusal number = given refusal number 0
 
 -- ---- codes
 
-unfoldable pub codeAnswer : (refusal code : ℕ) → CodeAnswer
-codeAnswer refusal code = record { refusal = refusal; code = orZero refusal code }
-
 -- a code, or its refusal, as numbers
 abbrev pub codedAnswer : Coded → CodeAnswer
 codedAnswer coded = record { refusal = refusalIn coded; code = codeIn coded }
+
+unfoldable pub codeAnswer : (refusal code : ℕ) → CodeAnswer
+codeAnswer refusal code = codedAnswer (coded refusal code)
 
 unfoldable pub cellCode : (face resolution row column : ℕ) → CodeAnswer
 cellCode face resolution row column = codeAnswer (cellRefusal (cell face resolution row column)) (codeOf (cell face resolution row column))
@@ -91,18 +91,8 @@ foundAnswer found =
       column = cellIn found .column;
     }
 
-unfoldable pub cellAnswer : ℕ → Cell → CellAnswer
-cellAnswer refusal c =
-    record {
-      refusal = refusal;
-      face = orZero refusal (c .face);
-      resolution = orZero refusal (c .resolution);
-      row = orZero refusal (c .row);
-      column = orZero refusal (c .column);
-    }
-
 unfoldable pub codeCell : ℕ → CellAnswer
-codeCell code = cellAnswer (codeRefusal code) (cellOf code)
+codeCell code = foundAnswer (found (codeRefusal code) (cellOf code))
 
 -- a length, or its refusal, as numbers
 abbrev pub namedAnswer : Named → LengthAnswer
@@ -112,14 +102,14 @@ unfoldable pub lengthAnswer : (refusal length : ℕ) → LengthAnswer
 lengthAnswer refusal length = record { refusal = refusal; length = orZero refusal length }
 
 unfoldable pub writtenName : (code room : ℕ) → LengthAnswer
-writtenName code room = lengthAnswer (codeNameRefusal code room) (length (nameOf (cellOf code)))
+writtenName code room = namedAnswer (named (codeNameRefusal code room) (length (nameOf (cellOf code))))
 
 unfoldable pub cellSize : ℕ → SizeAnswer
 cellSize code = record { refusal = codeRefusal code; size = orZero (codeRefusal code) (sizeOf (cellOf code)) }
 
 -- quad 0, cap 1, dart 2, skew quad 3
 unfoldable pub cellShape : ℕ → ShapeAnswer
-cellShape code = record { refusal = codeRefusal code; shape = orZero (codeRefusal code) (numberOf (shapeOf (cellOf code))) }
+cellShape code = record { refusal = codeRefusal code; shape = orZero (codeRefusal code) (shapeNumber (shapeOf (cellOf code))) }
 
 unfoldable pub cornerCount : ℕ → CountAnswer
 cornerCount code = record { refusal = codeRefusal code; count = orZero (codeRefusal code) (cornersOf (shapeOf (cellOf code))) }

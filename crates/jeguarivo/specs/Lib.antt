@@ -1,3 +1,5 @@
 pub mod Entries
+pub mod Laws
+pub mod Order
+pub mod Refusals
 pub mod Texts
-pub mod Table

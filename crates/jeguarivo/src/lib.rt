@@ -7,10 +7,12 @@ ghost use Rattle.logic.specs.Refusal.{given};
 ghost use Rattle.cell.specs.Cell.{IsCell, cellIn, found};
 ghost use Rattle.code.specs.Code.{cellOf, foundCode};
 ghost use Rattle.name.specs.Name.{codeNameRefusal, nameIn};
-ghost use Rattle.listing.specs.List.{listRefusal, codesIn};
-ghost use Rattle.jeguarivo.specs.Texts.{checkedText, listedText, askedText, writtenText};
+ghost use Rattle.reader.specs.Check.{checkedOf};
+ghost use Rattle.listing.specs.List.{listingRefusal, listed, codesIn};
+ghost use Rattle.asking.specs.Ask.{askRefusal, asked};
+ghost use Rattle.jeguarivo.specs.Texts.{checkNumbers, listNumbers, askNumbers, writtenNumbers};
 ghost use Rattle.jeguarivo.specs.Entries.{arrangement};
-ghost use Rattle.writing.specs.WriteEntry.{writeRefusal, textIn};
+ghost use Rattle.writing.specs.Write.{writeRefusal, textOf, textIn, written};
 ghost use Rattle.jeguarivo.specs.Entries.{codedAnswer, cellCode, codeCell, nameAnswer, writtenName, parentCode, childCode, cellSize, cellShape, cornerCount, cellSquare, cellNucleus, cellVertices, pointCode, neighbourCode, fixCode, groundFix, placedRefusal};
 use asking::Asked;
 use cell::Arrangement;
@@ -94,6 +96,8 @@ pub struct VerticesAnswer {
 pub struct CheckAnswer {
     pub refusal: u64,
     pub place: u64,
+    pub n: u64,
+    pub s: u64,
     pub cells: u64,
     pub size: u64,
 }
@@ -427,24 +431,29 @@ pub extern "C" fn jgv_ground_nucleus(n: u64, s: u64, code: u64) -> FixAnswer
 // 13 where the text is longer than 65,536 bytes, 10 where its version is not 1, 9 with the place where it is not of the grammar.
 #[no_mangle]
 pub extern "C" fn jgv_coverage_check(text: &[u8]) -> CheckAnswer
-    ensures { λ r. ⌜ r ≡ checkedText (now (text .entry)) ⌝ }
+    ensures { λ r. ⌜ r ≡ checkNumbers (checkedOf (now (text .entry))) ⌝ }
 {
     match reader::check(text) {
         Checked::Text {
-            north: _,
-            south: _,
+            north,
+            south,
             cells,
             size,
+            body: _,
         } => CheckAnswer {
             refusal: 0,
             place: 0,
+            n: north,
+            s: south,
             cells,
             size,
         },
         Checked::Refused { refusal, place } => CheckAnswer {
             refusal,
             place,
-            cells: 0, // of a text that is refused
+            n: 0, // of a text that is refused
+            s: 0, // and no s
+            cells: 0, // and no cells
             size: 0, // and no sum of sizes
         },
     }
@@ -453,8 +462,8 @@ pub extern "C" fn jgv_coverage_check(text: &[u8]) -> CheckAnswer
 // 13, 10 and 9 as in checking, 8 where the room is shorter than the list.
 #[no_mangle]
 pub extern "C" fn jgv_coverage_list(text: &[u8], codes: &mut [u64]) -> ListAnswer
-    ensures { λ r. ⌜ r ≡ listedText (now (text .entry)) (length (now (codes .entry))) ⌝ }
-    ensures { λ r. ⌜ now (codes .exit) ≡ given (listRefusal (now (text .entry)) (length (now (codes .entry)))) (codesIn (now (text .entry)) (now (codes .entry))) (now (codes .entry)) ⌝ }
+    ensures { λ r. ⌜ r ≡ listNumbers (listed (listingRefusal (now (text .entry)) (length (now (codes .entry)))) (now (text .entry))) ⌝ }
+    ensures { λ r. ⌜ now (codes .exit) ≡ given (listingRefusal (now (text .entry)) (length (now (codes .entry)))) (codesIn (now (text .entry)) (now (codes .entry))) (now (codes .entry)) ⌝ }
 {
     match listing::list(text, codes) {
         Listed::Count(count) => ListAnswer {
@@ -474,7 +483,7 @@ pub extern "C" fn jgv_coverage_list(text: &[u8], codes: &mut [u64]) -> ListAnswe
 // 65,536 bytes, 8 where the room is shorter than the text.
 #[no_mangle]
 pub extern "C" fn jgv_coverage_write(n: u64, s: u64, codes: &[u64], text: &mut [u8]) -> LengthAnswer
-    ensures { λ r. ⌜ r ≡ writtenText n s (now (codes .entry)) (length (now (text .entry))) ⌝ }
+    ensures { λ r. ⌜ r ≡ writtenNumbers (written (writeRefusal (arrangement n s) (now (codes .entry)) (length (now (text .entry)))) (length (textOf (arrangement n s) (now (codes .entry))))) ⌝ }
     ensures { λ r. ⌜ now (text .exit) ≡ given (writeRefusal (arrangement n s) (now (codes .entry)) (length (now (text .entry)))) (textIn (arrangement n s) (now (codes .entry)) (now (text .entry))) (now (text .entry)) ⌝ }
 {
     let arrangement = Arrangement { north: n, south: s }; // `write` tests it
@@ -490,7 +499,7 @@ pub extern "C" fn jgv_coverage_write(n: u64, s: u64, codes: &[u64], text: &mut [
 // 5 where n or s is above 3, 4 where the code is no cell's, 13, 10 and 9 as in checking, 14 where the heading has another n or s.
 #[no_mangle]
 pub extern "C" fn jgv_coverage_ask(n: u64, s: u64, text: &[u8], code: u64) -> AskAnswer
-    ensures { λ r. ⌜ r ≡ askedText n s (now (text .entry)) code ⌝ }
+    ensures { λ r. ⌜ r ≡ askNumbers (asked (askRefusal (arrangement n s) (now (text .entry)) code) (now (text .entry)) code) ⌝ }
 {
     let arrangement = Arrangement { north: n, south: s }; // `ask` tests it
     match asking::ask(arrangement, text, code) {

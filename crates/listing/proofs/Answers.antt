@@ -1,38 +1,37 @@
 -- The answers of `list`: a refusal leaves the lent codes as they were. Assumes nothing.
-use mathlib.Core.Path.{_≡_, refl, sym, ap, ap₂, _∙_}
+use mathlib.Core.Path.{_≡_, refl, sym, ap, _∙_}
 use mathlib.Core.Bool.{Bool}
 use mathlib.Core.List.{List}
 use Prim.Native.Nat.{ℕ, zero, suc, _≤_, _<_}
 use native.Mathlib.Omega.{arith}
 use lib.ListN.{length}
-use lib.Dec.{ltb}
 use borrow.Author.Tests.{lt-ltb, le-ltb}
-use Rattle.logic.specs.Refusal.{refuse, _otherwise_, given}
-use Rattle.logic.specs.RefusalLaws.{stops, passes}
-use Rattle.reader.specs.Check.{textRefusal, placeWith}
-use Rattle.reader.specs.AnswerLaws.{Read, Unread}
+use Rattle.logic.specs.Refusal.{refuse, given}
+use Rattle.logic.specs.Laws.Refusal.{stops, passes}
+use Rattle.reader.specs.Check.{placeWith}
+use Rattle.reader.specs.Laws.Answer.{TextChecked, TextRefused}
 use Rattle.listing.specs.declared.Listed.the-variants.{Count, Refused}
-use Rattle.listing.specs.List.{codesOf, listRefusal, listed}
-use Rattle.listing.specs.ListLaws.{listed-count}
+use Rattle.listing.specs.List.{codesOf, listingRefusal, listed}
+use Rattle.listing.specs.Laws.List.{listed-count}
 
-module _ {t : List ℕ} {n s c z : ℕ} (r : Read t n s c z) where
+module _ {t : List ℕ} {n s c z b : ℕ} (r : TextChecked t n s c z b) where
   pub counted : c ≡ length (codesOf t)
   counted = r .count ∙ sym (listed-count t)
 
-  pub short : (room : ℕ) → room < c → listRefusal t room ≡ 8
-  unfolding listRefusal
+  pub short : (room : ℕ) → room < c → listingRefusal t room ≡ 8
+  unfolding listingRefusal
   short room h =
       let e = counted in
       passes _ (r .allowed) ∙ ap (λ (b : Bool). refuse b 8) (lt-ltb room (length (codesOf t)) (omega arith))
 
-  pub enough : (room : ℕ) → c ≤ room → listRefusal t room ≡ 0
-  unfolding listRefusal
+  pub enough : (room : ℕ) → c ≤ room → listingRefusal t room ≡ 0
+  unfolding listingRefusal
   enough room h =
       let e = counted in
       passes _ (r .allowed) ∙ ap (λ (b : Bool). refuse b 8) (le-ltb room (length (codesOf t)) (omega arith))
 
-pub unread : {t : List ℕ} {r p : ℕ} (room : ℕ) → Unread t r p → listRefusal t room ≡ r
-unfolding listRefusal
+pub unread : {t : List ℕ} {r p : ℕ} (room : ℕ) → TextRefused t r p → listingRefusal t room ≡ r
+unfolding listingRefusal
 unread room u = stops _ _ (λ z. u .some (sym (u .refusal) ∙ z)) ∙ u .refusal
 
 pub nothing-listed : {q r p : ℕ} (t x codes : List ℕ) → q ≡ r → (r ≡ 0 → ⊥) → p ≡ placeWith r t → (Refused r p ≡ listed q t) × (codes ≡ given q x codes)

@@ -1,18 +1,18 @@
 -- Codes put one behind the other along the walk: those that were put, and those of what is left of the text, are the text's. Assumes nothing.
-use mathlib.Core.Path.{_≡_, refl, sym, ap, ap₂, _∙_, subst}
-use mathlib.Core.Bool.{Bool, true, false}
+use mathlib.Core.Path.{_≡_, refl, sym, ap, ap₂, _∙_}
+use mathlib.Core.Bool.{true, false}
 use mathlib.Core.List.{List, [], _∷_, _++_, map, append-nil, append-assoc}
-use Prim.Native.Nat.{ℕ, suc, _+_, _≤_, _<_}
+use Prim.Native.Nat.{ℕ, _+_, _≤_, _<_}
 use native.Mathlib.Numerals.{add-one}
 use native.Mathlib.Omega.{arith}
 use lib.ListN.{length, take, drop, getD, set, length-set, length-append, take-append-drop}
 use lib.Seq.{length-take-le, take-suc-set, drop-set-lt, drop-drop}
-use Rattle.reading.specs.TextReading.{isText}
+use Rattle.reading.specs.TextReading.{isText, bodyStart}
 use Rattle.walk.specs.declared.Spot.{Spot}
 use Rattle.walk.specs.Walk.{origin, after, wholeAt, walk, Walks}
-use Rattle.walk.specs.WalkLaws.{walks-start, walks-on, past-whole, past-other, walked}
+use Rattle.walk.specs.Laws.Walk.{walks-start, walks-on, past-whole, past-other, walked}
 use Rattle.listing.specs.List.{codesOf}
-use Rattle.listing.specs.ListLaws.{spotCode, walk-codes}
+use Rattle.listing.specs.Laws.List.{spotCode, walk-codes}
 
 -- what holds before the byte at i, with `count` codes put
 pub record Lists (t codes₀ codes : List ℕ) (count i : ℕ) (s : Spot) : Type 0 where
@@ -22,9 +22,9 @@ pub record Lists (t codes₀ codes : List ℕ) (count i : ℕ) (s : Spot) : Type
   pub put : take count codes ++ map spotCode (walk s (drop i t)) ≡ codesOf t
   pub kept : drop count codes ≡ drop count codes₀
 
-pub lists-start : (t codes : List ℕ) → isText t ≡ true → Lists t codes codes 0 7 origin
-lists-start t codes e =
-    record { walks = walks-start t e; long = refl; within = omega arith; put = walk-codes t e; kept = refl }
+pub lists-start : (t codes : List ℕ) {i : ℕ} → isText t ≡ true → i ≡ bodyStart t → Lists t codes codes 0 i origin
+lists-start t codes e h =
+    rw h (record { walks = walks-start t e; long = refl; within = omega arith; put = walk-codes t e; kept = refl })
 
 module _ {t codes₀ codes : List ℕ} {count i : ℕ} {s s′ : Spot} (l : Lists t codes₀ codes count i s) (h : i < length t) (e : s′ ≡ after s (getD t i 0)) where
   -- the walk stands at the next byte

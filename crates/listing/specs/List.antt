@@ -1,5 +1,5 @@
 -- Listing (01 "The coverage text"): "Listing gives the codes of the whole cells in rising order." Assumes nothing.
-use mathlib.Core.List.{List, [], _∷_, _++_, map}
+use mathlib.Core.List.{List, _++_, map}
 use Prim.Native.Nat.{ℕ, zero, suc}
 use lib.Dec.{ltb}
 use lib.ListN.{length, drop}
@@ -21,23 +21,10 @@ unfolding codesOf
 codesIn t codes = codesOf t ++ drop (length (codesOf t)) codes
 
 -- 13, 10, 9: the text's. 8: "lent buffer shorter than the answer"
-unfoldable pub listRefusal : (t : List ℕ) (room : ℕ) → ℕ
-listRefusal t room = textRefusal t otherwise refuse (ltb room (length (codesOf t))) 8
+unfoldable pub listingRefusal : (t : List ℕ) (room : ℕ) → ℕ
+listingRefusal t room = textRefusal t otherwise refuse (ltb room (length (codesOf t))) 8
 
 -- how many codes were listed, or the refusal and the place
 unfoldable pub listed : (r : ℕ) (t : List ℕ) → Listed
 listed zero t = Count (length (codesOf t))
 listed (suc r) t = Refused (suc r) (placeWith (suc r) t)
-
--- what each case stands for
-abbrev pub refusalIn : Listed → ℕ
-refusalIn (Count n) = 0
-refusalIn (Refused r p) = r
-
-abbrev pub placeIn : Listed → ℕ
-placeIn (Count n) = 0
-placeIn (Refused r p) = p
-
-abbrev pub countIn : Listed → ℕ
-countIn (Count n) = n
-countIn (Refused r p) = 0

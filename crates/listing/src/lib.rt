@@ -4,9 +4,9 @@ ghost use mathlib.Core.Bool.{true};
 ghost use mathlib.Core.List.{_++_};
 ghost use Prim.Native.Nat.{_≤_};
 ghost use lib.ListN.{length, drop};
-ghost use Rattle.reading.specs.TextReading.{isText};
+ghost use Rattle.reading.specs.TextReading.{isText, bodyStart};
 ghost use Rattle.logic.specs.Refusal.{given};
-ghost use Rattle.listing.specs.List.{codesOf, codesIn, listRefusal, listed};
+ghost use Rattle.listing.specs.List.{codesOf, codesIn, listingRefusal, listed};
 use reader::Checked;
 use walk::Spot;
 
@@ -16,9 +16,9 @@ pub enum Listed {
     Refused { refusal: u64, place: u64 },
 }
 
-// "the codes of the whole cells in rising order", to the front of `codes`.
-fn put_codes(text: &[u8], codes: &mut [u64])
-    requires { ⌜ (isText (now text) ≡ true) × (length (codesOf (now text)) ≤ length (now codes)) ⌝ }
+// "the codes of the whole cells in rising order", to the front of `codes`. The text's body starts at `body`.
+fn put_codes(text: &[u8], body: usize, codes: &mut [u64])
+    requires { ⌜ (isText (now text) ≡ true) × (body ≡ bodyStart (now text)) × (length (codesOf (now text)) ≤ length (now codes)) ⌝ }
     ensures { λ r. ⌜ now (codes .exit) ≡ codesOf (now (text .entry)) ++ drop (length (codesOf (now (text .entry)))) (now (codes .entry)) ⌝ }
 {
     let mut spot = Spot {
@@ -27,7 +27,7 @@ fn put_codes(text: &[u8], codes: &mut [u64])
         first: 0,
     };
     let mut count: usize = 0;
-    let mut i: usize = 7;
+    let mut i: usize = body;
     while i < text.len() {
         spot = spot.after(text[i]);
         let whole = walk::whole_at(text, i);
@@ -42,8 +42,8 @@ fn put_codes(text: &[u8], codes: &mut [u64])
 
 // The codes of any bytes' whole cells: 13, 10, 9 where they are no text, 8 where the room is shorter than the list.
 pub fn list(text: &[u8], codes: &mut [u64]) -> Listed
-    ensures { λ r. ⌜ r ≡ listed (listRefusal (now (text .entry)) (length (now (codes .entry)))) (now (text .entry)) ⌝ }
-    ensures { λ r. ⌜ now (codes .exit) ≡ given (listRefusal (now (text .entry)) (length (now (codes .entry)))) (codesIn (now (text .entry)) (now (codes .entry))) (now (codes .entry)) ⌝ }
+    ensures { λ r. ⌜ r ≡ listed (listingRefusal (now (text .entry)) (length (now (codes .entry)))) (now (text .entry)) ⌝ }
+    ensures { λ r. ⌜ now (codes .exit) ≡ given (listingRefusal (now (text .entry)) (length (now (codes .entry)))) (codesIn (now (text .entry)) (now (codes .entry))) (now (codes .entry)) ⌝ }
 {
     match reader::check(text) {
         Checked::Refused { refusal, place } => Listed::Refused { refusal, place },
@@ -52,6 +52,7 @@ pub fn list(text: &[u8], codes: &mut [u64]) -> Listed
             south: _,
             cells,
             size: _,
+            body,
         } => {
             if (codes.len() as u64) < cells {
                 return Listed::Refused {
@@ -59,7 +60,7 @@ pub fn list(text: &[u8], codes: &mut [u64]) -> Listed
                     place: 0,
                 };
             }
-            put_codes(text, codes);
+            put_codes(text, body, codes);
             Listed::Count(cells)
         }
     }

@@ -4,8 +4,8 @@ use mathlib.Core.Bool.{Bool, true, false, _&&_}
 use Prim.Native.Nat.{ℕ}
 use Rattle.root.specs.Floor.{axisOf}
 use Rattle.locate.specs.declared.End.{End}
-use Rattle.locate.specs.Fix.{Point, capCell}
-use Rattle.locate.specs.End.{Stands}
+use Rattle.locate.specs.Fix.{CapPoint, capCell}
+use Rattle.locate.specs.Internal.End.{Stands}
 
 -- ---- four tests one after the other, as the range of a fix has them
 
@@ -24,5 +24,5 @@ module _ (a b rest : Bool) where
   no-first p = rw p
 
 -- ---- the cell at an end is that of the point where it stands
-pub stands-cell : (face k t : ℕ) (x : Point) (r : End) → Stands x r → capCell face k t (axisOf (r .p), axisOf (r .q)) ≡ capCell face k t x
+pub stands-cell : (face k t : ℕ) (x : CapPoint) (r : End) → Stands x r → capCell face k t (axisOf (r .p), axisOf (r .q)) ≡ capCell face k t x
 stands-cell face k t x r h = λ i. capCell face k t (h .first i, h .second i)

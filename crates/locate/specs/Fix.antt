@@ -1,5 +1,5 @@
 -- The cell of a fix, as 01 "From a fix to a cell" has it, over unbounded numbers. Assumes nothing.
-use mathlib.Core.Path.{_≡_, refl}
+use mathlib.Core.Path.{_≡_}
 use mathlib.Core.Bool.{Bool, _&&_, not, cond}
 use Prim.Native.Nat.{ℕ, zero, suc, _+_, _-_, _*_, _/_, _%_, _^_}
 use lib.IntN.{ℤ, pos, negℤ, natAbs, subℕ, _+ℤ_, _-ℤ_, _*ℤ_}
@@ -26,8 +26,8 @@ quarter = 900000000
 
 -- ---- "Belt, 3|z| <= 2 x 10^18"
 
-unfoldable pub inBelt : ℤ → Bool
-inBelt z = leb (3 * natAbs z) (2 * 10 ^ 18)
+unfoldable pub isBelt : ℤ → Bool
+isBelt z = leb (3 * natAbs z) (2 * 10 ^ 18)
 
 -- 2 x 10^18 - 3z
 unfoldable pub offsetOf : ℤ → ℕ
@@ -45,50 +45,50 @@ beltCell k east offset =
 
 -- ---- the caps. A point (u, v) is kept as the two multiples of h / 1,800,000,000, which are whole numbers
 
-abbrev pub Point : Type 0
-Point = ℤ × ℤ
+abbrev pub CapPoint : Type 0
+CapPoint = ℤ × ℤ
 
 -- "h = sqrt(3 (10^18 - z)) / 10^9": this is (10^9 h)^2, with |z| for z
 unfoldable pub heightOf : ℤ → ℕ
 heightOf z = 3 * (10 ^ 18 - natAbs z)
 
 -- "t = a/900,000,000 - 1/2. Start at (u, v) = (t h, -h/2)", in the south "a start of (t h, +h/2)"
-unfoldable pub startNorth : ℕ → Point
+unfoldable pub startNorth : ℕ → CapPoint
 startNorth a = (subℕ (2 * a) quarter, negℤ (pos quarter))
 
-unfoldable pub startSouth : ℕ → Point
+unfoldable pub startSouth : ℕ → CapPoint
 startSouth a = (subℕ (2 * a) quarter, pos quarter)
 
 -- "Turn .. times by (u, v) -> (-v, u)", in the south "by (u, v) -> (v, -u)"
-unfoldable pub turnedNorth : ℕ → Point → Point
+unfoldable pub turnedNorth : ℕ → CapPoint → CapPoint
 turnedNorth zero x = x
 turnedNorth (suc j) x = turnedNorth j (negℤ (x .1), x .0)
 
-unfoldable pub turnedSouth : ℕ → Point → Point
+unfoldable pub turnedSouth : ℕ → CapPoint → CapPoint
 turnedSouth zero x = x
 turnedSouth (suc j) x = turnedSouth j (x .1, negℤ (x .0))
 
 -- "For the end (p, q): column floor(m (1/2 + p)), row floor(m (1/2 - q))"
-unfoldable pub capCell : (face k t : ℕ) → Point → Cell
-capCell face k t x =
-    record { face = face; resolution = k; row = rootFloor (3 ^ k) t (negℤ (x .1)); column = rootFloor (3 ^ k) t (x .0) }
+unfoldable pub capCell : (face k radicand : ℕ) → CapPoint → Cell
+capCell face k radicand x =
+    record { face = face; resolution = k; row = rootFloor (3 ^ k) radicand (negℤ (x .1)); column = rootFloor (3 ^ k) radicand (x .0) }
 
 -- "Turn (c - n) mod 4 times", "face N"
-unfoldable pub northCell : (n k east t : ℕ) → Cell
+unfoldable pub northCell : (n k east radicand : ℕ) → Cell
 unfolding capCell turnedNorth startNorth
-northCell n k east t = capCell 0 k t (turnedNorth (turnOf (east / quarter) n) (startNorth (east % quarter)))
+northCell n k east radicand = capCell 0 k radicand (turnedNorth (turnOf (east / quarter) n) (startNorth (east % quarter)))
 
 -- "turns (c - s) mod 4", "face S"
-unfoldable pub southCell : (s k east t : ℕ) → Cell
+unfoldable pub southCell : (s k east radicand : ℕ) → Cell
 unfolding capCell turnedSouth startSouth
-southCell s k east t = capCell 5 k t (turnedSouth (turnOf (east / quarter) s) (startSouth (east % quarter)))
+southCell s k east radicand = capCell 5 k radicand (turnedSouth (turnOf (east / quarter) s) (startSouth (east % quarter)))
 
 -- ---- the cell, and the refusals in their order
 
 unfoldable pub fixCell : Arrangement → ℕ → ℤ → ℤ → Cell
-unfolding inBelt beltCell northCell southCell eastOf offsetOf heightOf
+unfolding isBelt beltCell northCell southCell eastOf offsetOf heightOf
 fixCell a k L z =
-    cond (inBelt z) (beltCell k (eastOf L) (offsetOf z))
+    cond (isBelt z) (beltCell k (eastOf L) (offsetOf z))
     (cond (ltZ z (pos 0)) (southCell (a .south) k (eastOf L) (heightOf z)) (northCell (a .north) k (eastOf L) (heightOf z)))
 
 -- 5: the arrangement. 2: resolution above 15. 6: L or z out of range
@@ -96,50 +96,8 @@ unfoldable pub fixRefusal : Arrangement → ℕ → ℤ → ℤ → ℕ
 unfolding inRange
 fixRefusal a k L z = arrangementRefusal a otherwise refuse (ltb 15 k) 2 otherwise refuse (not (inRange L z)) 6
 
--- ---- lines 1 to 8 of 01's proved table, (n, s) = (0, 0) unless said
-
-abbrev arrangement : ℕ → ℕ → Arrangement
-arrangement n s = record { north = n; south = s }
-
-abbrev at : ℕ → ℕ → ℕ → ℕ → Cell
-at face k row column = record { face = face; resolution = k; row = row; column = column }
-
--- L 0, z 0, k 2: Q33
-line1 : fixCell (arrangement 0 0) 2 (pos 0) (pos 0) ≡ at 3 2 4 0
-unfolding fixCell rootFloor
-line1 = refl
-
--- any one L, z 10^18, k 1: N4
-line2 : fixCell (arrangement 0 0) 1 (pos 123456789) (pos (10 ^ 18)) ≡ at 0 1 1 1
-unfolding fixCell rootFloor
-line2 = refl
-
--- L -1,350,000,000, z 666,666,666,666,666,666, k 1: O1
-line3 : fixCell (arrangement 0 0) 1 (negℤ (pos 1350000000)) (pos 666666666666666666) ≡ at 1 1 0 1
-unfolding fixCell rootFloor
-line3 = refl
-
--- same L, z one more: N7
-line4 : fixCell (arrangement 0 0) 1 (negℤ (pos 1350000000)) (pos 666666666666666667) ≡ at 0 1 2 1
-unfolding fixCell rootFloor
-line4 = refl
-
--- L -900,000,000, z 880,000,000,000,000,000, k 1: N8
-line5 : fixCell (arrangement 0 0) 1 (negℤ (pos 900000000)) (pos 880000000000000000) ≡ at 0 1 2 2
-unfolding fixCell rootFloor
-line5 = refl
-
--- as 5, n = 1: N6
-line6 : fixCell (arrangement 1 0) 1 (negℤ (pos 900000000)) (pos 880000000000000000) ≡ at 0 1 2 0
-unfolding fixCell rootFloor
-line6 = refl
-
--- L -900,000,000, z -880,000,000,000,000,000, k 1: S2
-line7 : fixCell (arrangement 0 0) 1 (negℤ (pos 900000000)) (negℤ (pos 880000000000000000)) ≡ at 5 1 0 2
-unfolding fixCell rootFloor
-line7 = refl
-
--- L -1,350,000,000, z 970,000,000,000,000,000, k 2: N47
-line8 : fixCell (arrangement 0 0) 2 (negℤ (pos 1350000000)) (pos 970000000000000000) ≡ at 0 2 5 4
-unfolding fixCell rootFloor
-line8 = refl
+-- the cells of two resolutions agree: x is of c's face, and the first digits of its row and of its column are c's
+pub record Agree (c x : Cell) (j : ℕ) : Type 0 where
+  pub face : x .face ≡ c .face
+  pub row : x .row / 3 ^ j ≡ c .row
+  pub column : x .column / 3 ^ j ≡ c .column

@@ -1,6 +1,3 @@
-pub mod End
 pub mod Fix
-pub mod FixLaws
-pub mod PartLaws
-pub mod RangeLaws
-pub mod TurnLaws
+pub mod Internal
+pub mod Laws

@@ -9,17 +9,15 @@ ghost use Rattle.signed.specs.Sign.{withSign};
 ghost use Rattle.root.specs.Floor.{axisOf};
 ghost use Rattle.locate.specs.Fix.{quarter, inRange, offsetOf, beltCell, capCell, fixCell, fixRefusal};
 ghost use Rattle.locate.specs.Fix.{turnedNorth};
-ghost use Rattle.locate.specs.End.{Stands, endOf};
+ghost use Rattle.locate.specs.Internal.End.{Stands, turnedEnd};
 use cell::Arrangement;
 use cell::Cell;
 use cell::Found;
 use root::Axis;
+use ternary::FINEST_ROWS;
 
 // A quarter turn of longitude, the width of a face of O to R.
 const QUARTER: u64 = 900_000_000;
-
-// 3^15.
-const FINEST: u64 = 14_348_907;
 
 // 4 x 10^18 / 3^15 rounded up, and what 3^15 times that is more than 4 x 10^18.
 const STEP: u64 = 278_766_877_506;
@@ -63,7 +61,7 @@ fn finest_row(offset: u64) -> u64
     ensures { λ r. ⌜ r ≡ 3 ^ 15 * offset / (4 * 10 ^ 18) ⌝ }
 {
     let whole = offset / STEP;
-    let rest = FINEST * (offset % STEP) + OVER * whole;
+    let rest = FINEST_ROWS * (offset % STEP) + OVER * whole;
     if rest < 4_000_000_000_000_000_000 {
         whole
     } else {
@@ -80,7 +78,7 @@ fn belt_row(resolution: u64, m: u64, offset: u64) -> u64
 {
     let row = finest_row(offset);
     if resolution < 15 {
-        return row * m / FINEST;
+        return row * m / FINEST_ROWS;
     }
     row
 }
@@ -168,7 +166,7 @@ fn turns_of(arrangement: Arrangement, south: bool, c: u64) -> u64
 fn end_of(arrangement: Arrangement, south: bool, east: u64) -> End
     requires { ⌜ IsArrangement arrangement ⌝ }
     requires { ⌜ east < 3600000000 ⌝ }
-    ensures { λ r. ⌜ Stands (endOf arrangement south east) r ⌝ }
+    ensures { λ r. ⌜ Stands (turnedEnd arrangement south east) r ⌝ }
 {
     let v = Axis {
         minus: !south,

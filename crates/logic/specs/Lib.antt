@@ -1,7 +1,5 @@
-pub mod Bools
 pub mod Choice
-pub mod Order
+pub mod Laws
+pub mod Lists
 pub mod Refusal
-pub mod RefusalLaws
 pub mod Rise
-pub mod Stores

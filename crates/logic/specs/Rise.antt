@@ -1,13 +1,12 @@
 -- Lists of numbers that rise strictly. Assumes nothing.
-use mathlib.Core.List.{List, [], _∷_}
+use mathlib.Core.List.{List}
 use Prim.Native.Nat.{ℕ, _<_}
+use Rattle.logic.specs.Lists.{All, Pairwise}
 
 -- each is above n
 abbrev pub Above : ℕ → List ℕ → Type 0
-Above n [] = Unit {0}
-Above n (x ∷ xs) = (n < x) × Above n xs
+Above n xs = All (λ (x : ℕ). n < x) xs
 
 -- "in rising order": each is below all that come later
 abbrev pub Rise : List ℕ → Type 0
-Rise [] = Unit {0}
-Rise (x ∷ xs) = Above x xs × Rise xs
+Rise xs = Pairwise (λ (x y : ℕ). x < y) xs

@@ -11,12 +11,12 @@ use lib.ListN.{length, take, drop, getD, set, length-map}
 use lib.Seq.{drop-cons, take-take, take-set-le, set-split, drop-at, length-take-le}
 use borrow.Author.Tests.{lt-leb, le-leb, lt-ltb, le-ltb}
 use Rattle.logic.specs.Refusal.{refuse, given}
-use Rattle.logic.specs.RefusalLaws.{stops, passes}
+use Rattle.logic.specs.Laws.Refusal.{stops, passes}
 use Rattle.ternary.specs.Digits.{value, digits}
 use Rattle.code.specs.declared.Coded.the-variants.{Code, Refused}
 use Rattle.code.specs.Code.{coded, codeRefusal, cellOf}
 use Rattle.name.specs.Name.{isDigit, allDigits, digitBytes, firstLetter, nameOf, named, codeNameRefusal}
-use Rattle.name.specs.NameLaws.{length-name}
+use Rattle.name.specs.Laws.Name.{length-name}
 use Rattle.name.specs.declared.Named.the-variants as Named-as
 
 -- ---- reading
@@ -93,12 +93,14 @@ module _ (s : List ℕ) (k : ℕ) (some : 0 < k) (h : k < length s) where
       let b = 48 + p % 9 in
       let stored : drop k (set s k b) ≡ b ∷ drop (k + 1) s =
       ap (drop k) (set-split s k b h) ∙ drop-at (take k s) (b ∷ drop (suc k) s) k (length-take-le k s (omega arith)) ∙ ap (λ (x : ℕ). b ∷ drop x s) (sym (add-one k)) in
-      ap (λ (x : ℕ). digitBytes (digits 9 (k - 1) (p / 9)) ++ drop x (set s k b)) e ∙ ap (λ (l : List ℕ). digitBytes (digits 9 (k - 1) (p / 9)) ++ l) stored ∙ sym (append-assoc (digitBytes (digits 9 (k - 1) (p / 9))) (b ∷ []) (drop (k + 1) s)) ∙ ap (λ (l : List ℕ). l ++ drop (k + 1) s) (sym (last-digit k p some))
+      ap (λ (x : ℕ). digitBytes (digits 9 (k - 1) (p / 9)) ++ drop x (set s k b)) e ∙ ap (λ (l : List ℕ). digitBytes (digits 9 (k - 1) (p / 9)) ++ l) stored ∙ sym
+      (append-assoc (digitBytes (digits 9 (k - 1) (p / 9))) (b ∷ []) (drop (k + 1) s)) ∙ ap (λ (l : List ℕ). l ++ drop (k + 1) s) (sym (last-digit k p some))
 
   pub front-kept : (t : List ℕ) (b : ℕ) → take (k + 1) s ≡ take (k + 1) t → take (k - 1 + 1) (set s k b) ≡ take (k - 1 + 1) t
   front-kept t b f =
       let e : k - 1 + 1 ≡ k = omega arith in
-      ap (λ (x : ℕ). take x (set s k b)) e ∙ take-set-le k s k b (omega arith) ∙ sym (take-take k (k + 1) s (omega arith)) ∙ ap (take k) f ∙ take-take k (k + 1) t (omega arith) ∙ ap (λ (x : ℕ). take x t) (sym e)
+      ap (λ (x : ℕ). take x (set s k b)) e ∙ take-set-le k s k b (omega arith) ∙ sym (take-take k (k + 1) s (omega arith)) ∙ ap (take k) f ∙ take-take k (k + 1) t (omega arith)
+      ∙ ap (λ (x : ℕ). take x t) (sym e)
 
 -- ---- the letter
 

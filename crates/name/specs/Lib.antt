@@ -1,4 +1,3 @@
+pub mod Laws
 pub mod Name
-pub mod NameLaws
 pub mod Order
-pub mod OrderLaws

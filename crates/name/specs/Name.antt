@@ -1,7 +1,7 @@
 -- The name of a cell (01 "Faces, rows, names, codes"). Bytes 78 to 83 are the letters N to S, 48 to 56 the digits 0 to 8. Assumes nothing.
-use mathlib.Core.Path.{_≡_, refl}
+use mathlib.Core.Path.{_≡_}
 use mathlib.Core.Bool.{Bool, true, false, _&&_, not}
-use Prim.Native.Nat.{ℕ, zero, suc, _+_, _-_}
+use Prim.Native.Nat.{ℕ, zero, suc, _+_, _-_, _≤_}
 use mathlib.Core.List.{List, [], _∷_, _++_, map}
 use lib.Dec.{leb, ltb}
 use lib.ListN.{length, drop, getD}
@@ -72,22 +72,8 @@ abbrev pub lengthIn : Named → ℕ
 lengthIn (Length n) = n
 lengthIn (Refused r) = 0
 
--- ---- Q33 is face 3, rows and columns 4 and 0 of resolution 2
-
-q33 : nameOf (record { face = 3; resolution = 2; row = 4; column = 0 }) ≡ 81 ∷ 51 ∷ 51 ∷ []
-unfolding nameOf digitsOf
-q33 = refl
-
--- "N1 is 366,028,679,279,377"
-n1 : nameCode (78 ∷ 49 ∷ []) ≡ 366028679279377
-unfolding nameCode codeAt value
-n1 = refl
-
--- `N9` is refused with 3, `X` with 1
-n9 : nameRefusal (78 ∷ 57 ∷ []) ≡ 3
-unfolding nameRefusal _otherwise_
-n9 = refl
-
-x : nameRefusal (88 ∷ []) ≡ 1
-unfolding nameRefusal _otherwise_
-x = refl
+-- the form of a name: at most 16 bytes, a letter N to S, and digits 0 to 8
+pub record NameForm (bs : List ℕ) : Type 0 where
+  pub short : length bs ≤ 16
+  pub lettered : firstLetter bs ≡ true
+  pub digital : allDigits (drop 1 bs) ≡ true

@@ -31,14 +31,14 @@ fn read_path(name: &[u8]) -> Coded
     let mut path: u64 = 0;
     let mut i: usize = 1;
     while i < name.len() {
-        let b = wide(name[i]);
-        if b < 48 {
+        let b = name[i];
+        if b < b'0' {
             return Coded::Refused(3);
         }
-        if b > 56 {
+        if b > b'8' {
             return Coded::Refused(3);
         }
-        path = path * 9 + (b - 48);
+        path = path * 9 + wide(b - b'0');
         i = i + 1;
     }
     Coded::Code(path)
@@ -52,10 +52,10 @@ fn first_letter(name: &[u8]) -> bool
         return false;
     }
     let letter = name[0];
-    if letter < 78 {
+    if letter < b'N' {
         return false;
     }
-    letter <= 83
+    letter <= b'S'
 }
 
 // The code of the cell that some bytes name: 2, 1 or 3 where they name none.
@@ -71,7 +71,7 @@ pub fn name_code(name: &[u8]) -> Coded
     let Coded::Code(path) = read_path(name) else {
         return Coded::Refused(3);
     };
-    let face = wide(name[0]) - 78;
+    let face = wide(name[0] - b'N');
     Coded::Code(code::code_at(face, (name.len() - 1) as u64, path))
 }
 
@@ -83,7 +83,7 @@ fn put_digits(name: &mut [u8], count: usize, path: u64)
     let mut p = path;
     let mut left = count;
     while left > 0 {
-        name[left] = (48 + p % 9) as u8;
+        name[left] = b'0' + (p % 9) as u8;
         p = p / 9;
         left = left - 1;
     }
@@ -95,7 +95,7 @@ fn put_name(name: &mut [u8], face: u64, count: usize, path: u64)
     ensures { λ r. ⌜ now (name .exit) ≡ (78 + face) ∷ (digitBytes (digits 9 count path) ++ drop (count + 1) (now (name .entry))) ⌝ }
 {
     put_digits(name, count, path);
-    name[0] = (78 + face) as u8;
+    name[0] = b'N' + face as u8;
 }
 
 // The name of the cell of a code, into `name`: 4 where it is no cell's, 8 where the name is longer than the room.

@@ -1,13 +1,14 @@
 -- Numbers that fit, and the fractions of the finest resolution. Assumes nothing.
 use mathlib.Core.Path.{_≡_, sym, ap, ap₂, _∙_}
-use mathlib.Core.Bool.{Bool, true, false, cond}
+use mathlib.Core.Bool.{Bool, true, false}
 use Prim.Native.Nat.{ℕ, _+_, _-_, _*_, _/_, _^_, _≤_, _<_}
 use native.Mathlib.Nat.{mul-le-mul, mul-left-comm, mul-mul-mul-comm, mul-pos, mul-lt-mul-of-pos-left, mul-div-mul-left}
 use native.Mathlib.Omega.{arith}
 use lib.IntN.{subℕ}
-use Rattle.ternary.specs.Powers.{power-add}
+use Rattle.ternary.specs.Laws.Powers.{power-add}
 use Rattle.nucleus.specs.Nucleus.{floorZ, northZ, southZ}
-use Rattle.nucleus.specs.FlooredLaws.{floor-times}
+use Rattle.nucleus.specs.Internal.Caps.{capZ}
+use Rattle.nucleus.specs.Internal.FlooredLaws.{floor-times}
 
 -- the height's square is at most the side's
 pub height-le : (m h : ℕ) → h < m → h * h ≤ m * m
@@ -21,12 +22,15 @@ module _ (up m : ℕ) (u0 : 0 < up) (m0 : 0 < m) (e : up * m ≡ 14348907) where
   pub finer-along : (a : ℕ) → 450000000 * (up * a) / 14348907 ≡ 450000000 * a / m
   finer-along a = ap₂ _/_ (mul-left-comm 450000000 up a) (sym e) ∙ mul-div-mul-left (450000000 * a) m u0
 
-  pub finer-z : (b : ℕ) → floorZ (subℕ (2000000000000000000 * 14348907) (2000000000000000000 * (up * b))) (3 * 14348907) ≡ floorZ (subℕ (2000000000000000000 * m) (2000000000000000000 * b)) (3 * m)
+  pub finer-z :
+      (b : ℕ) →
+      floorZ (subℕ (2000000000000000000 * 14348907) (2000000000000000000 * (up * b))) (3 * 14348907) ≡
+      floorZ (subℕ (2000000000000000000 * m) (2000000000000000000 * b)) (3 * m)
   finer-z b =
-      let p : 2000000000000000000 * 14348907 ≡ up * (2000000000000000000 * m) = ap (λ (x : ℕ). 2000000000000000000 * x) (sym e) ∙ mul-left-comm 2000000000000000000 up m in
-      let q : 2000000000000000000 * (up * b) ≡ up * (2000000000000000000 * b) = mul-left-comm 2000000000000000000 up b in
-      let r : 3 * 14348907 ≡ up * (3 * m) = ap (λ (x : ℕ). 3 * x) (sym e) ∙ mul-left-comm 3 up m in
-      (λ i. floorZ (subℕ (p i) (q i)) (r i)) ∙ floor-times up (2000000000000000000 * m) (2000000000000000000 * b) (3 * m) u0 (omega arith)
+      floor-times up (2000000000000000000 * m) (2000000000000000000 * b) (3 * m) u0 (omega arith)
+      (ap (λ (x : ℕ). 2000000000000000000 * x) (sym e) ∙ mul-left-comm 2000000000000000000 up m)
+      (mul-left-comm 2000000000000000000 up b)
+      (ap (λ (x : ℕ). 3 * x) (sym e) ∙ mul-left-comm 3 up m)
 
   -- a number of the coarser side, scaled
   pub finer-lt : (a : ℕ) → a < 2 * m → up * a < 28697814
@@ -49,7 +53,9 @@ module _ (up m : ℕ) (u0 : 0 < up) (m0 : 0 < m) (e : up * m ≡ 14348907) where
     three-pos : 0 < 3 * (m * m)
     three-pos = omega (arith, mul-pos m0 m0)
 
-    pub finer-cap : (b : Bool) → cond b (southZ 14348907 (up * h)) (northZ 14348907 (up * h)) ≡ cond b (southZ m h) (northZ m h)
+    pub finer-cap : (south : Bool) → capZ south 14348907 (up * h) ≡ capZ south m h
     unfolding southZ northZ
-    finer-cap true = (λ i. floorZ (subℕ (tall i) (side i)) (tripled i)) ∙ floor-times (up * up) (1000000000000000000 * (h * h)) (1000000000000000000 * (3 * (m * m))) (3 * (m * m)) (mul-pos u0 u0) three-pos
-    finer-cap false = (λ i. floorZ (subℕ (side i) (tall i)) (tripled i)) ∙ floor-times (up * up) (1000000000000000000 * (3 * (m * m))) (1000000000000000000 * (h * h)) (3 * (m * m)) (mul-pos u0 u0) three-pos
+    finer-cap true =
+        floor-times (up * up) (1000000000000000000 * (h * h)) (1000000000000000000 * (3 * (m * m))) (3 * (m * m)) (mul-pos u0 u0) three-pos tall side tripled
+    finer-cap false =
+        floor-times (up * up) (1000000000000000000 * (3 * (m * m))) (1000000000000000000 * (h * h)) (3 * (m * m)) (mul-pos u0 u0) three-pos side tall tripled

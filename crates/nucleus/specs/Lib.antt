@@ -1,14 +1,3 @@
+pub mod Internal
+pub mod Laws
 pub mod Nucleus
-pub mod RuleLaws
-pub mod FlooredLaws
-pub mod BeltLaws
-pub mod TriangleLaws
-pub mod StartLaws
-pub mod PlaceLaws
-pub mod NearLaws
-pub mod CapLaws
-pub mod SentLaws
-pub mod OneStartLaws
-pub mod FractionLaws
-pub mod OnceLaws
-pub mod NucleusLaws

@@ -1,4 +1,5 @@
-// The ground nucleus of a cell, in whole numbers: the fractions that the rules send to the cell's middle, floored.
+// The ground nucleus of a cell, in whole numbers: the fractions that the rules send to the cell's middle, floored. A coarser cell's fractions are
+// taken with both numbers 3^(15-k) times as great: then the divisors are known beforehand, and dividing by them is multiplying.
 ghost use mathlib.Core.Path.{_≡_};
 ghost use mathlib.Core.Bool.{cond};
 ghost use Prim.Native.Nat.{_+_, _-_, _*_, _/_, _^_, _≤_, _<_};
@@ -7,14 +8,11 @@ ghost use lib.IntN.{pos, negℤ, subℕ};
 ghost use Rattle.cell.specs.Cell.{IsCell, IsArrangement};
 ghost use Rattle.locate.specs.Fix.{quarter};
 ghost use Rattle.nucleus.specs.Nucleus.{floorZ, northZ, southZ, centred, northNucleus, southNucleus, groundNucleus};
-ghost use Rattle.nucleus.specs.TriangleLaws.{middle, OffCentre, Inside, IsStart};
+ghost use Rattle.nucleus.specs.Internal.Triangle.{middle, InFace, OffCentre, IsStart};
 use cell::Arrangement;
 use cell::Cell;
 use division::Quotient;
-
-// 3^15. A coarser cell's fractions are taken with both numbers 3^(15-k) times as great: then the divisors are known beforehand, and dividing by them
-// is multiplying.
-const FINEST: u64 = 14_348_907;
+use ternary::FINEST_ROWS;
 
 // A longitude, in ten-millionths of a degree, and the sine of the authalic latitude, in units of 10^-18.
 pub struct Fix {
@@ -78,8 +76,8 @@ fn belt_z(b: u64) -> i64
     requires { ⌜ b < 2 * 3 ^ 15 ⌝ }
     ensures { λ r. ⌜ r ≡ floorZ (subℕ (2 * 10 ^ 18 * 3 ^ 15) (2 * 10 ^ 18 * b)) (3 * 3 ^ 15) ⌝ }
 {
-    let q = division::scaled(1_000_000_000, 2, 2 * apart(FINEST, b), 3 * FINEST);
-    floored(FINEST < b, q)
+    let q = division::scaled(1_000_000_000, 2, 2 * apart(FINEST_ROWS, b), 3 * FINEST_ROWS);
+    floored(FINEST_ROWS < b, q)
 }
 
 // z of a start of that height, for m = 3^15.
@@ -88,7 +86,7 @@ fn cap_z(south: bool, h: u64) -> i64
     requires { ⌜ h < 3 ^ 15 ⌝ }
     ensures { λ r. ⌜ r ≡ cond south (southZ (3 ^ 15) h) (northZ (3 ^ 15) h) ⌝ }
 {
-    let d = 3 * (FINEST * FINEST);
+    let d = 3 * (FINEST_ROWS * FINEST_ROWS);
     let q = division::scaled(1000, 6, d - h * h, d);
     floored(south, q)
 }
@@ -115,7 +113,7 @@ fn is_centre(m: u64, a: u64, b: u64) -> bool
 
 // The start of a middle in the north: a seam is the western edge of the eastern triangle.
 fn start_of(m: u64, a: u64, b: u64) -> Start
-    requires { ⌜ Inside m a b ⌝ }
+    requires { ⌜ InFace m a b ⌝ }
     requires { ⌜ OffCentre m a b ⌝ }
     ensures { λ r. ⌜ IsStart m a b (r .turn) (r .height) (r .along) ⌝ }
 {
@@ -166,7 +164,7 @@ fn mirrored(south: bool, m: u64, b: u64) -> u64
 // A cell of N or S, where `first` is n or s.
 fn cap_nucleus(south: bool, first: u64, up: u64, m: u64, a: u64, b: u64) -> Fix
     requires { ⌜ first ≤ 3 ⌝ }
-    requires { ⌜ Inside m a b ⌝ }
+    requires { ⌜ InFace m a b ⌝ }
     requires { ⌜ (0 < up) × (up * m ≡ 3 ^ 15) ⌝ }
     ensures { λ r. ⌜ r ≡ cond south (southNucleus first m (middle m a b)) (northNucleus first m (middle m a b)) ⌝ }
 {
@@ -208,7 +206,7 @@ pub fn ground_nucleus(arrangement: Arrangement, cell: Cell) -> Fix
     if face > 0 {
         if face < 5 {
             return Fix {
-                longitude: longitude_at(face - 1, up * a, FINEST),
+                longitude: longitude_at(face - 1, up * a, FINEST_ROWS),
                 z: belt_z(up * b),
             };
         }

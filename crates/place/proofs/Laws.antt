@@ -14,9 +14,9 @@ use borrow.Author.Tests.{lt-ltb, le-ltb, le-leb, lt-leb, eq-eqb, ne-eqb}
 use Rattle.reading.specs.declared.Level.{Level}
 use Rattle.reading.specs.declared.Level.the-variants.{Faces, Belt, Digits}
 use Rattle.reading.specs.Reading.{first, many, room}
-use Rattle.reading.specs.ReadingLaws.{many-most}
-use Rattle.reading.specs.Scan.{frame, State, at, Next, stop, on, step, after, scan, start}
-use Rattle.place.specs.Stack.{hereOf, stack, standsAt, mayOpen, mayShut, mayStand}
+use Rattle.reading.specs.Laws.Reading.{many-most}
+use Rattle.reading.specs.Scan.{frame, State, at, Next, stop, on, step, goOn, scan, start}
+use Rattle.place.specs.Internal.Stack.{hereOf, stack, standsAt, mayOpen, mayShut, mayStand}
 use Rattle.place.proofs.Steps.{stack-set, stack-set-whole, stack-more, step-open, step-shut, step-stand, open-deeper, stand-from, stand-below}
 
 -- ---- bytes
@@ -125,16 +125,16 @@ module _ {s : List ℕ} {from : ℕ} {l : Level} {d : ℕ} {lo w : List ℕ} {k 
 
   module _ (h : i < length s) where
     stopped : step l d (standsAt k lo w named) (getD s i 0) ≡ stop → i ≡ from + scan l d start (drop from s)
-    unfolding scan after
+    unfolding scan goOn
     stopped e =
-        let z : scan l d (standsAt k lo w named) (drop i s) ≡ 0 = rw (drop-byte s i h) (ap (λ (n : Next). after n (λ t. scan l d t (drop (i + 1) s))) e) in
+        let z : scan l d (standsAt k lo w named) (drop i s) ≡ 0 = rw (drop-byte s i h) (ap (λ (n : Next). goOn n (λ t. scan l d t (drop (i + 1) s))) e) in
         omega (arith, v .tied)
 
     moved : (t : State) → step l d (standsAt k lo w named) (getD s i 0) ≡ on t → from + scan l d start (drop from s) ≡ (i + 1) + scan l d t (drop (i + 1) s)
-    unfolding scan after
+    unfolding scan goOn
     moved t e =
         let z : scan l d (standsAt k lo w named) (drop i s) ≡ suc (scan l d t (drop (i + 1) s)) =
-        rw (drop-byte s i h) (ap (λ (n : Next). after n (λ t. scan l d t (drop (i + 1) s))) e) in
+        rw (drop-byte s i h) (ap (λ (n : Next). goOn n (λ t. scan l d t (drop (i + 1) s))) e) in
         omega (arith, v .tied)
 
     -- ---- the byte may not come

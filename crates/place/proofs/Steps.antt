@@ -9,12 +9,12 @@ use lib.ListN.{length, getD, set}
 use lib.Seq.{getD-set-other}
 use lib.Dec.{leb, ltb, eqb}
 use borrow.Author.Tests.{eq-eqb, ne-eqb, eqb-false, ltb-false, leb-false, not-true}
-use Rattle.logic.specs.Bools.{and-left, and-right}
+use Rattle.logic.specs.Laws.Bools.{and-left, and-right}
 use Rattle.reading.specs.declared.Level.{Level}
 use Rattle.reading.specs.Reading.{first, many, room}
-use Rattle.reading.specs.ReadingLaws.{room-le}
-use Rattle.reading.specs.Scan.{Frame, frame, at, Next, stop, on, level, opens, shuts, stands, step}
-use Rattle.place.specs.Stack.{hereOf, stack, standsAt, mayOpen, mayShut, mayStand}
+use Rattle.reading.specs.Laws.Reading.{room-le}
+use Rattle.reading.specs.Scan.{Frame, frame, at, Next, stop, on, level, openList, shutList, standNode, step}
+use Rattle.place.specs.Internal.Stack.{hereOf, stack, standsAt, mayOpen, mayShut, mayStand}
 
 level-stack : (l : Level) (k : ℕ) (lo w : List ℕ) → level l (stack k lo w) ≡ hereOf l k
 level-stack l zero lo w = refl
@@ -45,8 +45,8 @@ stack-more k lo w = rw add-one
 -- ---- a step goes on exactly where the byte may come
 
 opens-when : (l : Level) (d : ℕ) (o : List Frame) (lo w : ℕ) (named : Bool) →
-    opens l d o lo w named ≡ cond (named && not (eqb (room (level l o) (lo - 1) (d - length o)) 0)) (on (at (frame lo (w - 1) ∷ o) 0 0 false)) stop
-unfolding opens
+    openList l d o lo w named ≡ cond (named && not (eqb (room (level l o) (lo - 1) (d - length o)) 0)) (on (at (frame lo (w - 1) ∷ o) 0 0 false)) stop
+unfolding openList
 opens-when l d o lo w false = refl
 opens-when l d o lo w true = go (eqb (room (level l o) (lo - 1) (d - length o)) 0)
   where
@@ -54,8 +54,8 @@ opens-when l d o lo w true = go (eqb (room (level l o) (lo - 1) (d - length o)) 
     go true = refl
     go false = refl
 
-shuts-when : (k : ℕ) (lo w : List ℕ) (x y : ℕ) → shuts (stack k lo w) x y ≡ cond (mayShut k x y) (on (standsAt (k - 1) lo w false)) stop
-unfolding shuts mayShut
+shuts-when : (k : ℕ) (lo w : List ℕ) (x y : ℕ) → shutList (stack k lo w) x y ≡ cond (mayShut k x y) (on (standsAt (k - 1) lo w false)) stop
+unfolding shutList mayShut
 shuts-when zero lo w x y = refl
 shuts-when (suc k) lo w x y = let z : suc k - 1 ≡ k = omega arith in rw (ne-eqb (suc k) 0 (λ e. omega arith), z) (go (eqb x 0) (eqb y 9))
   where
@@ -89,7 +89,7 @@ module _ (l : Level) (d k : ℕ) (lo w : List ℕ) (named : Bool) (b : ℕ) wher
       (b ≡ 40 → ⊥) → (b ≡ 41 → ⊥) →
       step l d (standsAt k lo w named) b
       ≡ cond (mayStand l d k (getD lo k 0) (getD w k 0) b) (on (at (stack k lo w) (suc (b - first (hereOf l k))) (suc (getD w k 0)) true)) stop
-  unfolding step stands mayStand
+  unfolding step standNode mayStand
   step-stand n m =
       rw (ne-eqb b 40 n, ne-eqb b 41 m, level-stack l k lo w, length-stack k lo w)
       (stands-when (ltb b (first (hereOf l k) + getD lo k 0)) (leb (first (hereOf l k) + many (hereOf l k)) b) (eqb (getD w k 0) 8)

@@ -6,7 +6,7 @@ ghost use Prim.Native.Nat.{_+_, _-_, _≤_};
 ghost use lib.ListN.{length, drop};
 ghost use Rattle.reading.specs.Reading.{first, room};
 ghost use Rattle.reading.specs.Scan.{scan, start};
-ghost use Rattle.place.specs.Stack.{hereOf, mayOpen, mayShut, mayStand};
+ghost use Rattle.place.specs.Internal.Stack.{hereOf, mayOpen, mayShut, mayStand};
 
 // What nodes are, k lists deep.
 fn here(level: Level, k: usize) -> Level
@@ -93,7 +93,7 @@ pub fn place(text: &[u8], from: usize, level: Level, depth: u64) -> usize
             break 'scan i;
         }
         let b = text[i];
-        if b == 40 {
+        if b == b'(' {
             if !may_open(level, depth, k, lo[k], named) {
                 break 'scan i;
             }
@@ -105,7 +105,7 @@ pub fn place(text: &[u8], from: usize, level: Level, depth: u64) -> usize
             i += 1;
             continue 'scan;
         }
-        if b == 41 {
+        if b == b')' {
             if !may_shut(k, lo[k], whole[k]) {
                 break 'scan i;
             }

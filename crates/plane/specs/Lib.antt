@@ -1,8 +1,3 @@
+pub mod Internal
+pub mod Laws
 pub mod Plane
-pub mod Depth
-pub mod SideLaws
-pub mod DepthLaws
-pub mod ImageLaws
-pub mod FaceLaws
-pub mod OwnerLaws
-pub mod PlaneLaws

@@ -126,7 +126,7 @@ unfoldable pub inImage : Arrangement → ℤ → ℤ → Bool
 unfolding inBelt inNorth inSouth
 inImage a x y = inBelt x y || inNorth a x y || inSouth a x y
 
--- ---- the cell of a point. What it is, `Owns` says (PlaneLaws, `found-owns` and `owner-found`); this is how it is computed
+-- ---- the cell of a point. What it is, `Owns` says (Laws/Plane, `found-owns` and `owner-found`); this is how it is computed
 
 -- the distance of a point from the top of N, downwards
 abbrev pub depthOf : ℤ → ℕ
@@ -153,22 +153,3 @@ pointCell a k x y =
 unfoldable pub pointRefusal : Arrangement → ℕ → ℤ → ℤ → ℕ
 unfolding inImage
 pointRefusal a k x y = arrangementRefusal a otherwise refuse (ltb 15 k) 2 otherwise refuse (not (inImage a x y)) 7
-
--- ---- examples
-
-plain : Arrangement
-plain = record { north = 0; south = 0 }
-
--- line 12 of 01's proved table: X = 4M, Y = 0 is refused with 7
-line12 : pointRefusal plain 0 (pos (4 * faceSide)) (pos 0) ≡ 7
-unfolding pointRefusal plain arrangementRefusal _otherwise_
-line12 = refl
-
--- the last point of R on the equator, and the lowest left point of O
-last : pointCell plain 1 (pos (4 * faceSide - 1)) (pos 0) ≡ record { face = 4; resolution = 1; row = 1; column = 2 }
-unfolding pointCell plain
-last = refl
-
-lowest : pointCell plain 1 (pos 0) (negℤ (pos half)) ≡ record { face = 1; resolution = 1; row = 2; column = 0 }
-unfolding pointCell plain
-lowest = refl

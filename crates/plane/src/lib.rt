@@ -4,7 +4,7 @@ ghost use mathlib.Core.Path.{_≡_};
 ghost use Prim.Native.Nat.{_+_, _*_, _≤_, _<_, _^_};
 ghost use Rattle.cell.specs.Cell.{IsCell, IsArrangement, found};
 ghost use Rattle.plane.specs.Plane.{faceSide, sideOf, faceLeft, cellAt, squareOf, nucleusOf, verticesOf, pointRefusal, pointCell};
-ghost use Rattle.plane.specs.Depth.{depthBelow, faceDepth, leftIn, depthIn, rowAt, foundOnCap, foundOnBelt, foundAt};
+ghost use Rattle.plane.specs.Internal.Depth.{depthBelow, faceDepth, leftIn, depthIn, rowAt, foundOnCap, foundOnBelt, foundAt};
 use cell::Arrangement;
 use cell::Cell;
 use cell::Found;

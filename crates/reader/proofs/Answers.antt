@@ -10,16 +10,18 @@ use Rattle.reading.specs.declared.Level.the-variants.{Faces}
 use Rattle.reading.specs.Reading.{Nodes}
 use Rattle.reading.specs.Parse.{Parse, bad, got, parse}
 use Rattle.reading.specs.Scan.{scan, start}
-use Rattle.reading.specs.Place.{least, greatest, lead, placeOf, none, taken, toEnd, readText}
-use Rattle.reading.specs.PlaceLaws.{lead-length, head-of, accepted-read}
-use Rattle.reading.specs.Report.{count, area}
-use Rattle.reading.specs.TextReading.{wasRead, isText}
+use Rattle.reading.specs.Place.{placeOf}
+use Rattle.reading.specs.Heading.{least, greatest, lead}
+use Rattle.reading.specs.Laws.TextReading.{accepted-read}
+use Rattle.reading.specs.Laws.Heading.{lead-length, head-of}
+use Rattle.reading.specs.Report.{count, sizeAlong}
+use Rattle.reading.specs.TextReading.{wasRead, isText, bodyStart, noText, asText, toEnd, readText}
 use Rattle.reader.specs.declared.Checked.the-variants.{Text, Refused}
-use Rattle.reader.specs.declared.Got.{Got}
-use Rattle.reader.specs.declared.Got.the-variants.{Bad, Read}
+use Rattle.reader.specs.declared.NodesRead.{NodesRead}
+use Rattle.reader.specs.declared.NodesRead.the-variants.{Bad, Read}
 use Rattle.reader.specs.Check.{otherVersion, answer, checkedOf}
-use Rattle.reader.specs.CheckLaws.{refusal-13, refusal-10, refusal-9, version-short, version-early, version-late, version-other, counted-answer}
-use Rattle.reader.specs.Got.{gotOf, NodesIs}
+use Rattle.reader.specs.Laws.Check.{refusal-13, refusal-10, refusal-9, version-short, version-early, version-late, version-other, counted-answer}
+use Rattle.reader.specs.Internal.NodesRead.{ofNodes, ReadsNodes}
 
 module _ (t : List ℕ) where
   pub long-answer : 65536 < length t → Refused 13 0 ≡ checkedOf t
@@ -27,7 +29,7 @@ module _ (t : List ℕ) where
   long-answer h = sym (ap (λ (r : ℕ). answer r t) (refusal-13 t h))
 
   module _ (h : length t ≤ 65536) where
-    version-answer : otherVersion t ≡ false → readText t ≡ none → Refused 9 (placeOf t) ≡ checkedOf t
+    version-answer : otherVersion t ≡ false → readText t ≡ noText → Refused 9 (placeOf t) ≡ checkedOf t
     unfolding checkedOf isText
     version-answer e f = sym (ap (λ (r : ℕ). answer r t) (refusal-9 t h e (ap wasRead f)))
 
@@ -37,7 +39,7 @@ module _ (t : List ℕ) where
       head-place : otherVersion t ≡ false → Refused 9 right ≡ checkedOf t
       unfolding readText placeOf
       head-place v =
-          let f : readText t ≡ none = rw (lt-ltb (lead least greatest t) 7 (omega arith)) in
+          let f : readText t ≡ noText = rw (lt-ltb (lead least greatest t) 7 (omega arith)) in
           let p : placeOf t ≡ right = rw (lt-ltb (lead least greatest t) 7 (omega arith)) (sym e) in
           ap (λ (x : ℕ). Refused 9 x) (sym p) ∙ version-answer v f
 
@@ -57,25 +59,25 @@ module _ (t : List ℕ) where
 -- ---- what the list reader hands back of the body
 
 module _ (n s m z : ℕ) where
-  end-bad : (p : Parse) → Bad ≡ gotOf m z p → toEnd n s p ≡ none
+  end-bad : (p : Parse) → Bad ≡ ofNodes m z p → toEnd n s p ≡ noText
   unfolding toEnd
   end-bad bad e = refl
   end-bad (got ns rest) e = let q : _≡_ {A = ℕ} 0 1 = cc in absurd (omega arith)
 
   module _ (next cells sum w : ℕ) where
-    end-more : (p : Parse) → Read next cells sum w ≡ gotOf m z p → next < m → toEnd n s p ≡ none
+    end-more : (p : Parse) → Read next cells sum w ≡ ofNodes m z p → next < m → toEnd n s p ≡ noText
     unfolding toEnd
     end-more bad e h = refl
     end-more (got ns []) e h = let q : next ≡ m - 0 = cc in absurd (omega arith)
     end-more (got ns (b ∷ rest)) e h = refl
 
-    end-all : (p : Parse) → Read next cells sum w ≡ gotOf m z p → m ≤ next → 0 < m →
-        (ns : Nodes) × (toEnd n s p ≡ taken n s ns) × (cells ≡ count ns) × (sum ≡ area z ns)
+    end-all : (p : Parse) → Read next cells sum w ≡ ofNodes m z p → m ≤ next → 0 < m →
+        (ns : Nodes) × (toEnd n s p ≡ asText n s ns) × (cells ≡ count ns) × (sum ≡ sizeAlong z ns)
     unfolding toEnd
     end-all bad e h k = let q : _≡_ {A = ℕ} 0 1 = cc in absurd (omega arith)
     end-all (got ns []) e h k =
         let e₁ : cells ≡ count ns = cc in
-        let e₂ : sum ≡ area z ns = cc in
+        let e₂ : sum ≡ sizeAlong z ns = cc in
         (ns, refl, e₁, e₂)
     end-all (got ns (b ∷ rest)) e h k = let q : next ≡ m - suc (length rest) = cc in absurd (omega arith)
 
@@ -105,13 +107,13 @@ module _ (t : List ℕ) (h : length t ≤ 65536) (k : 7 ≤ lead least greatest 
   unfolding readText
   body-read = rw (le-ltb (lead least greatest t) 7 k)
 
-  body-place : readText t ≡ none → Refused 9 (7 + scan Faces 15 start (drop 7 t)) ≡ checkedOf t
+  body-place : readText t ≡ noText → Refused 9 (7 + scan Faces 15 start (drop 7 t)) ≡ checkedOf t
   unfolding placeOf
   body-place f =
       let p : placeOf t ≡ 7 + scan Faces 15 start (drop 7 t) = rw (le-ltb (lead least greatest t) 7 k) in
       ap (λ (x : ℕ). Refused 9 x) (sym p) ∙ version-answer t h (version-late t (omega arith)) f
 
-  module _ {r : Got} (o : NodesIs t 7 0 Faces 15 (9 ^ 15) r) where
+  module _ {r : NodesRead} (o : ReadsNodes t 7 0 Faces 15 (9 ^ 15) r) where
     pub body-bad : r ≡ Bad → Refused 9 (7 + scan Faces 15 start (drop 7 t)) ≡ checkedOf t
     body-bad e =
         body-place (body-read ∙ end-bad (getD t 5 0 - 48) (getD t 6 0 - 48) (length t) (9 ^ 15) body (sym e ∙ o .is (suc (length t)) (omega arith)))
@@ -123,10 +125,10 @@ module _ (t : List ℕ) (h : length t ≤ 65536) (k : 7 ≤ lead least greatest 
           (body-read
           ∙ end-more (getD t 5 0 - 48) (getD t 6 0 - 48) (length t) (9 ^ 15) next cells sum w body (sym e ∙ o .is (suc (length t)) (omega arith)) l)
 
-      pub body-all : length t ≤ next → Text (getD t 5 0 - 48) (getD t 6 0 - 48) cells sum ≡ checkedOf t
+      pub body-all : length t ≤ next → Text (getD t 5 0 - 48) (getD t 6 0 - 48) cells sum (bodyStart t) ≡ checkedOf t
       body-all l =
           let a =
           end-all (getD t 5 0 - 48) (getD t 6 0 - 48) (length t) (9 ^ 15) next cells sum w body (sym e ∙ o .is (suc (length t)) (omega arith)) l
           (omega (arith, seven)) in
-          ap₂ (λ (x y : ℕ). Text (getD t 5 0 - 48) (getD t 6 0 - 48) x y) (a .2) (a .3)
+          ap₂ (λ (x y : ℕ). Text (getD t 5 0 - 48) (getD t 6 0 - 48) x y (bodyStart t)) (a .2) (a .3)
           ∙ counted-answer t h (accepted-read (body-read ∙ a .1))

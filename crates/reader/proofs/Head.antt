@@ -9,7 +9,7 @@ use lib.ListN.{length, drop, getD, drop-of-length-le}
 use lib.Seq.{drop-cons}
 use lib.Dec.{leb}
 use borrow.Author.Tests.{le-leb, lt-leb}
-use Rattle.reading.specs.Place.{least, greatest, lead}
+use Rattle.reading.specs.Heading.{least, greatest, lead}
 
 drop-byte : (s : List ℕ) (i : ℕ) → i < length s → drop i s ≡ getD s i 0 ∷ drop (i + 1) s
 drop-byte s i h = rw (add-one, drop-cons s i 0)

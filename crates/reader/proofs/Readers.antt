@@ -6,25 +6,25 @@ use Prim.Native.Nat.{ℕ, suc, _+_, _-_, _*_, _/_, _≤_, _<_}
 use native.Mathlib.Omega.{arith}
 use native.Mathlib.Nat.{zero-mul, one-mul, add-mul, mul-le-mul-right}
 use lib.ListN.{length, getD, List·getD-eq-default}
-use Rattle.logic.specs.Order.{lt-or}
+use Rattle.logic.specs.Laws.Order.{lt-or}
 use Rattle.reading.specs.declared.Level.{Level}
 use Rattle.reading.specs.declared.Level.the-variants.{Faces, Belt, Digits}
-use Rattle.reader.specs.declared.Got.{Got}
-use Rattle.reader.specs.declared.Got.the-variants.{Bad, Read}
+use Rattle.reader.specs.declared.NodesRead.{NodesRead}
+use Rattle.reader.specs.declared.NodesRead.the-variants.{Bad, Read}
 use Rattle.reading.specs.Reading.{first, many, room}
-use Rattle.reading.specs.ReadingLaws.{many-most}
-use Rattle.reader.specs.Got.{NodeIs, NodesIs}
+use Rattle.reading.specs.Laws.Reading.{many-most}
+use Rattle.reader.specs.Internal.NodesRead.{ReadsNode, ReadsNodes}
 use Rattle.reader.proofs.Steps as st
 use Rattle.reader.proofs.Steps.{plus}
 
 -- ---- the node reader
 
 -- no `(` follows the letter or digit
-pub node-whole : {s : List ℕ} {at d z : ℕ} → at ≤ length s → (getD s at 0 ≡ 40 → ⊥) → NodeIs s at d z (Read at 1 z 1)
+pub node-whole : {s : List ℕ} {at d z : ℕ} → at ≤ length s → (getD s at 0 ≡ 40 → ⊥) → ReadsNode s at d z (Read at 1 z 1)
 node-whole {s} {at} {d} {z} a e =
     ⊎-elim (λ h. record { is = λ n k. st.node-bare s at d z h e n }) (λ h. record { is = λ n k. st.node-end s at d z (omega arith) n }) (lt-or at (length s))
 
-pub node-none : {s : List ℕ} {at d z : ℕ} → at < length s → getD s at 0 ≡ 40 → d ≡ 0 → NodeIs s at d z Bad
+pub node-none : {s : List ℕ} {at d z : ℕ} → at < length s → getD s at 0 ≡ 40 → d ≡ 0 → ReadsNode s at d z Bad
 node-none {s} {at} {d} {z} a e f = record { is = λ n h. st.node-none s at d z a e f n }
 
 -- the reader stands at a `(` below which digits may lie
@@ -33,28 +33,35 @@ pub record Opens (s : List ℕ) (at d : ℕ) : Type 0 where
   pub bracket : getD s at 0 ≡ 40
   pub deep : d ≡ 0 → ⊥
 
-pub node-bad : {s : List ℕ} {at d z : ℕ} {r : Got} → Opens s at d → NodesIs s (at + 1) 0 Digits (d - 1) (z / 9) r → r ≡ Bad → NodeIs s at d z Bad
+pub node-bad : {s : List ℕ} {at d z : ℕ} {r : NodesRead} → Opens s at d → ReadsNodes s (at + 1) 0 Digits (d - 1) (z / 9) r → r ≡ Bad → ReadsNode s at d z Bad
 node-bad {s} {at} {d} {z} {r} o h b = record { is = st.node-bad s at d z r (o .inside) (o .bracket) (o .deep) (h .is) b }
 
-pub node-empty : {s : List ℕ} {at d z next m sum w : ℕ} {r : Got} → Opens s at d → NodesIs s (at + 1) 0 Digits (d - 1) (z / 9) r → r ≡ Read next m sum w → next ≡ at + 1 → NodeIs s at d z Bad
+pub node-empty :
+    {s : List ℕ} {at d z next m sum w : ℕ} {r : NodesRead} → Opens s at d → ReadsNodes s (at + 1) 0 Digits (d - 1) (z / 9) r → r ≡ Read next m sum w → next ≡ at + 1 →
+    ReadsNode s at d z Bad
 node-empty {s} {at} {d} {z} {next} {m} {sum} {w} {r} o h b q = record { is = st.node-empty s at d z r (o .inside) (o .bracket) (o .deep) (h .is) next m sum w b q }
 
-pub node-short : {s : List ℕ} {at d z next m sum w : ℕ} {r : Got} → Opens s at d → NodesIs s (at + 1) 0 Digits (d - 1) (z / 9) r → r ≡ Read next m sum w → next ≡ length s → NodeIs s at d z Bad
+pub node-short :
+    {s : List ℕ} {at d z next m sum w : ℕ} {r : NodesRead} → Opens s at d → ReadsNodes s (at + 1) 0 Digits (d - 1) (z / 9) r → r ≡ Read next m sum w → next ≡ length s →
+    ReadsNode s at d z Bad
 node-short {s} {at} {d} {z} {next} {m} {sum} {w} {r} o h b q = record { is = st.node-short s at d z r (o .inside) (o .bracket) (o .deep) (h .is) next m sum w b q }
 
-pub node-nine : {s : List ℕ} {at d z next m sum w : ℕ} {r : Got} → Opens s at d → NodesIs s (at + 1) 0 Digits (d - 1) (z / 9) r → r ≡ Read next m sum w → (next ≡ at + 1 → ⊥) → w ≡ 9 → NodeIs s at d z Bad
+pub node-nine :
+    {s : List ℕ} {at d z next m sum w : ℕ} {r : NodesRead} → Opens s at d → ReadsNodes s (at + 1) 0 Digits (d - 1) (z / 9) r → r ≡ Read next m sum w →
+    (next ≡ at + 1 → ⊥) → w ≡ 9 →
+    ReadsNode s at d z Bad
 node-nine {s} {at} {d} {z} {next} {m} {sum} {w} {r} o h b q q′ = record { is = st.node-nine s at d z r (o .inside) (o .bracket) (o .deep) (h .is) next m sum w b q q′ }
 
-pub node-read : {s : List ℕ} {at d z next m sum w : ℕ} {r : Got} → Opens s at d → NodesIs s (at + 1) 0 Digits (d - 1) (z / 9) r → r ≡ Read next m sum w
-    → (next ≡ at + 1 → ⊥) → (next ≡ length s → ⊥) → (w ≡ 9 → ⊥) → NodeIs s at d z (Read (next + 1) m sum 0)
+pub node-read : {s : List ℕ} {at d z next m sum w : ℕ} {r : NodesRead} → Opens s at d → ReadsNodes s (at + 1) 0 Digits (d - 1) (z / 9) r → r ≡ Read next m sum w
+    → (next ≡ at + 1 → ⊥) → (next ≡ length s → ⊥) → (w ≡ 9 → ⊥) → ReadsNode s at d z (Read (next + 1) m sum 0)
 node-read {s} {at} {d} {z} {next} {m} {sum} {w} {r} o h b q q′ q″ = record { is = st.node-read s at d z r (o .inside) (o .bracket) (o .deep) (h .is) next m sum w b q q′ q″ }
 
 -- ---- the list reader
 
-nodes-end : {s : List ℕ} {at lo d z : ℕ} {l : Level} → at ≡ length s → NodesIs s at lo l d z (Read at 0 0 0)
+nodes-end : {s : List ℕ} {at lo d z : ℕ} {l : Level} → at ≡ length s → ReadsNodes s at lo l d z (Read at 0 0 0)
 nodes-end {s} {at} {lo} {d} {z} {l} e = record { is = st.nodes-end s at lo l d z e }
 
-nodes-close : {s : List ℕ} {at lo d z : ℕ} {l : Level} → at < length s → getD s at 0 ≡ 41 → NodesIs s at lo l d z (Read at 0 0 0)
+nodes-close : {s : List ℕ} {at lo d z : ℕ} {l : Level} → at < length s → getD s at 0 ≡ 41 → ReadsNodes s at lo l d z (Read at 0 0 0)
 nodes-close {s} {at} {lo} {d} {z} {l} a e = record { is = st.nodes-close s at lo l d z a e }
 
 -- the reader stands at the letter or digit of number c, and digits may lie `under` deep below it
@@ -66,11 +73,11 @@ record Names (s : List ℕ) (at lo : ℕ) (l : Level) (d c under : ℕ) : Type 0
   number : c ≡ getD s at 0 - first l
   below : under ≡ room l c d
 
-nodes-wrong : {s : List ℕ} {at lo d z c under : ℕ} {l : Level} {r : Got} → Names s at lo l d c under → NodeIs s (at + 1) under z r → r ≡ Bad → NodesIs s at lo l d z Bad
+nodes-wrong : {s : List ℕ} {at lo d z c under : ℕ} {l : Level} {r : NodesRead} → Names s at lo l d c under → ReadsNode s (at + 1) under z r → r ≡ Bad → ReadsNodes s at lo l d z Bad
 nodes-wrong {s} {at} {lo} {d} {z} {c} {under} {l} {r} o h b = record { is = st.nodes-wrong s at lo l d z c under r (o .inside) (o .other) (o .low) (o .high) (o .number) (o .below) (h .is) b }
 
-nodes-more : {s : List ℕ} {at lo d z c under next m sum w : ℕ} {l : Level} {r : Got} → Names s at lo l d c under → NodeIs s (at + 1) under z r → r ≡ Read next m sum w
-    → {r₂ : Got} → NodesIs s next (c + 1) l d z r₂ → NodesIs s at lo l d z (plus m sum w r₂)
+nodes-more : {s : List ℕ} {at lo d z c under next m sum w : ℕ} {l : Level} {r : NodesRead} → Names s at lo l d c under → ReadsNode s (at + 1) under z r → r ≡ Read next m sum w
+    → {r₂ : NodesRead} → ReadsNodes s next (c + 1) l d z r₂ → ReadsNodes s at lo l d z (plus m sum w r₂)
 nodes-more {s} {at} {lo} {d} {z} {c} {under} {next} {m} {sum} {w} {l} {r} o h b {r₂} h₂ =
     record { is = st.nodes-more s at lo l d z c under r (o .inside) (o .other) (o .low) (o .high) (o .number) (o .below) (h .is) next m sum w b r₂ (h₂ .is) }
 
@@ -82,12 +89,12 @@ pub record From (s : List ℕ) (at z next n sum : ℕ) : Type 0 where
   pub few : n + at ≤ next + 1
   pub small : sum ≤ z
 
-pub node-known : {s : List ℕ} {at d z next n sum w : ℕ} {r : Got} → NodeIs s at d z r → r ≡ Read next n sum w → at ≤ length s → From s at z next n sum
+pub node-known : {s : List ℕ} {at d z next n sum w : ℕ} {r : NodesRead} → ReadsNode s at d z r → r ≡ Read next n sum w → at ≤ length s → From s at z next n sum
 node-known {s} {at} {d} {z} {next} {n} {sum} {w} {r} f e h =
     let o = st.node-known s at d z next n sum w r h (f .is) e (suc (length s)) (omega arith) in
     record { from = o .from; to = o .to; few = o .few; small = o .small }
 
-pub nodes-known : {s : List ℕ} {at lo d z next n sum w : ℕ} {l : Level} {r : Got} → NodesIs s at lo l d z r → r ≡ Read next n sum w → next ≤ length s
+pub nodes-known : {s : List ℕ} {at lo d z next n sum w : ℕ} {l : Level} {r : NodesRead} → ReadsNodes s at lo l d z r → r ≡ Read next n sum w → next ≤ length s
 nodes-known {s} {at} {lo} {d} {z} {next} {n} {sum} {w} {l} {r} f e = st.nodes-known s at lo l d z next n sum w r (f .is) e
 
 pub first-most : (l : Level) → first l ≤ 78
@@ -101,7 +108,7 @@ inside s at e = ⊎-elim (λ h. h) (λ h. absurd (omega (arith, List·getD-eq-de
 
 -- ---- the list reader's loop
 
-plus-none : (r : Got) → r ≡ plus 0 0 0 r
+plus-none : (r : NodesRead) → r ≡ plus 0 0 0 r
 plus-none Bad = refl
 plus-none (Read next n sum w) =
     let e₁ : n ≡ 0 + n = omega arith in
@@ -109,7 +116,7 @@ plus-none (Read next n sum w) =
     let e₃ : w ≡ 0 + w = omega arith in
     cc
 
-plus-plus : (n sum w n₂ sum₂ w₂ : ℕ) (r : Got) → plus n sum w (plus n₂ sum₂ w₂ r) ≡ plus (n + n₂) (sum + sum₂) (w + w₂) r
+plus-plus : (n sum w n₂ sum₂ w₂ : ℕ) (r : NodesRead) → plus n sum w (plus n₂ sum₂ w₂ r) ≡ plus (n + n₂) (sum + sum₂) (w + w₂) r
 plus-plus n sum w n₂ sum₂ w₂ Bad = refl
 plus-plus n sum w n₂ sum₂ w₂ (Read next n₃ sum₃ w₃) =
     let e₁ : n + (n₂ + n₃) ≡ n + n₂ + n₃ = omega arith in
@@ -120,7 +127,7 @@ plus-plus n sum w n₂ sum₂ w₂ (Read next n₃ sum₃ w₃) =
 -- Before the byte at `at`: the nodes from `start` on hold w whole ones and lists with n cells of that sum; the next byte is `low` at least. What the
 -- definition finds of the rest, with these, is what it finds of all.
 pub record Runs (s : List ℕ) (start : ℕ) (l : Level) (d z at low n sum w : ℕ) : Type 0 where
-  pub tied : (r : Got) → NodesIs s at (low - first l) l d z r → NodesIs s start 0 l d z (plus (n + w) (sum + w * z) w r)
+  pub tied : (r : NodesRead) → ReadsNodes s at (low - first l) l d z r → ReadsNodes s start 0 l d z (plus (n + w) (sum + w * z) w r)
   pub from : start ≤ at
   pub to : at ≤ length s
   pub least : first l ≤ low
@@ -134,8 +141,8 @@ runs-start {s} {start} {d} {z} {low} {l} h e =
     let m : 0 * z ≡ 0 = zero-mul z in
     let f : low * z ≡ first l * z = ap (λ (x : ℕ). x * z) e in
     record {
-      tied = λ r o. subst (NodesIs s start 0 l d z) (plus-none r ∙ ap₂ (λ (x y : ℕ). plus x y 0 r) (omega arith) (omega arith))
-          (subst (λ (x : ℕ). NodesIs s start x l d z r) (omega arith) o);
+      tied = λ r o. subst (ReadsNodes s start 0 l d z) (plus-none r ∙ ap₂ (λ (x y : ℕ). plus x y 0 r) (omega arith) (omega arith))
+          (subst (λ (x : ℕ). ReadsNodes s start x l d z r) (omega arith) o);
       from = omega arith;
       to = h;
       least = omega arith;
@@ -147,18 +154,18 @@ runs-start {s} {start} {d} {z} {low} {l} h e =
 
 module _ {s : List ℕ} {start d z at low n sum w : ℕ} {l : Level} (v : Runs s start l d z at low n sum w) where
   -- the nodes end
-  stop : NodesIs s at (low - first l) l d z (Read at 0 0 0) → NodesIs s start 0 l d z (Read at (n + w) (sum + w * z) w)
+  stop : ReadsNodes s at (low - first l) l d z (Read at 0 0 0) → ReadsNodes s start 0 l d z (Read at (n + w) (sum + w * z) w)
   stop o =
       let e₁ : n + w + 0 ≡ n + w = omega arith in
       let e₂ : sum + w * z + 0 ≡ sum + w * z = omega arith in
       let e₃ : w + 0 ≡ w = omega arith in
       let e : Read at (n + w + 0) (sum + w * z + 0) (w + 0) ≡ Read at (n + w) (sum + w * z) w = cc in
-      subst (NodesIs s start 0 l d z) e (v .tied (Read at 0 0 0) o)
+      subst (ReadsNodes s start 0 l d z) e (v .tied (Read at 0 0 0) o)
 
-  pub runs-end : length s ≤ at → NodesIs s start 0 l d z (Read at (n + w) (sum + w * z) w)
+  pub runs-end : length s ≤ at → ReadsNodes s start 0 l d z (Read at (n + w) (sum + w * z) w)
   runs-end h = stop (nodes-end (omega (arith, v .to)))
 
-  pub runs-close : at < length s → getD s at 0 ≡ 41 → NodesIs s start 0 l d z (Read at (n + w) (sum + w * z) w)
+  pub runs-close : at < length s → getD s at 0 ≡ 41 → ReadsNodes s start 0 l d z (Read at (n + w) (sum + w * z) w)
   runs-close h e = stop (nodes-close h e)
 
   -- the sum fits
@@ -168,11 +175,11 @@ module _ {s : List ℕ} {start d z at low n sum w : ℕ} {l : Level} (v : Runs s
       omega (arith, v .small, mul-le-mul-right z (v .most), mul-le-mul-right z (many-most l))
 
   module _ (a : at < length s) (q : getD s at 0 ≡ 41 → ⊥) where
-    pub runs-low : getD s at 0 < low → NodesIs s start 0 l d z Bad
+    pub runs-low : getD s at 0 < low → ReadsNodes s start 0 l d z Bad
     runs-low h = v .tied Bad (record { is = st.nodes-low s at (low - first l) l d z a q (omega (arith, v .least)) })
 
     module _ (h : low ≤ getD s at 0) where
-      pub runs-high : first l + many l ≤ getD s at 0 → NodesIs s start 0 l d z Bad
+      pub runs-high : first l + many l ≤ getD s at 0 → ReadsNodes s start 0 l d z Bad
       runs-high k = v .tied Bad (record { is = st.nodes-high s at (low - first l) l d z a q (omega (arith, v .least)) k })
 
       module _ (k : getD s at 0 < first l + many l) where
@@ -180,16 +187,17 @@ module _ {s : List ℕ} {start d z at low n sum w : ℕ} {l : Level} (v : Runs s
         names u = record { inside = a; other = q; low = omega (arith, v .least); high = k; number = refl; below = u }
 
         -- a node, and what the numbers are after it
-        on : {under next m more wi n′ sum′ w′ : ℕ} {r : Got} → under ≡ room l (getD s at 0 - first l) d → NodeIs s (at + 1) under z r → r ≡ Read next m more wi
+        on : {under next m more wi n′ sum′ w′ : ℕ} {r : NodesRead} → under ≡ room l (getD s at 0 - first l) d → ReadsNode s (at + 1) under z r → r ≡ Read next m more wi
             → n′ + w′ ≡ n + w + m → sum′ + w′ * z ≡ sum + w * z + more → w′ ≡ w + wi → wi ≤ 1 → Runs s start l d z next (getD s at 0 + 1) n′ sum′ w′
         on {under} {next} {m} {more} {wi} {n′} {sum′} {w′} {r} u o b e₁ e₂ e₃ one =
             let f = node-known o b (omega arith) in
             record {
               tied = λ r₂ h₂.
-                  subst (NodesIs s start 0 l d z)
-                  (plus-plus (n + w) (sum + w * z) w m more wi r₂ ∙ sym (ap (λ (x : ℕ). plus x (sum + w * z + more) (w + wi) r₂) e₁) ∙ sym (ap₂ (λ (x y : ℕ). plus (n′ + w′) x y r₂) e₂ e₃))
+                  subst (ReadsNodes s start 0 l d z)
+                  (plus-plus (n + w) (sum + w * z) w m more wi r₂ ∙ sym (ap (λ (x : ℕ). plus x (sum + w * z + more) (w + wi) r₂) e₁) ∙ sym
+                  (ap₂ (λ (x y : ℕ). plus (n′ + w′) x y r₂) e₂ e₃))
                   (v .tied (plus m more wi r₂)
-                  (nodes-more (names u) o b (subst (λ (x : ℕ). NodesIs s next x l d z r₂) (omega (arith, v .least)) h₂)));
+                  (nodes-more (names u) o b (subst (λ (x : ℕ). ReadsNodes s next x l d z r₂) (omega (arith, v .least)) h₂)));
               from = omega (arith, v .from, f .from);
               to = f .to;
               least = omega (arith, v .least);
@@ -203,8 +211,8 @@ module _ {s : List ℕ} {start d z at low n sum w : ℕ} {l : Level} (v : Runs s
         runs-whole e =
             on refl (node-whole (omega arith) e) refl (omega arith) (omega (arith, add-mul w 1 z, one-mul z)) refl (omega arith)
 
-        module _ {under : ℕ} {r : Got} (u : under ≡ room l (getD s at 0 - first l) d) (o : NodeIs s (at + 1) under z r) where
-          pub runs-wrong : r ≡ Bad → NodesIs s start 0 l d z Bad
+        module _ {under : ℕ} {r : NodesRead} (u : under ≡ room l (getD s at 0 - first l) d) (o : ReadsNode s (at + 1) under z r) where
+          pub runs-wrong : r ≡ Bad → ReadsNodes s start 0 l d z Bad
           runs-wrong b = v .tied Bad (nodes-wrong (names u) o b)
 
           pub runs-listed : {next m more wi : ℕ} → getD s (at + 1) 0 ≡ 40 → r ≡ Read next m more wi → Runs s start l d z next (getD s at 0 + 1) (n + m) (sum + more) w

@@ -1,4 +1,3 @@
-pub mod AnswerLaws
 pub mod Check
-pub mod CheckLaws
-pub mod Got
+pub mod Internal
+pub mod Laws

@@ -4,18 +4,20 @@ ghost use mathlib.Core.Path.{_≡_};
 ghost use Prim.Native.Nat.{_*_, _^_, _≤_, _<_};
 ghost use lib.Dec.{eqb};
 ghost use lib.ListN.{length, getD};
-ghost use Rattle.reading.specs.Place.{least, greatest, lead};
+ghost use Rattle.reading.specs.Heading.{least, greatest, lead};
 ghost use Rattle.reader.specs.Check.{checkedOf};
-ghost use Rattle.reader.specs.Got.{NodeIs, NodesIs};
+ghost use Rattle.reader.specs.Internal.NodesRead.{ReadsNode, ReadsNodes};
 ghost use Rattle.reader.specs.declared.Checked.the-variants.{Refused as RefusedWith};
 
-// What checking answers: the heading's n and s, the number of whole cells and the sum of their sizes; or the refusal, with the place for 9.
+// What checking answers: the heading's n and s, the number of whole cells and the sum of their sizes, and where the body starts; or the refusal, with
+// the place for 9.
 pub enum Checked {
     Text {
         north: u64,
         south: u64,
         cells: u64,
         size: u64,
+        body: usize,
     },
     Refused {
         refusal: u64,
@@ -23,8 +25,8 @@ pub enum Checked {
     },
 }
 
-// What was read: the place of the next byte, the number of whole cells, the sum of their sizes, and how many of the nodes stand whole.
-pub enum Got {
+// What reading nodes hands back: the place of the next byte, the number of whole cells, the sum of their sizes, and how many of the nodes stand whole.
+pub enum NodesRead {
     Bad,
     Read(usize, u64, u64, u64),
 }
@@ -36,39 +38,44 @@ fn opens(text: &[u8], at: usize) -> bool
     if at >= text.len() {
         return false;
     }
-    text[at] == 40
+    text[at] == b'('
 }
 
 // The node reader, at the `(` behind a node's letter or digit: the list that the node holds. The node's own size is `size`, and `room` digits may lie
 // below it.
-fn node(text: &[u8], at: usize, room: u64, size: u64) -> Got
+fn node(text: &[u8], at: usize, room: u64, size: u64) -> NodesRead
     requires { ⌜ (at < length (now text)) × (getD (now text) at 0 ≡ 40) ⌝ }
-    ensures { λ r. ⌜ NodeIs (now (text .entry)) at room size r ⌝ }
+    ensures { λ r. ⌜ ReadsNode (now (text .entry)) at room size r ⌝ }
 {
     if room == 0 {
-        return Got::Bad;
+        return NodesRead::Bad;
     }
     let start = at + 1;
-    let Got::Read(next, cells, sum, wholes) = nodes(text, start, Level::Digits, room - 1, size / 9)
-    else {
-        return Got::Bad;
+    let NodesRead::Read(next, cells, sum, wholes) = nodes(
+        text,
+        start,
+        Level::Digits,
+        room - 1,
+        size / 9,
+    ) else {
+        return NodesRead::Bad;
     };
     if next == start {
-        return Got::Bad;
+        return NodesRead::Bad;
     }
     if next == text.len() {
-        return Got::Bad;
+        return NodesRead::Bad;
     }
     if wholes == 9 {
-        return Got::Bad;
+        return NodesRead::Bad;
     }
-    Got::Read(next + 1, cells, sum, 0)
+    NodesRead::Read(next + 1, cells, sum, 0)
 }
 
 // The list reader: nodes whose numbers rise, up to a `)` or the end. A node is whole where no `(` follows.
-fn nodes(text: &[u8], start: usize, level: Level, room: u64, size: u64) -> Got
+fn nodes(text: &[u8], start: usize, level: Level, room: u64, size: u64) -> NodesRead
     requires { ⌜ (start ≤ length (now text)) × (9 * size < 2 ^ 64) ⌝ }
-    ensures { λ r. ⌜ NodesIs (now (text .entry)) start 0 level room size r ⌝ }
+    ensures { λ r. ⌜ ReadsNodes (now (text .entry)) start 0 level room size r ⌝ }
 {
     let length = text.len();
     let base = reading::first_byte(level);
@@ -80,14 +87,14 @@ fn nodes(text: &[u8], start: usize, level: Level, room: u64, size: u64) -> Got
     let mut wholes: u64 = 0;
     while at < length {
         let b = text[at];
-        if b == 41 {
+        if b == b')' {
             break;
         }
         if b < low {
-            return Got::Bad;
+            return NodesRead::Bad;
         }
         if above <= b {
-            return Got::Bad;
+            return NodesRead::Bad;
         }
         low = b + 1;
         at += 1;
@@ -96,26 +103,27 @@ fn nodes(text: &[u8], start: usize, level: Level, room: u64, size: u64) -> Got
             continue;
         }
         let under = reading::room_below(level, b - base, room);
-        let Got::Read(next, more, rest, _) = node(text, at, under, size) else {
-            return Got::Bad;
+        let NodesRead::Read(next, more, rest, _) = node(text, at, under, size) else {
+            return NodesRead::Bad;
         };
         at = next;
         cells += more;
         sum += rest;
     }
-    Got::Read(at, cells + wholes, sum + wholes * size, wholes)
+    NodesRead::Read(at, cells + wholes, sum + wholes * size, wholes)
 }
 
-const LEAST: [u8; 7] = [67, 86, 82, 0, 1, 48, 48];
+// The least and the greatest byte at each place of the heading.
+const LEAST: [u8; 7] = [b'C', b'V', b'R', 0, 1, b'0', b'0'];
 
-const GREATEST: [u8; 7] = [67, 86, 82, 0, 1, 51, 51];
+const GREATEST: [u8; 7] = [b'C', b'V', b'R', 0, 1, b'3', b'3'];
 
 // How many leading bytes are as in a heading.
 fn heading(text: &[u8]) -> usize
     ensures { λ r. ⌜ r ≡ lead least greatest (now (text .entry)) ⌝ }
 {
     let mut i: usize = 0;
-    while i < 7 {
+    while i < reading::HEADING {
         if i == text.len() {
             return i;
         }
@@ -127,7 +135,7 @@ fn heading(text: &[u8]) -> usize
         }
         i += 1;
     }
-    7
+    reading::HEADING
 }
 
 fn refused(refusal: u64, place: u64) -> Checked
@@ -153,22 +161,27 @@ fn check_heading(text: &[u8], right: usize) -> Checked
     refused(9, right as u64)
 }
 
-// The answer where the heading is right. A face's size is 9^15.
+// The answer where the heading is right.
 fn check_body(text: &[u8]) -> Checked
     requires { ⌜ (length (now text) ≤ 65536) × (7 ≤ lead least greatest (now text)) ⌝ }
     ensures { λ r. ⌜ r ≡ checkedOf (now (text .entry)) ⌝ }
 {
-    let Got::Read(next, cells, size, _) = nodes(text, 7, Level::Faces, 15, 205891132094649) else {
-        return refused(9, place::place(text, 7, Level::Faces, 15) as u64);
+    let body = reading::HEADING;
+    let NodesRead::Read(next, cells, size, _) = nodes(text, body, Level::Faces, 15, code::FACE_SIZE)
+    else {
+        return refused(9, place::place(text, body, Level::Faces, 15) as u64);
     };
     if next < text.len() {
-        return refused(9, place::place(text, 7, Level::Faces, 15) as u64);
+        return refused(9, place::place(text, body, Level::Faces, 15) as u64);
     }
+    let north = (text[5] - b'0') as u64;
+    let south = (text[6] - b'0') as u64;
     Checked::Text {
-        north: (text[5] - 48) as u64,
-        south: (text[6] - 48) as u64,
+        north,
+        south,
         cells,
         size,
+        body,
     }
 }
 
@@ -176,11 +189,11 @@ fn check_body(text: &[u8]) -> Checked
 pub fn check(text: &[u8]) -> Checked
     ensures { λ r. ⌜ r ≡ checkedOf (now (text .entry)) ⌝ }
 {
-    if text.len() > 65536 {
+    if text.len() > reading::LONGEST {
         return refused(13, 0);
     }
     let right = heading(text);
-    if right < 7 {
+    if right < reading::HEADING {
         return check_heading(text, right);
     }
     check_body(text)

@@ -1,5 +1,5 @@
 -- The reader of 01's grammar as a definition that computes: "node reader and list reader call each other, the unread bytes falling". That it reads
--- exactly the grammar is shown in ParseLaws. Assumes nothing.
+-- exactly the grammar is shown in Laws/Parse. Assumes nothing.
 use mathlib.Core.List.{List, [], _∷_}
 use mathlib.Core.Bool.{cond}
 use Prim.Native.Nat.{ℕ, zero, suc, _+_, _-_}

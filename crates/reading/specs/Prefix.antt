@@ -1,9 +1,10 @@
--- Names as numbers, and which begin which: the computing side of cells and of lying inside. NamedLaws ties it to the grid. Assumes nothing.
+-- Names as numbers, and which begin which: the computing side of cells and of lying inside. Laws/Named ties it to the grid. Assumes nothing.
 use mathlib.Core.Path.{_≡_}
 use mathlib.Core.Logic.{_⊎_}
 use mathlib.Core.List.{List, [], _∷_}
-use Prim.Native.Nat.{ℕ, zero, suc, _+_, _-_, _^_, _≤_, _<_}
+use Prim.Native.Nat.{ℕ, zero, suc, _≤_, _<_}
 use lib.ListN.{length}
+use Rattle.logic.specs.Lists.{All, Any, Pairwise}
 use Rattle.ternary.specs.Digits.{Below}
 use Rattle.cell.specs.declared.Cell.{Cell}
 use Rattle.code.specs.Code.{digitsOf}
@@ -13,8 +14,8 @@ abbrev pub Name : Type 0
 Name = List ℕ
 
 -- the name of a cell
-unfoldable pub nameOf : Cell → Name
-nameOf c = c .face ∷ digitsOf (c .resolution) (c .row) (c .column)
+unfoldable pub numbersOf : Cell → Name
+numbersOf c = c .face ∷ digitsOf (c .resolution) (c .row) (c .column)
 
 -- p begins with q
 abbrev pub Prefix : Name → Name → Type 0
@@ -24,8 +25,7 @@ Prefix (a ∷ q) (b ∷ p) = (a ≡ b) × Prefix q p
 
 -- p begins with one of these
 abbrev pub Covered : List Name → Name → Type 0
-Covered [] p = ⊥
-Covered (q ∷ qs) p = Prefix q p ⊎ Covered qs p
+Covered qs p = Any (λ (q : Name). Prefix q p) qs
 
 -- n digits
 abbrev pub Digs : ℕ → List ℕ → Type 0
@@ -48,9 +48,8 @@ abbrev pub IsName : (m r : ℕ) → Name → Type 0
 IsName m r [] = ⊥
 IsName m r (x ∷ q) = (x < m) × (length q ≤ r) × Below 9 q
 
-abbrev pub Names : (m r : ℕ) → List Name → Type 0
-Names m r [] = Unit {0}
-Names m r (q ∷ qs) = IsName m r q × Names m r qs
+abbrev pub AreNames : (m r : ℕ) → List Name → Type 0
+AreNames m r qs = All (IsName m r) qs
 
 -- at the first number that differs, q has the smaller one
 abbrev pub Ahead : (q p : Name) → Type 0
@@ -59,15 +58,8 @@ Ahead (a ∷ q) [] = ⊥
 Ahead (a ∷ q) (b ∷ p) = (a < b) ⊎ ((a ≡ b) × Ahead q p)
 
 abbrev pub AheadAll : Name → List Name → Type 0
-AheadAll q [] = Unit {0}
-AheadAll q (p ∷ ps) = Ahead q p × AheadAll q ps
+AheadAll q qs = All (Ahead q) qs
 
 -- each is ahead of all that come later
-abbrev pub Rise : List Name → Type 0
-Rise [] = Unit {0}
-Rise (q ∷ qs) = AheadAll q qs × Rise qs
-
--- the sum of sizes: a name of j numbers has 9^(k-j) finest names of k numbers
-unfoldable pub sizes : ℕ → List Name → ℕ
-sizes k [] = 0
-sizes k (q ∷ qs) = 9 ^ (k - length q) + sizes k qs
+abbrev pub InOrder : List Name → Type 0
+InOrder qs = Pairwise Ahead qs

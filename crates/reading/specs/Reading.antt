@@ -21,6 +21,12 @@ first Faces = 78
 first Belt = 78
 first Digits = 48
 
+-- the nodes that stand side by side in a text are its faces
+abbrev pub OfFaces : Level → Type 0
+OfFaces Faces = Unit {0}
+OfFaces Belt = Unit {0}
+OfFaces Digits = ⊥
+
 -- six faces, "a digit 0 to 8"
 abbrev pub many : Level → ℕ
 many Faces = 6

@@ -15,6 +15,10 @@ pub record Reads (h : List ℕ) (l : Level) (d : ℕ) (t : List ℕ) (ns : Nodes
   pub good : Good l d 0 ns
   pub all : t ≡ h ++ render l ns
 
+-- bytes that are a body: a text without its heading
+abbrev pub Body : Level → ℕ → List ℕ → Type 0
+Body l d b = (ns : Nodes) × Reads [] l d b ns
+
 -- a reading of version 1: "Nothing lies deeper than 15 digits", and each face may hold a list
 pub record ReadsAs (n s : ℕ) (t : List ℕ) (ns : Nodes) : Type 0 where
   pub north : n ≤ 3

@@ -2,6 +2,12 @@
 ghost use mathlib.Core.Path.{_≡_};
 ghost use Rattle.reading.specs.Reading.{first, many, room as roomOf};
 
+// "Seven bytes of heading"
+pub const HEADING: usize = 7;
+
+// "text longer than 65,536 bytes, read or to be written"
+pub const LONGEST: usize = 65_536;
+
 // What nodes side by side are: faces of which each may hold a list, faces of which N and S stand only whole, or digits.
 pub enum Level {
     Faces,
@@ -14,9 +20,9 @@ pub fn first_byte(level: Level) -> u8
     ensures { λ r. ⌜ r ≡ first level ⌝ }
 {
     match level {
-        Level::Faces => 78,
-        Level::Belt => 78,
-        Level::Digits => 48,
+        Level::Faces => b'N',
+        Level::Belt => b'N',
+        Level::Digits => b'0',
     }
 }
 

@@ -10,35 +10,35 @@ use Rattle.root.specs.declared.Axis.{Axis}
 abbrev pub square : ℕ → ℕ
 square x = x * x
 
--- With h = √t / 10^9, the value is m (1/2 + p h / 1,800,000,000), and a number w is at most the value when
---   900,000,000,000,000,000 (2w - m)  ≤  m p √t
+-- With h = √radicand / 10^9, the value is m (1/2 + p h / 1,800,000,000), and a number w is at most the value when
+--   900,000,000,000,000,000 (2w - m)  ≤  m p √radicand
 -- which the signs of the two sides and their squares decide. With g the size of p, first for p ≥ 0, then for p < 0:
-unfoldable pub plusAt : (m t g w : ℕ) → Bool
-plusAt m t g w = leb (2 * w) m || leb (square (900000000000000000 * (2 * w - m))) (square (m * g) * t)
+unfoldable pub plusAt : (m radicand g w : ℕ) → Bool
+plusAt m radicand g w = leb (2 * w) m || leb (square (900000000000000000 * (2 * w - m))) (square (m * g) * radicand)
 
-unfoldable pub minusAt : (m t g w : ℕ) → Bool
-minusAt m t g w = leb (2 * w) m && leb (square (m * g) * t) (square (900000000000000000 * (m - 2 * w)))
+unfoldable pub minusAt : (m radicand g w : ℕ) → Bool
+minusAt m radicand g w = leb (2 * w) m && leb (square (m * g) * radicand) (square (900000000000000000 * (m - 2 * w)))
 
-unfoldable pub atMost : (m t : ℕ) (p : ℤ) (w : ℕ) → Bool
+unfoldable pub atMost : (m radicand : ℕ) (p : ℤ) (w : ℕ) → Bool
 unfolding plusAt minusAt
-atMost m t (pos g) w = plusAt m t g w
-atMost m t (negsuc g) w = minusAt m t (suc g) w
+atMost m radicand (pos g) w = plusAt m radicand g w
+atMost m radicand (negsuc g) w = minusAt m radicand (suc g) w
 
 -- w <= value < w + 1
-pub record IsFloor (m t : ℕ) (p : ℤ) (w : ℕ) : Type 0 where
-  pub below : atMost m t p w ≡ true
-  pub above : atMost m t p (w + 1) ≡ false
+pub record IsFloor (m radicand : ℕ) (p : ℤ) (w : ℕ) : Type 0 where
+  pub below : atMost m radicand p w ≡ true
+  pub above : atMost m radicand p (w + 1) ≡ false
 
--- ---- the computing form. FloorLaws shows that it is a floor, and that no other number is one
+-- ---- the computing form. Laws/Floor shows that it is a floor, and that no other number is one
 
 -- the greatest number up to n that passes a test, or 0
 unfoldable pub greatest : (ℕ → Bool) → ℕ → ℕ
 greatest test zero = zero
 greatest test (suc n) = cond (test (suc n)) (suc n) (greatest test n)
 
-unfoldable pub rootFloor : (m t : ℕ) (p : ℤ) → ℕ
+unfoldable pub rootFloor : (m radicand : ℕ) (p : ℤ) → ℕ
 unfolding greatest atMost
-rootFloor m t p = greatest (atMost m t p) m
+rootFloor m radicand p = greatest (atMost m radicand p) m
 
 -- ---- a signed number by its sign and its size
 

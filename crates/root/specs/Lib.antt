@@ -1,4 +1,4 @@
+pub mod Compared
 pub mod Floor
-pub mod SquareLaws
-pub mod FloorLaws
-pub mod Bracket
+pub mod Internal
+pub mod Laws

@@ -4,7 +4,8 @@ ghost use Prim.Native.Nat.{_+_, _*_, _^_, _≤_, _<_};
 ghost use lib.IntN.{negℤ};
 ghost use Rattle.wide.specs.Value.{three};
 ghost use Rattle.root.specs.Floor.{square, plusAt, minusAt, atMost, rootFloor, axisOf};
-ghost use Rattle.root.specs.Bracket.{lowPart};
+ghost use Rattle.root.specs.Internal.Bracket.{lowPart};
+use ternary::FINEST_ROWS;
 use wide::Three;
 
 // A signed whole number: the part of the root that a floor adds or takes away.
@@ -27,47 +28,47 @@ pub fn negated(x: Axis) -> Axis
 // ---- the whole root
 
 // Half of t's length in bits, rounded up.
-fn half_length(t: u64) -> u64
-    requires { ⌜ t < 10 ^ 18 ⌝ }
-    ensures { λ r. ⌜ (r ≤ 30) × (t < 2 ^ r * 2 ^ r) ⌝ }
+fn half_length(radicand: u64) -> u64
+    requires { ⌜ radicand < 10 ^ 18 ⌝ }
+    ensures { λ r. ⌜ (r ≤ 30) × (radicand < 2 ^ r * 2 ^ r) ⌝ }
 {
-    (65 - u64::leading_zeros(t) as u64) / 2
+    (65 - u64::leading_zeros(radicand) as u64) / 2
 }
 
-// A number near the root: with h = 2^s and x = t / h it is h (0.26 + 1.05 (x/h) - 0.31 (x/h)^2), for a large t at most one part in 190 off. No proof
+// A number near the root: with h = 2^s and x = radicand / h it is h (0.26 + 1.05 (x/h) - 0.31 (x/h)^2), for a large radicand at most one part in 190 off. No proof
 // leans on that: it spares steps.
-fn near_root(t: u64) -> u64
-    requires { ⌜ t < 10 ^ 18 ⌝ }
+fn near_root(radicand: u64) -> u64
+    requires { ⌜ radicand < 10 ^ 18 ⌝ }
     ensures { λ r. ⌜ (2 ≤ r) × (r ≤ 2 ^ 31) ⌝ }
 {
-    let s = half_length(t);
+    let s = half_length(radicand);
     let h = 1 << s;
-    let x = t >> s;
+    let x = radicand >> s;
     (266 * h + 1075 * x - 322 * (x * x >> s)) / 1024 + 2
 }
 
 // Two of Newton's steps from there, each of which ends at or above the root. After them a large t's root is less than 1 off.
-fn first_root(t: u64) -> u64
-    requires { ⌜ t < 10 ^ 18 ⌝ }
-    ensures { λ r. ⌜ (t < (r + 1) * (r + 1)) × (r ≤ 1000000000) ⌝ }
+fn first_root(radicand: u64) -> u64
+    requires { ⌜ radicand < 10 ^ 18 ⌝ }
+    ensures { λ r. ⌜ (radicand < (r + 1) * (r + 1)) × (r ≤ 1000000000) ⌝ }
 {
-    let a = near_root(t);
-    let b = (a + t / a) / 2;
-    let r = (b + t / b) / 2;
+    let a = near_root(radicand);
+    let b = (a + radicand / a) / 2;
+    let r = (b + radicand / b) / 2;
     if r < 1_000_000_000 {
         return r;
     }
     1_000_000_000
 }
 
-// The largest r with r * r <= t, by Newton's steps from above. The first guess is almost always the root already.
-pub fn whole_root(t: u64) -> u64
-    requires { ⌜ t < 10 ^ 18 ⌝ }
-    ensures { λ r. ⌜ (r * r ≤ t) × (t < (r + 1) * (r + 1)) ⌝ }
+// The largest r with r * r <= radicand, by Newton's steps from above. The first guess is almost always the root already.
+pub fn whole_root(radicand: u64) -> u64
+    requires { ⌜ radicand < 10 ^ 18 ⌝ }
+    ensures { λ r. ⌜ (r * r ≤ radicand) × (radicand < (r + 1) * (r + 1)) ⌝ }
 {
-    let mut r = first_root(t);
-    while t < r * r {
-        r = (r + t / r) / 2;
+    let mut r = first_root(radicand);
+    while radicand < r * r {
+        r = (r + radicand / r) / 2;
     }
     r
 }
@@ -83,61 +84,58 @@ fn edge(x: u64) -> Three
     wide::times(d, x * x)
 }
 
-// y y t.
-fn reach(y: u64, t: u64) -> Three
-    ensures { λ r. ⌜ three r ≡ square y * t ⌝ }
+// y y radicand.
+fn reach(y: u64, radicand: u64) -> Three
+    ensures { λ r. ⌜ three r ≡ square y * radicand ⌝ }
 {
     let s = wide::product(y, y);
-    wide::times(s, t)
+    wide::times(s, radicand)
 }
 
 // Whether w is at most the value, for a part of the root that is added.
-fn plus_reaches(m: u64, t: u64, g: u64, w: u64) -> bool
+fn plus_reaches(m: u64, radicand: u64, g: u64, w: u64) -> bool
     requires { ⌜ (m ≤ 14348907) × (g ≤ 900000000) × (w ≤ m) ⌝ }
-    ensures { λ r. ⌜ r ≡ plusAt m t g w ⌝ }
+    ensures { λ r. ⌜ r ≡ plusAt m radicand g w ⌝ }
 {
     let v = 2 * w;
     if v <= m {
         return true;
     }
     let left = edge(v - m);
-    let right = reach(m * g, t);
+    let right = reach(m * g, radicand);
     wide::at_most(left, right)
 }
 
 // The same, for a part that is taken away.
-fn minus_reaches(m: u64, t: u64, g: u64, w: u64) -> bool
+fn minus_reaches(m: u64, radicand: u64, g: u64, w: u64) -> bool
     requires { ⌜ (m ≤ 14348907) × (g ≤ 900000000) × (w ≤ m) ⌝ }
-    ensures { λ r. ⌜ r ≡ minusAt m t g w ⌝ }
+    ensures { λ r. ⌜ r ≡ minusAt m radicand g w ⌝ }
 {
     let v = 2 * w;
     if m < v {
         return false;
     }
-    let left = reach(m * g, t);
+    let left = reach(m * g, radicand);
     let right = edge(m - v);
     wide::at_most(left, right)
 }
 
 // Whether w is at most the value.
-fn reaches(m: u64, t: u64, p: Axis, w: u64) -> bool
+fn reaches(m: u64, radicand: u64, p: Axis, w: u64) -> bool
     requires { ⌜ (m ≤ 14348907) × (p .size ≤ 900000000) × (w ≤ m) ⌝ }
-    ensures { λ r. ⌜ r ≡ atMost m t (axisOf p) w ⌝ }
+    ensures { λ r. ⌜ r ≡ atMost m radicand (axisOf p) w ⌝ }
 {
     let minus = p.minus;
     let size = p.size;
     if minus {
         if size > 0 {
-            return minus_reaches(m, t, size, w);
+            return minus_reaches(m, radicand, size, w);
         }
     }
-    plus_reaches(m, t, size, w)
+    plus_reaches(m, radicand, size, w)
 }
 
-// ---- the floor
-
-// 3^15: a floor is taken at the finest resolution, where the divisors are known.
-const FINEST: u64 = 14_348_907;
+// ---- the floor. It is taken at the finest resolution, where the divisors are known
 
 // What a value is counted in, so many of 3^15: 900,000,000,000,000,000 is the middle.
 const UNITS: u64 = 1_800_000_000_000_000_000;
@@ -176,37 +174,41 @@ fn part_of(x: u64) -> Parted
     let whole = x / STEP;
     Parted {
         whole,
-        rest: FINEST * (x % STEP) + OVER * whole,
+        rest: FINEST_ROWS * (x % STEP) + OVER * whole,
     }
 }
 
 // The floor at resolution 15. Where the rest has room for the upper end too, both ends have the same whole part, and it is the floor; elsewhere the
 // floor is the lower end's or the next, and the exact test decides.
-fn finest(t: u64, root: u64, p: Axis) -> u64
-    requires { ⌜ (t < 10 ^ 18) × (p .size ≤ 900000000) × (root * root ≤ t) × (t < (root + 1) * (root + 1)) ⌝ }
-    ensures { λ r. ⌜ (r ≡ rootFloor (3 ^ 15) t (axisOf p)) × (r < 3 ^ 15) ⌝ }
+fn finest(radicand: u64, root: u64, p: Axis) -> u64
+    requires { ⌜ (radicand < 10 ^ 18) × (p .size ≤ 900000000) × (root * root ≤ radicand) × (radicand < (root + 1) * (root + 1)) ⌝ }
+    ensures { λ r. ⌜ (r ≡ rootFloor (3 ^ 15) radicand (axisOf p)) × (r < 3 ^ 15) ⌝ }
 {
     let size = p.size;
     let part = part_of(low_end(root, p));
     let whole = part.whole;
     let rest = part.rest;
-    if rest + FINEST * size < UNITS {
+    if rest + FINEST_ROWS * size < UNITS {
         return whole;
     }
     let low = whole + rest / UNITS;
     let up = low + 1;
-    if reaches(FINEST, t, p, up) { up } else { low }
+    if reaches(FINEST_ROWS, radicand, p, up) {
+        up
+    } else {
+        low
+    }
 }
 
-// The floor of m (1/2 + p h / 1,800,000,000), with m = 3^k, h = sqrt(t) / 10^9 and root the whole root of t: the first digits of that at
+// The floor of m (1/2 + p h / 1,800,000,000), with m = 3^k, h = sqrt(radicand) / 10^9 and root the whole root of radicand: the first digits of that at
 // resolution 15.
-pub fn floor(k: u64, m: u64, t: u64, root: u64, p: Axis) -> u64
-    requires { ⌜ (k ≤ 15) × (m ≡ 3 ^ k) × (t < 10 ^ 18) × (p .size ≤ 900000000) × (root * root ≤ t) × (t < (root + 1) * (root + 1)) ⌝ }
-    ensures { λ r. ⌜ (r ≡ rootFloor (3 ^ k) t (axisOf p)) × (r < 3 ^ k) ⌝ }
+pub fn floor(k: u64, m: u64, radicand: u64, root: u64, p: Axis) -> u64
+    requires { ⌜ (k ≤ 15) × (m ≡ 3 ^ k) × (radicand < 10 ^ 18) × (p .size ≤ 900000000) × (root * root ≤ radicand) × (radicand < (root + 1) * (root + 1)) ⌝ }
+    ensures { λ r. ⌜ (r ≡ rootFloor (3 ^ k) radicand (axisOf p)) × (r < 3 ^ k) ⌝ }
 {
-    let w = finest(t, root, p);
+    let w = finest(radicand, root, p);
     if k < 15 {
-        return w * m / FINEST;
+        return w * m / FINEST_ROWS;
     }
     w
 }

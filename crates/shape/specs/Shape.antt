@@ -1,9 +1,9 @@
 -- The four shapes (01 "Neighbours and shapes"). Assumes nothing.
-use mathlib.Core.Path.{_≡_, refl}
+use mathlib.Core.Path.{_≡_}
 use mathlib.Core.Logic.{_⊎_}
-use mathlib.Core.Bool.{Bool, _&&_, _||_, cond}
+use mathlib.Core.Bool.{_&&_, _||_, cond}
 use Prim.Native.Nat.{ℕ, _+_, _*_, _^_, _≤_}
-use lib.Dec.{eqb, leb, ltb}
+use lib.Dec.{eqb, ltb}
 use Rattle.cell.specs.declared.Cell.{Cell}
 use Rattle.shape.specs.declared.Shape.{Shape}
 use Rattle.shape.specs.declared.Shape.the-variants.{Quad, Cap, Dart, SkewQuad}
@@ -29,7 +29,7 @@ Is Cap c = (Belt c → ⊥) × Middle c
 Is Dart c = (Belt c → ⊥) × (Middle c → ⊥) × Diagonal c
 Is SkewQuad c = (Belt c → ⊥) × (Middle c → ⊥) × (Diagonal c → ⊥)
 
--- ---- the computing form. ShapeLaws shows that it is the one shape that a cell is
+-- ---- the computing form. Laws/Shape shows that it is the one shape that a cell is
 
 unfoldable pub capShape : (m row column : ℕ) → Shape
 capShape m row column =
@@ -41,11 +41,11 @@ unfolding capShape
 shapeOf c = cond (ltb (c .face) 1) (capShape (3 ^ c .resolution) (c .row) (c .column)) (cond (ltb (c .face) 5) Quad (capShape (3 ^ c .resolution) (c .row) (c .column)))
 
 -- the numbers of the public entries
-abbrev pub numberOf : Shape → ℕ
-numberOf Quad = 0
-numberOf Cap = 1
-numberOf Dart = 2
-numberOf SkewQuad = 3
+abbrev pub shapeNumber : Shape → ℕ
+shapeNumber Quad = 0
+shapeNumber Cap = 1
+shapeNumber Dart = 2
+shapeNumber SkewQuad = 3
 
 -- "The number of cells that touch a cell at a corner only is 3 for a dart and 4 for any other shape"
 abbrev pub cornersOf : Shape → ℕ
@@ -53,28 +53,3 @@ cornersOf Quad = 4
 cornersOf Cap = 4
 cornersOf Dart = 3
 cornersOf SkewQuad = 4
-
--- ---- N itself is a cap; of N's children the middle one is a cap, N0 a dart and N1 a skew quad; P0 is a quad
-
-abbrev at : ℕ → ℕ → ℕ → ℕ → Cell
-at face k row column = record { face = face; resolution = k; row = row; column = column }
-
-n : shapeOf (at 0 0 0 0) ≡ Cap
-unfolding shapeOf
-n = refl
-
-n4 : shapeOf (at 0 1 1 1) ≡ Cap
-unfolding shapeOf
-n4 = refl
-
-n0 : shapeOf (at 0 1 0 0) ≡ Dart
-unfolding shapeOf
-n0 = refl
-
-n1 : shapeOf (at 0 1 0 1) ≡ SkewQuad
-unfolding shapeOf
-n1 = refl
-
-p0 : shapeOf (at 2 1 0 0) ≡ Quad
-unfolding shapeOf
-p0 = refl

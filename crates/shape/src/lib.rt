@@ -2,7 +2,7 @@
 ghost use mathlib.Core.Path.{_≡_};
 ghost use Prim.Native.Nat.{_≤_, _<_};
 ghost use Rattle.cell.specs.Cell.{IsCell};
-ghost use Rattle.shape.specs.Shape.{shapeOf, capShape, numberOf, cornersOf};
+ghost use Rattle.shape.specs.Shape.{shapeOf, capShape, shapeNumber, cornersOf};
 use cell::Cell;
 
 pub enum Shape {
@@ -46,7 +46,7 @@ pub fn shape_of(cell: Cell) -> Shape
 
 // Quad 0, cap 1, dart 2, skew quad 3.
 pub fn number(shape: Shape) -> u64
-    ensures { λ r. ⌜ r ≡ numberOf shape ⌝ }
+    ensures { λ r. ⌜ r ≡ shapeNumber shape ⌝ }
 {
     match shape {
         Shape::Quad => 0,

@@ -11,7 +11,7 @@ use borrow.Author.Tests.{ltb-true}
 use mir.Syntax.{w64}
 use mir.Val.{Fits, SFits, toZ, ofZ}
 use mir.Facts.{toZ-pos}
-use Rattle.signed.specs.SignLaws.{back, sub-at}
+use Rattle.signed.specs.Laws.Sign.{back, sub-at}
 
 -- for x below 0, -1 - x is one less than x without its sign
 pub offset : (x : ℤ) → ltZ x (pos 0) ≡ true → negsuc 0 -ℤ x ≡ pos (mag x)

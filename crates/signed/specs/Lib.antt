@@ -1,3 +1,2 @@
+pub mod Laws
 pub mod Sign
-pub mod SignLaws
-pub mod TimesLaws

@@ -1,12 +1,12 @@
 -- A row and a column in one number: those of the first digits and of the last put together, and the number taken apart. Assumes nothing.
 use mathlib.Core.Path.{_≡_, sym, ap₂, _∙_}
-use Prim.Native.Nat.{ℕ, _+_, _*_, _/_, _%_, _^_, _<_}
+use Prim.Native.Nat.{ℕ, _+_, _*_, _/_, _%_, _^_, _≤_, _<_}
 use native.Mathlib.Nat.{add-mul, mul-right-comm}
 use native.Mathlib.Omega.{arith}
 use Rattle.ternary.specs.Weave.{rowIn, columnIn, bothIn}
-use Rattle.ternary.specs.WeaveLaws.{row-small, column-small, row-split, column-split, row-last, column-last}
+use Rattle.ternary.specs.Laws.Weave.{row-small, column-small, row-split, column-split, row-last, column-last}
 
-pub both-small : (k p : ℕ) → bothIn k p < 3 ^ k * 4294967297
+both-small : (k p : ℕ) → bothIn k p < 3 ^ k * 4294967297
 both-small k p = let r = row-small k p in let c = column-small k p in omega arith
 
 each-by-itself : (t a b c d : ℕ) → (a + b * 2 ^ 32) * t + (c + d * 2 ^ 32) ≡ (a * t + c) + (b * t + d) * 2 ^ 32
@@ -20,6 +20,11 @@ both-split k r p f l =
     ∙ each-by-itself (3 ^ r) i j (rowIn r (p % 9 ^ r)) (columnIn r (p % 9 ^ r))
     ∙ ap₂ (λ (x y : ℕ). (i * 3 ^ r + x) + (j * 3 ^ r + y) * 2 ^ 32) (row-last r p) (column-last r p)
     ∙ sym (ap₂ (λ (x y : ℕ). x + y * 2 ^ 32) (row-split k r p) (column-split k r p))
+
+-- and it fits a word
+pub both-fits :
+    (k r p : ℕ) {a b : ℕ} → 3 ^ (k + r) * 4294967297 ≤ 2 ^ 64 → a ≡ bothIn k (p / 9 ^ r) → b ≡ bothIn r (p % 9 ^ r) → a * 3 ^ r + b < 2 ^ 64
+both-fits k r p l f s = let e = both-split k r p f s in let h = both-small (k + r) p in omega arith
 
 pub both-apart : {n : ℕ} (p : ℕ) → n ≡ bothIn 16 p → (n % 2 ^ 32 ≡ rowIn 16 p) × (n / 2 ^ 32 ≡ columnIn 16 p)
 both-apart p e = let h = row-small 16 p in (omega arith, omega arith)

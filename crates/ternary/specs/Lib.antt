@@ -1,6 +1,4 @@
-pub mod Powers
 pub mod Digits
-pub mod DigitLaws
+pub mod Internal
+pub mod Laws
 pub mod Weave
-pub mod WeaveLaws
-pub mod Parts

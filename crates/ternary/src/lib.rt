@@ -3,10 +3,13 @@
 // looked up, and the row and the column stand in one number.
 ghost use mathlib.Core.Path.{_≡_};
 ghost use Prim.Native.Nat.{_*_, _/_, _%_, _^_, _≤_, _<_};
-ghost use Rattle.ternary.specs.Parts.{parts, quarters, bits};
+ghost use Rattle.ternary.specs.Internal.Parts.{parts, quarters, bits};
 ghost use Rattle.ternary.specs.Weave.{weave, rowIn, columnIn, bothIn};
 
 mod digits;
+
+// 3^15, the rows of a face at the finest resolution.
+pub const FINEST_ROWS: u64 = 14_348_907;
 
 // 3^e.
 pub fn power(e: u64) -> u64
@@ -29,7 +32,7 @@ pub fn power(e: u64) -> u64
         12 => 531_441,
         13 => 1_594_323,
         14 => 4_782_969,
-        _ => 14_348_907,
+        _ => FINEST_ROWS,
     }
 }
 
@@ -38,24 +41,8 @@ pub fn nine_power(e: u64) -> u64
     requires { ⌜ e ≤ 15 ⌝ }
     ensures { λ r. ⌜ r ≡ 9 ^ e ⌝ }
 {
-    match e {
-        0 => 1,
-        1 => 9,
-        2 => 81,
-        3 => 729,
-        4 => 6_561,
-        5 => 59_049,
-        6 => 531_441,
-        7 => 4_782_969,
-        8 => 43_046_721,
-        9 => 387_420_489,
-        10 => 3_486_784_401,
-        11 => 31_381_059_609,
-        12 => 282_429_536_481,
-        13 => 2_541_865_828_329,
-        14 => 22_876_792_454_961,
-        _ => 205_891_132_094_649,
-    }
+    let root = power(e);
+    root * root
 }
 
 // A number of sixteen ternary digits, four digits to a part.

@@ -12,9 +12,9 @@ use Rattle.logic.specs.Refusal.{refuse, given}
 use Rattle.logic.specs.Rise.{Rise}
 use Rattle.track.specs.declared.Added.{Added}
 use Rattle.track.specs.declared.Added.the-variants.{Count, Refused}
-use Rattle.logic.specs.Order.{lt-or}
+use Rattle.logic.specs.Laws.Order.{lt-or}
 use Rattle.track.specs.Track.{Held, inserted, numberBelow, addRefusal, counted, added, heldAfter, memory}
-use Rattle.track.specs.TrackLaws.{inserted-rises}
+use Rattle.track.specs.Laws.Track.{inserted-rises}
 use Rattle.track.proofs.Laws.{place-within, inserted-held, inserted-new}
 
 refused-8 : (room : ℕ) (held : List ℕ) (code : ℕ) → room < length (inserted code held) → addRefusal room held code ≡ 8
@@ -26,11 +26,15 @@ unfolding addRefusal
 not-refused room held code h = ap (λ (b : Bool). refuse b 8) (le-ltb room (length (inserted code held)) h)
 
 -- nothing is refused
-taken : (codes held : List ℕ) (code n : ℕ) → n ≡ length (inserted code held) → n ≤ length codes → (Count n ≡ added (length codes) held code) × (inserted code held ++ drop n codes ≡ memory codes held code)
+taken : (codes held : List ℕ) (code n : ℕ) → n ≡ length (inserted code held) → n ≤ length codes → (Count n ≡ added (length codes) held code) ×
+    (inserted code held ++ drop n codes ≡ memory codes held code)
 unfolding counted memory given
 taken codes held code n e h =
-    let z : addRefusal (length codes) held code ≡ 0 = not-refused (length codes) held code (omega arith) in
-    (ap Count e ∙ sym (ap (λ (r : ℕ). counted r (length (inserted code held))) z), ap (λ (k : ℕ). inserted code held ++ drop k codes) e ∙ sym (ap (λ (r : ℕ). given r (inserted code held ++ drop (length (inserted code held)) codes) codes) z))
+    let z : addRefusal (length codes) held code ≡ 0 = not-refused (length codes) held code (omega arith) in (
+      ap Count e ∙ sym (ap (λ (r : ℕ). counted r (length (inserted code held))) z),
+      ap (λ (k : ℕ). inserted code held ++ drop k codes) e ∙ sym
+          (ap (λ (r : ℕ). given r (inserted code held ++ drop (length (inserted code held)) codes) codes) z),
+    )
 
 -- refused with 8
 full : (codes held : List ℕ) (code : ℕ) → length codes < length (inserted code held) → (Refused 8 ≡ added (length codes) held code) × (codes ≡ memory codes held code)
@@ -58,9 +62,16 @@ held-after codes count code h =
     in-front xs ys r = record { fits = omega (arith, length-append xs ys); rises = subst Rise (sym (take-at xs ys (length xs) refl)) r }
 
 -- so an answer is one of `add`
-pub answered : (codes : List ℕ) (count code : ℕ) (r : Added) (exit : List ℕ) → Held codes count → (r ≡ added (length codes) (take count codes) code) × (exit ≡ memory codes (take count codes) code) → (r ≡ added (length codes) (take count codes) code) × ((exit ≡ memory codes (take count codes) code) × Held exit (heldAfter r count))
-answered codes count code r exit h e =
-    (e .0, (e .1, subst (λ (x : List ℕ). Held x (heldAfter r count)) (sym (e .1)) (subst (λ (a : Added). Held (memory codes (take count codes) code) (heldAfter a count)) (sym (e .0)) (held-after codes count code h))))
+pub answered : (codes : List ℕ) (count code : ℕ) (r : Added) (exit : List ℕ) → Held codes count → (r ≡ added (length codes) (take count codes) code) ×
+    (exit ≡ memory codes (take count codes) code) → (r ≡ added (length codes) (take count codes) code) × ((exit ≡ memory codes (take count codes) code) × Held exit (heldAfter r count))
+answered codes count code r exit h e = (
+  e .0,
+  (
+    e .1,
+    subst (λ (x : List ℕ). Held x (heldAfter r count)) (sym (e .1)) (subst (λ (a : Added). Held (memory codes (take count codes) code) (heldAfter a count)) (sym (e .0))
+        (held-after codes count code h)),
+  ),
+)
 
 module _ (codes : List ℕ) (count code place : ℕ) (h : count ≤ length codes) (e : place ≡ numberBelow code (take count codes)) where
   long : length (take count codes) ≡ count
@@ -102,10 +113,14 @@ module _ (codes : List ℕ) (count code place : ℕ) (h : count ≤ length codes
         ∙ omega (arith, length-take-le place codes (omega arith), length-take-le (count - place) (drop place codes) (omega arith))
 
     -- there is room for it
-    pub was-new : (exit : List ℕ) → count < length codes → exit ≡ take place codes ++ (code ∷ (take (count - place) (drop place codes) ++ drop (count + 1) codes)) → (Count (count + 1) ≡ added (length codes) (take count codes) code) × (exit ≡ memory codes (take count codes) code)
+    pub was-new : (exit : List ℕ) → count < length codes → exit ≡ take place codes ++ (code ∷ (take (count - place) (drop place codes) ++ drop (count + 1) codes)) →
+        (Count (count + 1) ≡ added (length codes) (take count codes) code) × (exit ≡ memory codes (take count codes) code)
     was-new exit r x =
-        let t = taken codes (take count codes) code (count + 1) (sym more) (omega arith) in
-        (t .0, x ∙ sym (append-assoc (take place codes) (code ∷ take (count - place) (drop place codes)) (drop (count + 1) codes)) ∙ ap (λ (y : List ℕ). y ++ drop (count + 1) codes) (sym put) ∙ t .1)
+        let t = taken codes (take count codes) code (count + 1) (sym more) (omega arith) in (
+          t .0,
+          x ∙ sym (append-assoc (take place codes) (code ∷ take (count - place) (drop place codes)) (drop (count + 1) codes)) ∙ ap
+              (λ (y : List ℕ). y ++ drop (count + 1) codes) (sym put) ∙ t .1,
+        )
 
     -- there is none
     pub no-room : length codes ≤ count → (Refused 8 ≡ added (length codes) (take count codes) code) × (codes ≡ memory codes (take count codes) code)

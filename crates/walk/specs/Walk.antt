@@ -1,13 +1,14 @@
--- The walk over the body of a text, byte by byte (01 "The coverage text"). WalkLaws shows that it gives the text's whole cells in the order they
+-- The walk over the body of a text, byte by byte (01 "The coverage text"). Laws/Walk shows that it gives the text's whole cells in the order they
 -- stand. Assumes nothing.
 use mathlib.Core.Path.{_≡_}
 use mathlib.Core.Bool.{Bool, true, false, _&&_, not, cond}
-use mathlib.Core.List.{List, [], _∷_}
+use mathlib.Core.List.{List, [], _∷_, _++_}
 use Prim.Native.Nat.{ℕ, _+_, _-_, _*_, _/_, _^_, _≤_, _<_}
 use lib.ListN.{length, drop}
 use lib.Dec.{eqb, ltb}
 use Rattle.cell.specs.declared.Cell.{Cell}
 use Rattle.code.specs.Number.{numberOf}
+use Rattle.reading.specs.Reading.{Nodes, end, whole, listed}
 use Rattle.walk.specs.declared.Spot.{Spot}
 
 -- the cell of resolution k and number n
@@ -72,3 +73,17 @@ pub record Walks (t : List ℕ) (i : ℕ) (s : Spot) : Type 0 where
   pub within : i ≤ length t
   pub fits : Fits s
   pub goes : goes s (drop i t) ≡ true
+
+-- ---- along nodes
+
+-- the spots of the whole cells in nodes of resolution k, in a cell of number p
+unfoldable pub spotsIn : ℕ → ℕ → Nodes → List Spot
+spotsIn k p end = []
+spotsIn k p (whole c ns) = spot k (p * 9 + c) ∷ spotsIn k p ns
+spotsIn k p (listed c is ns) = spotsIn (k + 1) (p * 9 + c) is ++ spotsIn k p ns
+
+-- the number at which the walk stands behind them, where it stood at p before them
+unfoldable pub lastIn : ℕ → Nodes → ℕ
+lastIn p end = p
+lastIn p (whole c ns) = lastIn (p / 9 * 9 + c) ns
+lastIn p (listed c is ns) = lastIn (p / 9 * 9 + c) ns

@@ -7,7 +7,7 @@ use native.Mathlib.Omega.{arith}
 use lib.Arith.{digits-lt}
 use lib.Dec.{leb}
 use borrow.Author.Tests.{le-leb, lt-leb}
-use Rattle.logic.specs.Order.{lt-or}
+use Rattle.logic.specs.Laws.Order.{lt-or}
 
 -- ---- products
 
@@ -17,7 +17,8 @@ expand P x₁ x₀ y₁ y₀ = simp (mul-add, add-mul, mul-assoc, mul-comm, mul-
 
 -- the four products of halves
 pub halves : (a b : ℕ)
-    → a * b ≡ a / 4294967296 * (b / 4294967296) * 18446744073709551616 + a / 4294967296 * (b % 4294967296) * 4294967296 + a % 4294967296 * (b / 4294967296) * 4294967296 + a % 4294967296 * (b % 4294967296)
+    → a * b ≡ a / 4294967296 * (b / 4294967296) * 18446744073709551616 + a / 4294967296 * (b % 4294967296) * 4294967296 + a % 4294967296 * (b / 4294967296) * 4294967296 + a % 4294967296
+    * (b % 4294967296)
 halves a b =
     ap₂ _*_ (sym (div-add-mod' a 4294967296)) (sym (div-add-mod' b 4294967296))
     ∙ expand 4294967296 (a / 4294967296) (a % 4294967296) (b / 4294967296) (b % 4294967296)
@@ -34,7 +35,8 @@ room U h l a b p e x y =
     (lt-of-le-of-lt (mul-le-mul x y) (mul-lt-mul-of-pos-left {m = U} {n = suc U} {k = U} (lt-suc-self U) p)))
 
 -- the words of (a₁ W + a₀) b, from those of a₀ b, of a₁ b and of the middle sum
-pub columns : (W h₁ h₀ l₁ l₀ c m a₁ a₀ b : ℕ) → l₁ * W + l₀ ≡ a₀ * b → h₁ * W + h₀ ≡ a₁ * b → c * W + m ≡ l₁ + h₀ → ((h₁ + c) * W + m) * W + l₀ ≡ (a₁ * W + a₀) * b
+pub columns : (W h₁ h₀ l₁ l₀ c m a₁ a₀ b : ℕ) → l₁ * W + l₀ ≡ a₀ * b → h₁ * W + h₀ ≡ a₁ * b → c * W + m ≡ l₁ + h₀ →
+    ((h₁ + c) * W + m) * W + l₀ ≡ (a₁ * W + a₀) * b
 columns W h₁ h₀ l₁ l₀ c m a₁ a₀ b e f g =
     let s₁ : (h₁ + c) * W ≡ h₁ * W + c * W = add-mul h₁ c W in
     let u : (h₁ + c) * W + m ≡ a₁ * b + l₁ = omega arith in

@@ -2,28 +2,27 @@
 use mathlib.Core.Path.{_≡_, refl, sym, ap, ap₂, _∙_}
 use mathlib.Core.Bool.{Bool, true, false, _&&_, not}
 use mathlib.Core.Logic.{_⊎_, inl, inr, ⊎-elim}
-use mathlib.Core.List.{List, [], _∷_, _++_}
-use Prim.Native.Nat.{ℕ, zero, suc, _+_, _-_, _*_, _/_, _^_, _≤_, _<_}
+use mathlib.Core.List.{List, [], _∷_}
+use Prim.Native.Nat.{ℕ, zero, suc, _+_, _-_, _*_, _^_, _≤_, _<_}
 use native.Mathlib.Numerals.{add-one}
 use native.Mathlib.Omega.{arith}
 use lib.Dec.{leb, ltb}
 use lib.ListN.{length, drop, getD, set, length-drop, drop-of-length-le}
 use lib.Seq.{sets, drop-cons}
 use borrow.Author.Tests.{lt-ltb, le-ltb, ltb-true, ltb-false, le-leb, lt-leb}
-use Rattle.logic.specs.Order.{lt-or}
+use Rattle.logic.specs.Laws.Order.{lt-or}
 use Rattle.logic.specs.Refusal.{refuse, _otherwise_, given}
-use Rattle.logic.specs.RefusalLaws.{stops, passes}
+use Rattle.logic.specs.Laws.Refusal.{stops, passes}
 use Rattle.cell.specs.declared.Arrangement.{Arrangement}
 use Rattle.cell.specs.Cell.{arrangementRefusal}
 use Rattle.code.specs.Code.{cellOf, isCode, sizeOf}
-use Rattle.code.specs.CodeLaws.{code-is-cell, code-cell}
-use Rattle.code.specs.Inside.{startOf, endOf}
-use Rattle.code.specs.InsideLaws.{start-at, end-small, size-pos}
+use Rattle.code.specs.Laws.Code.{code-is-cell, code-cell}
+use Rattle.code.specs.Inside.{startOf, endOf, liesWithin}
+use Rattle.code.specs.Laws.Inside.{code-start, end-small, size-pos}
 use Rattle.reading.specs.Text.{heading}
-use Rattle.writing.specs.declared.Written.{Written}
 use Rattle.writing.specs.declared.Written.the-variants.{Length, Refused}
-use Rattle.writing.specs.WriteEntry.{allCodes, lies, ordered, listRefusal, textOf, writeRefusal, textIn, written}
-use Rattle.writing.specs.ListLaws.{not-lies}
+use Rattle.writing.specs.Write.{allCodes, ordered, codesRefusal, textOf, writeRefusal, written}
+use Rattle.writing.specs.Laws.List.{not-lies}
 
 -- ---- the tests of the list
 
@@ -45,15 +44,15 @@ and-three false b c = refl
 pub order-step :
     (codes : List ℕ) (i : ℕ) → i + 1 < length codes →
     ordered (drop i codes) ≡
-    ((ltb (getD codes i 0) (getD codes (i + 1) 0) && not (lies (cellOf (getD codes i 0)) (cellOf (getD codes (i + 1) 0)))) && ordered (drop (i + 1) codes))
+    ((ltb (getD codes i 0) (getD codes (i + 1) 0) && not (liesWithin (cellOf (getD codes i 0)) (cellOf (getD codes (i + 1) 0)))) && ordered (drop (i + 1) codes))
 unfolding ordered
 order-step codes i h =
     let c : ℕ = getD codes i 0 in
     let x : ℕ = getD codes (i + 1) 0 in
     let e : drop (i + 1) codes ≡ x ∷ drop (i + 1 + 1) codes = drop-at codes (i + 1) h in
     ap ordered (drop-at codes i (omega arith) ∙ ap (λ (cs : List ℕ). c ∷ cs) e)
-    ∙ and-three (ltb c x) (not (lies (cellOf c) (cellOf x))) (ordered (x ∷ drop (i + 1 + 1) codes))
-    ∙ ap (λ (cs : List ℕ). (ltb c x && not (lies (cellOf c) (cellOf x))) && ordered cs) (sym e)
+    ∙ and-three (ltb c x) (not (liesWithin (cellOf c) (cellOf x))) (ordered (x ∷ drop (i + 1 + 1) codes))
+    ∙ ap (λ (cs : List ℕ). (ltb c x && not (liesWithin (cellOf c) (cellOf x))) && ordered cs) (sym e)
 
 short-order : (codes : List ℕ) → length codes ≤ 1 → ordered codes ≡ true
 unfolding ordered
@@ -67,19 +66,20 @@ order-end codes i h = short-order (drop i codes) (rw (length-drop i codes) (omeg
 -- two codes: the second comes after the first and not inside where its cell starts at the end of the first one's, or later
 after :
     (c x : ℕ) → isCode c ≡ true → isCode x ≡ true →
-    (ltb c x && not (lies (cellOf c) (cellOf x))) ≡ leb (startOf (cellOf c) + sizeOf (cellOf c)) (startOf (cellOf x))
+    (ltb c x && not (liesWithin (cellOf c) (cellOf x))) ≡ leb (startOf (cellOf c) + sizeOf (cellOf c)) (startOf (cellOf x))
 unfolding endOf
 after c x i j = go (ltb c x) refl
   where
     go :
         (b : Bool) → ltb c x ≡ b →
-        (b && not (lies (cellOf c) (cellOf x))) ≡ leb (startOf (cellOf c) + sizeOf (cellOf c)) (startOf (cellOf x))
+        (b && not (liesWithin (cellOf c) (cellOf x))) ≡ leb (startOf (cellOf c) + sizeOf (cellOf c)) (startOf (cellOf x))
     go true e =
         let h : c < x = ltb-true c x e in
         not-lies (cellOf c) (cellOf x) (code-is-cell c i) (code-is-cell x j) (omega (arith, code-cell c i, code-cell x j))
     go false e =
         let h : x ≤ c = ltb-false c x e in
-        sym (lt-leb (startOf (cellOf c) + sizeOf (cellOf c)) (startOf (cellOf x)) (omega (arith, start-at c i, start-at x j, size-pos (cellOf c))))
+        let r = code-start (cellOf x) (cellOf c) (code-is-cell x j) (code-is-cell c i) (omega (arith, code-cell c i, code-cell x j)) in
+        sym (lt-leb (startOf (cellOf c) + sizeOf (cellOf c)) (startOf (cellOf x)) (omega (arith, r, size-pos (cellOf c))))
 
 -- where a cell ends is a small number
 pub end-small-at : (c : ℕ) {start size : ℕ} → isCode c ≡ true → start ≡ startOf (cellOf c) → size ≡ sizeOf (cellOf c) → start + size < 2 ^ 64
@@ -91,16 +91,16 @@ end-small-at c t s z =
 
 -- ---- the refusals of the list
 
-pub four : (codes : List ℕ) → allCodes codes ≡ false → 4 ≡ listRefusal codes
-unfolding listRefusal _otherwise_
+pub four : (codes : List ℕ) → allCodes codes ≡ false → 4 ≡ codesRefusal codes
+unfolding codesRefusal _otherwise_
 four codes e = sym (ap (λ (b : Bool). refuse (not b) 4 otherwise refuse (not (ordered codes)) 11) e)
 
-pub eleven : (codes : List ℕ) → allCodes codes ≡ true → ordered codes ≡ false → 11 ≡ listRefusal codes
-unfolding listRefusal _otherwise_
+pub eleven : (codes : List ℕ) → allCodes codes ≡ true → ordered codes ≡ false → 11 ≡ codesRefusal codes
+unfolding codesRefusal _otherwise_
 eleven codes e f = sym (ap₂ (λ (b o : Bool). refuse (not b) 4 otherwise refuse (not o) 11) e f)
 
-pub none : (codes : List ℕ) → allCodes codes ≡ true → ordered codes ≡ true → 0 ≡ listRefusal codes
-unfolding listRefusal _otherwise_
+pub none : (codes : List ℕ) → allCodes codes ≡ true → ordered codes ≡ true → 0 ≡ codesRefusal codes
+unfolding codesRefusal _otherwise_
 none codes e f = sym (ap₂ (λ (b o : Bool). refuse (not b) 4 otherwise refuse (not o) 11) e f)
 
 -- ---- the codes, one after the other
@@ -120,10 +120,10 @@ pub judge-starts : (codes : List ℕ) → Judged codes 0 0 0
 judge-starts codes = record { to = omega arith; coded = refl; order = inl (refl, refl); first = λ h. refl; last = λ h. absurd (omega arith) }
 
 module _ {codes : List ℕ} {i refusal end : ℕ} (v : Judged codes i refusal end) where
-  pub judge-four : i < length codes → isCode (codeAt codes i) ≡ false → 4 ≡ listRefusal codes
+  pub judge-four : i < length codes → isCode (codeAt codes i) ≡ false → 4 ≡ codesRefusal codes
   judge-four h e = four codes (v .coded ∙ codes-step codes i h ∙ ap (λ (b : Bool). b && allCodes (drop (i + 1) codes)) e)
 
-  pub judge-ends : length codes ≤ i → refusal ≡ listRefusal codes
+  pub judge-ends : length codes ≤ i → refusal ≡ codesRefusal codes
   judge-ends h =
       let a : allCodes codes ≡ true = v .coded ∙ codes-end codes i h in
       ⊎-elim (λ o. o .0 ∙ none codes a (o .1 ∙ order-end codes (i - 1) (omega arith))) (λ o. o .0 ∙ eleven codes a (o .1)) (v .order)
@@ -201,22 +201,22 @@ module _ (a : Arrangement) (codes : List ℕ) (room : ℕ) where
   first h = stops (arrangementRefusal a) _ h
 
   module _ (e : arrangementRefusal a ≡ 0) where
-    pub second : (listRefusal codes ≡ 0 → ⊥) → writeRefusal a codes room ≡ listRefusal codes
+    pub second : (codesRefusal codes ≡ 0 → ⊥) → writeRefusal a codes room ≡ codesRefusal codes
     unfolding writeRefusal rest
-    second h = passes (listRefusal codes otherwise rest) e ∙ stops (listRefusal codes) rest h
+    second h = passes (codesRefusal codes otherwise rest) e ∙ stops (codesRefusal codes) rest h
 
-    last : listRefusal codes ≡ 0 → writeRefusal a codes room ≡ rest
+    last : codesRefusal codes ≡ 0 → writeRefusal a codes room ≡ rest
     unfolding writeRefusal rest
-    last f = passes (listRefusal codes otherwise rest) e ∙ passes rest f
+    last f = passes (codesRefusal codes otherwise rest) e ∙ passes rest f
 
-    pub third : listRefusal codes ≡ 0 → 65536 < length (textOf a codes) → writeRefusal a codes room ≡ 13
+    pub third : codesRefusal codes ≡ 0 → 65536 < length (textOf a codes) → writeRefusal a codes room ≡ 13
     unfolding rest _otherwise_
     third f h = last f ∙ rw (lt-ltb 65536 (length (textOf a codes)) h) refl
 
-    pub fourth : listRefusal codes ≡ 0 → length (textOf a codes) ≤ 65536 → room < length (textOf a codes) → writeRefusal a codes room ≡ 8
+    pub fourth : codesRefusal codes ≡ 0 → length (textOf a codes) ≤ 65536 → room < length (textOf a codes) → writeRefusal a codes room ≡ 8
     unfolding rest _otherwise_
     fourth f g h = last f ∙ rw (le-ltb 65536 (length (textOf a codes)) g, lt-ltb room (length (textOf a codes)) h) refl
 
-    pub nothing : listRefusal codes ≡ 0 → length (textOf a codes) ≤ 65536 → length (textOf a codes) ≤ room → writeRefusal a codes room ≡ 0
+    pub nothing : codesRefusal codes ≡ 0 → length (textOf a codes) ≤ 65536 → length (textOf a codes) ≤ room → writeRefusal a codes room ≡ 0
     unfolding rest _otherwise_
     nothing f g h = last f ∙ rw (le-ltb 65536 (length (textOf a codes)) g, le-ltb room (length (textOf a codes)) h) refl

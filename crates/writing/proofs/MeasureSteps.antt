@@ -5,88 +5,93 @@ use mathlib.Core.Logic.{⊎-elim}
 use mathlib.Core.List.{List}
 use native.Mathlib.Nat.{suc-mul, add-assoc}
 use native.Mathlib.Omega.{arith}
-use lib.ListN.{length, getD}
-use Rattle.logic.specs.Order.{lt-or}
-use Rattle.writing.specs.declared.Taken.{Taken}
-use Rattle.writing.specs.Measure.{AtHand, NodeAt, NodeTakes, NodeMeasured, ListMeasured}
-use Rattle.writing.specs.MeasureLaws.{node-finest, node-exact, node-list, node-nine, node-held, list-none, list-node, list-rest, list-in, all-later, list-skip, list-out}
+use lib.ListN.{length}
+use Rattle.code.specs.Code.{sizeOf}
+use Rattle.code.specs.Inside.{startOf}
+use Rattle.logic.specs.Laws.Order.{lt-or}
+use Rattle.writing.specs.declared.Measure.{Measure}
+use Rattle.writing.specs.Internal.Measure.{nextCell, StartAtPlace, NodeAt, NodeTakes, NodeMeasured, ListMeasured}
+use Rattle.writing.specs.Internal.MeasureLaws.{node-finest, node-same, node-list, node-nine, node-held, list-none, list-node, list-rest, list-in, all-later, list-skip, list-out}
 
 -- ---- a node
 
-pub n-finest : {codes : List ℕ} {at cell size : ℕ} → at < length codes → 0 < size → size < 9 → NodeMeasured codes at cell size (record { next = at + 1; bytes = 1; wholes = 1 })
-n-finest {codes} {at} {cell} {size} h z l =
-    record { is = λ w k s. node-finest codes at w cell size k s h l; inside = omega arith; short = omega arith; few = omega arith; finest = λ l. refl }
+pub n-finest : {codes : List ℕ} {at start size : ℕ} → at < length codes → 0 < size → size < 9 → NodeMeasured codes at start size (record { next = at + 1; bytes = 1; wholes = 1 })
+n-finest {codes} {at} {start} {size} h z l =
+    record { is = λ w k s. node-finest codes at w start size k s h l; inside = omega arith; short = omega arith; few = omega arith }
 
-pub n-exact : {codes : List ℕ} {at cell size : ℕ} → at < length codes → 0 < size → getD codes at 0 ≡ cell → NodeMeasured codes at cell size (record { next = at + 1; bytes = 1; wholes = 1 })
-n-exact {codes} {at} {cell} {size} h z e =
-    record { is = λ w k s. node-exact codes at w cell size k s h e; inside = omega arith; short = omega arith; few = omega arith; finest = λ l. refl }
+pub n-same :
+    {codes : List ℕ} {at start size : ℕ} → at < length codes → 0 < size → sizeOf (nextCell codes at) ≡ size →
+    NodeMeasured codes at start size (record { next = at + 1; bytes = 1; wholes = 1 })
+n-same {codes} {at} {start} {size} h z e =
+    record { is = λ w k s. node-same codes at w start size k s h e; inside = omega arith; short = omega arith; few = omega arith }
 
-module _ {codes : List ℕ} {at cell size : ℕ} {r : Taken} (h : at < length codes) (z : 9 ≤ size) (n : getD codes at 0 ≡ cell → ⊥) (m : ListMeasured codes at 9 (cell + 1) (size / 9) r) where
-  pub n-nine : r .wholes ≡ 9 → NodeMeasured codes at cell size (record { next = r .next; bytes = 1; wholes = 1 })
-  n-nine e = record { is = go; inside = m .inside; short = omega arith; few = omega arith; finest = λ l. refl }
+module _ {codes : List ℕ} {at start size : ℕ} {r : Measure} (h : at < length codes) (z : 9 ≤ size) (n : sizeOf (nextCell codes at) ≡ size → ⊥)
+    (m : ListMeasured codes at 9 start (size / 9) r) where
+  pub n-nine : r .wholes ≡ 9 → NodeMeasured codes at start size (record { next = r .next; bytes = 1; wholes = 1 })
+  n-nine e = record { is = go; inside = m .inside; short = omega arith; few = omega arith }
     where
-      go : (w : List ℕ) (k : ℕ) → NodeAt codes at w cell size k → NodeTakes codes at w k (r .next) 1 1
+      go : (w : List ℕ) (k : ℕ) → NodeAt codes at w start size k → NodeTakes codes at w k (r .next) 1 1
       go w zero s = absurd (omega (arith, s .sized))
-      go w (suc k) s = node-nine codes at w cell size k s h n (r .next) (r .bytes) (r .wholes) (m .is w 0 k (node-list codes at w cell size k s h n)) e
+      go w (suc k) s = node-nine codes at w start size k s h n (r .next) (r .bytes) (r .wholes) (m .is w 0 k (node-list codes at w start size k s h n)) e
 
-  pub n-held : (r .wholes ≡ 9 → ⊥) → NodeMeasured codes at cell size (record { next = r .next; bytes = 3 + r .bytes; wholes = 0 })
-  n-held e = record { is = go; inside = m .inside; short = omega (arith, m .short); few = omega arith; finest = λ l. absurd (omega arith) }
+  pub n-held : (r .wholes ≡ 9 → ⊥) → NodeMeasured codes at start size (record { next = r .next; bytes = 3 + r .bytes; wholes = 0 })
+  n-held e = record { is = go; inside = m .inside; short = omega (arith, m .short); few = omega arith }
     where
-      go : (w : List ℕ) (k : ℕ) → NodeAt codes at w cell size k → NodeTakes codes at w k (r .next) (3 + r .bytes) 0
+      go : (w : List ℕ) (k : ℕ) → NodeAt codes at w start size k → NodeTakes codes at w k (r .next) (3 + r .bytes) 0
       go w zero s = absurd (omega (arith, s .sized))
-      go w (suc k) s = node-held codes at w cell size k s h n (r .next) (r .bytes) (r .wholes) (m .is w 0 k (node-list codes at w cell size k s h n)) e
+      go w (suc k) s = node-held codes at w start size k s h n (r .next) (r .bytes) (r .wholes) (m .is w 0 k (node-list codes at w start size k s h n)) e
 
 -- ---- a list
 
-pub l-none : {codes : List ℕ} {at left cell size : ℕ} → at ≤ length codes → left ≡ 0 → ListMeasured codes at left cell size (record { next = at; bytes = 0; wholes = 0 })
-l-none {codes} {at} {left} {cell} {size} h e =
+pub l-none : {codes : List ℕ} {at left start size : ℕ} → at ≤ length codes → left ≡ 0 → ListMeasured codes at left start size (record { next = at; bytes = 0; wholes = 0 })
+l-none {codes} {at} {left} {start} {size} h e =
     rw e
-    (record { is = λ w c k s. list-none codes at w c cell size k s; inside = h; short = omega arith; few = omega arith })
+    (record { is = λ w c k s. list-none codes at w c start size k s; inside = h; short = omega arith; few = omega arith })
 
 pub less : (n : ℕ) → suc n - 1 ≡ n
 less n = omega arith
 
 l-in-suc :
-    (codes : List ℕ) (at left cell size : ℕ) (n r : Taken) → at < length codes → getD codes at 0 / 16 < cell / 16 + size →
-    NodeMeasured codes at cell size n → ListMeasured codes (n .next) left (cell + 16 * size) size r →
-    ListMeasured codes at (suc left) cell size (record { next = r .next; bytes = n .bytes + r .bytes; wholes = n .wholes + r .wholes })
-l-in-suc codes at left cell size n r h l m u =
+    (codes : List ℕ) (at left start size : ℕ) (n r : Measure) → at < length codes → startOf (nextCell codes at) < start + size →
+    NodeMeasured codes at start size n → ListMeasured codes (n .next) left (start + size) size r →
+    ListMeasured codes at (suc left) start size (record { next = r .next; bytes = n .bytes + r .bytes; wholes = n .wholes + r .wholes })
+l-in-suc codes at left start size n r h l m u =
     record {
       is =
           λ w c k s.
-          let t = m .is _ k (list-node codes at w c left cell size k s h l) in
-          list-in codes at w c left cell size k s t (u .is w (suc c) k (list-rest codes at w c left cell size k s t));
+          let t = m .is _ k (list-node codes at w c left start size k s h l) in
+          list-in codes at w c left start size k s t (u .is w (suc c) k (list-rest codes at w c left start size k s t));
       inside = u .inside;
       short = omega (arith, m .short, u .short, suc-mul left (2 * size));
       few = omega (arith, m .few, u .few);
     }
 
 pub l-in :
-    {codes : List ℕ} {at : ℕ} (left : ℕ) {cell size : ℕ} {n r : Taken} → at < length codes → (left ≡ 0 → ⊥) → getD codes at 0 / 16 < cell / 16 + size →
-    NodeMeasured codes at cell size n → ListMeasured codes (n .next) (left - 1) (cell + 16 * size) size r →
-    ListMeasured codes at left cell size (record { next = r .next; bytes = n .bytes + r .bytes; wholes = n .wholes + r .wholes })
+    {codes : List ℕ} {at : ℕ} (left : ℕ) {start size : ℕ} {n r : Measure} → at < length codes → (left ≡ 0 → ⊥) → startOf (nextCell codes at) < start + size →
+    NodeMeasured codes at start size n → ListMeasured codes (n .next) (left - 1) (start + size) size r →
+    ListMeasured codes at left start size (record { next = r .next; bytes = n .bytes + r .bytes; wholes = n .wholes + r .wholes })
 l-in zero h z l m u = absurd (z refl)
-l-in {codes} {at} (suc left) {cell} {size} {n} {r} h z l m u = l-in-suc codes at left cell size n r h l m (rw (less left) at u)
+l-in {codes} {at} (suc left) {start} {size} {n} {r} h z l m u = l-in-suc codes at left start size n r h l m (rw (less left) at u)
 
 l-out-suc :
-    (codes : List ℕ) (at left cell size : ℕ) (r : Taken) → 0 < size → (at < length codes → getD codes at 0 / 16 < cell / 16 + size → ⊥) →
-    ListMeasured codes at left (cell + 16 * size) size r → ListMeasured codes at (suc left) cell size r
-l-out-suc codes at left cell size r z n u =
+    (codes : List ℕ) (at left start size : ℕ) (r : Measure) → 0 < size → (at < length codes → startOf (nextCell codes at) < start + size → ⊥) →
+    ListMeasured codes at left (start + size) size r → ListMeasured codes at (suc left) start size r
+l-out-suc codes at left start size r z n u =
     record {
       is =
           λ w c k s.
-          let p = all-later codes at w c left cell size k s n in
-          list-out codes at w c left cell size k s p (u .is w (suc c) k (list-skip codes at w c left cell size k s p));
+          let p = all-later codes at w c left start size k s n in
+          list-out codes at w c left start size k s p (u .is w (suc c) k (list-skip codes at w c left start size k s p));
       inside = u .inside;
       short = omega (arith, u .short, suc-mul left (2 * size));
       few = omega (arith, u .few);
     }
 
 pub l-out :
-    {codes : List ℕ} {at : ℕ} (left : ℕ) {cell size : ℕ} {r : Taken} → 0 < size → (left ≡ 0 → ⊥) → (at < length codes → getD codes at 0 / 16 < cell / 16 + size → ⊥) →
-    ListMeasured codes at (left - 1) (cell + 16 * size) size r → ListMeasured codes at left cell size r
+    {codes : List ℕ} {at : ℕ} (left : ℕ) {start size : ℕ} {r : Measure} → 0 < size → (left ≡ 0 → ⊥) → (at < length codes → startOf (nextCell codes at) < start + size → ⊥) →
+    ListMeasured codes at (left - 1) (start + size) size r → ListMeasured codes at left start size r
 l-out zero z e n u = absurd (e refl)
-l-out {codes} {at} (suc left) {cell} {size} {r} z e n u = l-out-suc codes at left cell size r z n (rw (less left) at u)
+l-out {codes} {at} (suc left) {start} {size} {r} z e n u = l-out-suc codes at left start size r z n (rw (less left) at u)
 
 -- ---- products by what is left
 
@@ -97,33 +102,33 @@ one-less (suc n) z h = rw (less n) (suc-mul n z)
 -- ---- the first finest cell of the code at hand
 
 pub hand-inside :
-    {codes : List ℕ} {at first : ℕ} (left cell size : ℕ) → AtHand codes at first → size ≤ 9 ^ 15 → cell + left * (16 * size) + 2 * size ≤ 2 ^ 63 →
-    first < cell / 16 + size → (at < length codes) × (getD codes at 0 / 16 < cell / 16 + size)
-hand-inside {codes} {at} {first} left cell size a z c l =
+    {codes : List ℕ} {at first : ℕ} (start size : ℕ) → StartAtPlace codes at first → start + size ≤ 9 ^ 16 →
+    first < start + size → (at < length codes) × (startOf (nextCell codes at) < start + size)
+hand-inside {codes} {at} {first} start size a c l =
     ⊎-elim (λ h. (h, omega (arith, a .some h))) (λ h. absurd (omega (arith, a .none h))) (lt-or at (length codes))
 
 pub hand-outside :
-    {codes : List ℕ} {at first : ℕ} (cell size : ℕ) → AtHand codes at first → (first < cell / 16 + size → ⊥) →
-    at < length codes → getD codes at 0 / 16 < cell / 16 + size → ⊥
-hand-outside cell size a n h l = n (omega (arith, a .some h))
+    {codes : List ℕ} {at first : ℕ} (start size : ℕ) → StartAtPlace codes at first → (first < start + size → ⊥) →
+    at < length codes → startOf (nextCell codes at) < start + size → ⊥
+hand-outside start size a n h l = n (omega (arith, a .some h))
 
 -- ---- a list, cell by cell
 
 -- what is measured of the cells that are left completes what is to be measured
-pub record Measuring (codes : List ℕ) (at left cell size next first child bytes count more : ℕ) : Type 0 where
+pub record Measuring (codes : List ℕ) (at left start size next first child bytes count more : ℕ) : Type 0 where
   pub rest :
-      (r : Taken) → ListMeasured codes next more child size r →
-      ListMeasured codes at left cell size (record { next = r .next; bytes = bytes + r .bytes; wholes = count + r .wholes })
+      (r : Measure) → ListMeasured codes next more child size r →
+      ListMeasured codes at left start size (record { next = r .next; bytes = bytes + r .bytes; wholes = count + r .wholes })
   pub inside : next ≤ length codes
   pub few : more ≤ left
-  pub cells : child + more * (16 * size) + 2 * size ≤ 2 ^ 63
+  pub cells : child + more * size ≤ 9 ^ 16
   pub short : bytes + more * (2 * size) ≤ left * (2 * size)
   pub counted : count + more ≤ left
-  pub hand : AtHand codes next first
+  pub hand : StartAtPlace codes next first
 
 pub l-starts :
-    {codes : List ℕ} {at left cell size first : ℕ} → at ≤ length codes → cell + left * (16 * size) + 2 * size ≤ 2 ^ 63 → AtHand codes at first →
-    Measuring codes at left cell size at first cell 0 0 left
+    {codes : List ℕ} {at left start size first : ℕ} → at ≤ length codes → start + left * size ≤ 9 ^ 16 → StartAtPlace codes at first →
+    Measuring codes at left start size at first start 0 0 left
 l-starts h i a =
     record {
       rest =
@@ -140,29 +145,29 @@ l-starts h i a =
     }
 
 pub l-ends :
-    {codes : List ℕ} {at left cell size next first child bytes count more : ℕ} → Measuring codes at left cell size next first child bytes count more → more ≡ 0 →
-    ListMeasured codes at left cell size (record { next = next; bytes = bytes; wholes = count })
-l-ends {codes} {at} {left} {cell} {size} {next} {first} {child} {bytes} {count} v e =
+    {codes : List ℕ} {at left start size next first child bytes count more : ℕ} → Measuring codes at left start size next first child bytes count more → more ≡ 0 →
+    ListMeasured codes at left start size (record { next = next; bytes = bytes; wholes = count })
+l-ends {codes} {at} {left} {start} {size} {next} {first} {child} {bytes} {count} v e =
     let i : bytes + 0 ≡ bytes = omega arith in
     let j : count + 0 ≡ count = omega arith in
     rw (i, j) at (v .rest _ (l-none (v .inside) e))
 
 module _
-    {codes : List ℕ} {at left cell size next first child bytes count more : ℕ} (y : 0 < size) (s : size ≤ 9 ^ 15)
-    (v : Measuring codes at left cell size next first child bytes count more) (z : more ≡ 0 → ⊥)
+    {codes : List ℕ} {at left start size next first child bytes count more : ℕ} (y : 0 < size)
+    (v : Measuring codes at left start size next first child bytes count more) (z : more ≡ 0 → ⊥)
   where
     -- the cell has the code at hand inside
     pub l-takes :
-        {n : Taken} {f last from long sum : ℕ} → first < child / 16 + size → NodeMeasured codes next child size n → AtHand codes (n .next) f → last ≡ n .next →
-        from ≡ f → long ≡ bytes + n .bytes → sum ≡ count + n .wholes → Measuring codes at left cell size last from (child + 16 * size) long sum (more - 1)
+        {n : Measure} {f last from long sum : ℕ} → first < child + size → NodeMeasured codes next child size n → StartAtPlace codes (n .next) f → last ≡ n .next →
+        from ≡ f → long ≡ bytes + n .bytes → sum ≡ count + n .wholes → Measuring codes at left start size last from (child + size) long sum (more - 1)
     l-takes {n} l m a e₁ e₂ e₃ e₄ =
-        let h = hand-inside more child size (v .hand) s (v .cells) l in
+        let h = hand-inside child size (v .hand) (omega (arith, v .cells, one-less more size z)) l in
         rw (e₁, e₂, e₃, e₄)
         (record {
           rest = λ r u. rw (add-assoc bytes (n .bytes) (r .bytes), add-assoc count (n .wholes) (r .wholes)) (v .rest _ (l-in more (h .0) z (h .1) m u));
           inside = m .inside;
           few = omega (arith, v .few);
-          cells = omega (arith, v .cells, one-less more (16 * size) z);
+          cells = omega (arith, v .cells, one-less more size z);
           short = omega (arith, v .short, one-less more (2 * size) z, m .short);
           counted = omega (arith, v .counted, m .few);
           hand = a;
@@ -170,15 +175,15 @@ module _
 
     -- or it has not
     pub l-skips :
-        {last from long sum : ℕ} → (first < child / 16 + size → ⊥) → last ≡ next → from ≡ first → long ≡ bytes → sum ≡ count →
-        Measuring codes at left cell size last from (child + 16 * size) long sum (more - 1)
+        {last from long sum : ℕ} → (first < child + size → ⊥) → last ≡ next → from ≡ first → long ≡ bytes → sum ≡ count →
+        Measuring codes at left start size last from (child + size) long sum (more - 1)
     l-skips l e₁ e₂ e₃ e₄ =
         rw (e₁, e₂, e₃, e₄)
         (record {
           rest = λ r u. v .rest r (l-out more y z (hand-outside child size (v .hand) l) u);
           inside = v .inside;
           few = omega (arith, v .few);
-          cells = omega (arith, v .cells, one-less more (16 * size) z);
+          cells = omega (arith, v .cells, one-less more size z);
           short = omega (arith, v .short, one-less more (2 * size) z);
           counted = omega (arith, v .counted);
           hand = v .hand;

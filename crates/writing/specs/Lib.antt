@@ -1,14 +1,3 @@
-pub mod BuiltLaws
-pub mod EntryLaws
-pub mod ListLaws
-pub mod Measure
-pub mod MeasureLaws
-pub mod Put
-pub mod PutLaws
-pub mod Take
-pub mod TakeLaws
-pub mod Whole
-pub mod WholeLaws
+pub mod Internal
+pub mod Laws
 pub mod Write
-pub mod WriteEntry
-pub mod WriteLaws

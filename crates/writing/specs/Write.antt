@@ -1,46 +1,81 @@
--- The accepted text of the ground of some cells (01 "The coverage text"): "Writing takes rising codes, none inside another, and gives the accepted
--- text of the same ground." WriteLaws shows that it is accepted and of the same ground, for any cells. Assumes nothing.
-use mathlib.Core.Bool.{Bool, true, false, _||_, cond}
+-- What writing answers (01 "The coverage text", "Refusal numbers"). Assumes nothing.
+use mathlib.Core.Path.{_≡_}
+use mathlib.Core.Logic.{_⊎_}
+use mathlib.Core.Bool.{Bool, true, false, _&&_, not}
 use mathlib.Core.List.{List, [], _∷_, _++_, map}
-use Prim.Native.Nat.{ℕ, zero, suc}
-use lib.Dec.{eqb}
+use Prim.Native.Nat.{ℕ, zero, suc, _≤_}
+use lib.Dec.{ltb}
+use lib.ListN.{length, drop}
+use Rattle.logic.specs.Refusal.{refuse, _otherwise_}
 use Rattle.cell.specs.declared.Cell.{Cell}
-use Rattle.reading.specs.declared.Level.the-variants.{Faces}
-use Rattle.reading.specs.Reading.{Nodes, end, whole, listed, wholes, render}
-use Rattle.reading.specs.Prefix.{Name, nameOf}
-use Rattle.reading.specs.Text.{heading}
+use Rattle.cell.specs.declared.Arrangement.{Arrangement}
+use Rattle.cell.specs.Cell.{arrangementRefusal}
+use Rattle.code.specs.Code.{cellOf, isCode}
+use Rattle.code.specs.Inside.{startOf, endOf, liesWithin}
+use Rattle.writing.specs.declared.Written.{Written}
+use Rattle.writing.specs.declared.Written.the-variants.{Length, Refused}
+use Rattle.reading.specs.Ground.{All, Rising, Apart}
+use Rattle.reading.specs.Written.{writtenText}
 
--- what follows the number c in the names that begin with it
-unfoldable pub tails : ℕ → List Name → List Name
-tails c [] = []
-tails c ([] ∷ qs) = tails c qs
-tails c ((b ∷ q) ∷ qs) = cond (eqb b c) (q ∷ tails c qs) (tails c qs)
+-- ---- "rising codes, none inside another"
 
--- a name ends here: the cell itself is among the cells
-unfoldable pub anyEnds : List Name → Bool
-anyEnds [] = false
-anyEnds ([] ∷ qs) = true
-anyEnds ((b ∷ q) ∷ qs) = anyEnds qs
+unfoldable pub allCodes : List ℕ → Bool
+allCodes [] = true
+allCodes (c ∷ cs) = isCode c && allCodes cs
 
--- a node of number c: whole where a name ends here or where its nine children are whole; `below` makes the list that it holds
-unfoldable pub nodeOf : (List Name → Nodes) → ℕ → List Name → Nodes → Nodes
-nodeOf below c [] rest = rest
-nodeOf below c (q ∷ qs) rest =
-    cond (anyEnds (q ∷ qs) || eqb (wholes (below (q ∷ qs))) 9) (whole c rest) (listed c (below (q ∷ qs)) rest)
+-- a list of codes as 01 wants it
+pub record GoodList (codes : List ℕ) : Type 0 where
+  pub coded : allCodes codes ≡ true
+  pub rising : Rising (map cellOf codes)
+  pub apart : Apart (map cellOf codes)
 
--- the nodes of the n numbers from c on
-unfoldable pub side : (List Name → Nodes) → (n c : ℕ) → List Name → Nodes
-unfolding nodeOf tails anyEnds
-side below zero c qs = end
-side below (suc n) c qs = nodeOf below c (tails c qs) (side below n (suc c) qs)
+-- a code somewhere in the list is no cell's
+abbrev pub Stray : List ℕ → Type 0
+Stray [] = ⊥
+Stray (c ∷ cs) = (isCode c ≡ false) ⊎ Stray cs
 
--- nodes of names that have at most r digits after their first number
-unfoldable pub built : (r n : ℕ) → List Name → Nodes
-unfolding side
-built zero n qs = side (λ ts. end) n 0 qs
-built (suc r) n qs = side (λ ts. built r 9 ts) n 0 qs
+-- each cell's finest cells come before those of all later ones
+abbrev pub Earlier : ℕ → List Cell → Type 0
+Earlier n xs = All (λ (x : Cell). n ≤ startOf x) xs
 
--- the text of some cells
-unfoldable pub writtenText : (n s : ℕ) → List Cell → List ℕ
-unfolding built
-writtenText n s cells = heading n s ++ render Faces (built 15 6 (map nameOf cells))
+abbrev pub InTurn : List Cell → Type 0
+InTurn [] = Unit {0}
+InTurn (c ∷ cs) = Earlier (endOf c) cs × InTurn cs
+
+-- ---- computed (Laws/List: 0 exactly for a good list)
+
+-- each code is less than the next one, whose cell does not lie inside: neighbouring pairs decide
+unfoldable pub ordered : List ℕ → Bool
+ordered [] = true
+ordered (c ∷ []) = true
+ordered (c ∷ x ∷ cs) = ltb c x && (not (liesWithin (cellOf c) (cellOf x)) && ordered (x ∷ cs))
+
+-- 4: "a code is no cell's". 11: "list not strictly rising, or one cell inside another"
+unfoldable pub codesRefusal : List ℕ → ℕ
+unfolding allCodes ordered
+codesRefusal codes = refuse (not (allCodes codes)) 4 otherwise refuse (not (ordered codes)) 11
+
+-- ---- the text and what is refused
+
+unfoldable pub textOf : Arrangement → List ℕ → List ℕ
+textOf a codes = writtenText (a .north) (a .south) (map cellOf codes)
+
+-- 5, 4, 11; "13 is judged on the text of a good list"; 8: "lent buffer shorter than the answer"
+unfoldable pub writeRefusal : Arrangement → List ℕ → (room : ℕ) → ℕ
+unfolding codesRefusal textOf
+writeRefusal a codes room =
+    arrangementRefusal a otherwise
+    codesRefusal codes otherwise
+    refuse (ltb 65536 (length (textOf a codes))) 13 otherwise
+    refuse (ltb room (length (textOf a codes))) 8
+
+-- the lent bytes with the text in front: "an answer changes only its own length"
+unfoldable pub textIn : Arrangement → List ℕ → List ℕ → List ℕ
+unfolding textOf
+textIn a codes bytes = textOf a codes ++ drop (length (textOf a codes)) bytes
+
+-- ---- the answer: a length, or the number of the refusal
+
+unfoldable pub written : ℕ → ℕ → Written
+written zero n = Length n
+written (suc r) n = Refused (suc r)

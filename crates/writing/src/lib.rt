@@ -4,15 +4,15 @@ ghost use mathlib.Core.Bool.{true, _&&_, not};
 ghost use Prim.Native.Nat.{_+_, _-_, _*_, _^_, _≤_, _<_};
 ghost use lib.ListN.{length, set};
 ghost use lib.Seq.{sets};
-ghost use Rattle.writing.specs.Measure.{AtHand, NodeMeasured, ListMeasured};
-ghost use Rattle.writing.specs.Whole.{WholeTold};
-ghost use Rattle.writing.specs.Put.{NodePut, ListPut};
+ghost use Rattle.writing.specs.Internal.Measure.{StartAtPlace, NodeMeasured, ListMeasured};
+ghost use Rattle.writing.specs.Internal.Whole.{WholeUntil};
+ghost use Rattle.writing.specs.Internal.Put.{NodePut, ListPut};
 ghost use lib.Dec.{ltb};
 ghost use Rattle.logic.specs.Refusal.{given};
 ghost use Rattle.code.specs.Code.{isCode, cellOf};
 ghost use Rattle.reading.specs.Text.{heading};
-ghost use Rattle.writing.specs.WriteEntry.{lies, listRefusal, textOf, writeRefusal, textIn, written};
-ghost use Rattle.writing.specs.EntryLaws.{LengthIs};
+ghost use Rattle.writing.specs.Write.{allCodes, codesRefusal, textOf, writeRefusal, textIn, written};
+ghost use Rattle.writing.specs.Internal.Length.{LengthIs};
 use cell::Arrangement;
 
 // The length of a text that was written, or the number of the refusal.
@@ -21,80 +21,82 @@ pub enum Written {
     Refused(u64),
 }
 
-// What was taken: the place of the next code, the bytes that the nodes make, and how many of them are whole.
-struct Taken {
+// What was measured: the place of the next code, the bytes that the nodes make, and how many of them are whole.
+struct Measure {
     next: usize,
     bytes: u64,
     wholes: u64,
 }
 
 // The first finest cell of the code at a place, or a number above all of them where there is no such place.
-fn finest_at(codes: &[u64], at: usize) -> u64
-    ensures { λ r. ⌜ AtHand (now (codes .entry)) at r ⌝ }
+fn start_at(codes: &[u64], at: usize) -> u64
+    requires { ⌜ allCodes (now codes) ≡ true ⌝ }
+    ensures { λ r. ⌜ StartAtPlace (now (codes .entry)) at r ⌝ }
 {
     if at < codes.len() {
-        return codes[at] / 16;
+        return code::start_in(codes[at]);
     }
     0x1000_0000_0000_0000
 }
 
-// The node of a cell, given by its code and its size, that has the code at hand inside.
-fn measure_node(codes: &[u64], at: usize, cell: u64, size: u64) -> Taken
-    requires { ⌜ (at < length (now codes)) × (0 < size) × (size ≤ 9 ^ 15) × (cell + 17 * size ≤ 2 ^ 63) ⌝ }
-    ensures { λ r. ⌜ NodeMeasured (now (codes .entry)) at cell size r ⌝ }
+// The node of a cell, given by its first finest cell and its size, that has the code at hand inside: a code of the same size is the cell's.
+fn measure_node(codes: &[u64], at: usize, start: u64, size: u64) -> Measure
+    requires { ⌜ (allCodes (now codes) ≡ true) × (at < length (now codes)) × (0 < size) × (start + size ≤ 9 ^ 16) ⌝ }
+    ensures { λ r. ⌜ NodeMeasured (now (codes .entry)) at start size r ⌝ }
 {
     if size < 9 {
-        return Taken {
+        return Measure {
             next: at + 1,
             bytes: 1,
             wholes: 1,
         };
     }
-    if codes[at] == cell {
-        return Taken {
+    if code::size_in(codes[at]) == size {
+        return Measure {
             next: at + 1,
             bytes: 1,
             wholes: 1,
         };
     }
-    let list = measure_list(codes, at, 9, cell + 1, size / 9);
+    let list = measure_list(codes, at, 9, start, size / 9);
     if list.wholes == 9 {
-        return Taken {
+        return Measure {
             next: list.next,
             bytes: 1,
             wholes: 1,
         };
     }
-    Taken {
+    Measure {
         next: list.next,
         bytes: 3 + list.bytes,
         wholes: 0,
     }
 }
 
-// The nodes of the cells that are left of a list, from the one given on.
-fn measure_list(codes: &[u64], at: usize, left: u64, cell: u64, size: u64) -> Taken
-    requires { ⌜ (at ≤ length (now codes)) × (left ≤ 9) × (0 < size) × (size ≤ 9 ^ 15) × (cell + left * (16 * size) + 2 * size ≤ 2 ^ 63) ⌝ }
-    ensures { λ r. ⌜ ListMeasured (now (codes .entry)) at left cell size r ⌝ }
+// The nodes of the cells that are left of a list, of which the first one starts at `start`.
+fn measure_list(codes: &[u64], at: usize, left: u64, start: u64, size: u64) -> Measure
+    requires { ⌜ (allCodes (now codes) ≡ true) × (at ≤ length (now codes)) × (left ≤ 9) × (0 < size) × (start + left * size ≤ 9 ^ 16) ⌝ }
+    ensures { λ r. ⌜ ListMeasured (now (codes .entry)) at left start size r ⌝ }
 {
     let mut next = at;
-    let mut first = finest_at(codes, at);
-    let mut child = cell;
+    let mut first = start_at(codes, at);
+    let mut child = start;
     let mut bytes: u64 = 0;
     let mut wholes: u64 = 0;
     let mut more = left;
     while more > 0 {
-        if first < child / 16 + size {
+        let end = child + size;
+        if first < end {
             let node = measure_node(codes, next, child, size);
             next = node.next;
             bytes = bytes + node.bytes;
             wholes = wholes + node.wholes;
-            first = finest_at(codes, next);
+            first = start_at(codes, next);
         }
-        child = child + 16 * size;
+        child = end;
         more = more - 1;
     }
-    Taken {
+    Measure {
         next,
         bytes,
         wholes,
@@ -103,26 +105,27 @@ fn measure_list(codes: &[u64], at: usize, left: u64, cell: u64, size: u64) -> Ta
 
 // The place of the next code after a whole node, or the same place where the node is not whole. It is whole where the codes from here on
 // cover its finest cells with no gap.
-fn whole_until(codes: &[u64], at: usize, cell: u64, size: u64) -> usize
-    requires { ⌜ (at < length (now codes)) × (0 < size) × (size ≤ 9 ^ 15) × (cell + 17 * size ≤ 2 ^ 63) ⌝ }
-    ensures { λ r. ⌜ WholeTold (now (codes .entry)) at cell size r ⌝ }
+fn whole_until(codes: &[u64], at: usize, start: u64, size: u64) -> usize
+    requires { ⌜ (allCodes (now codes) ≡ true) × (at < length (now codes)) × (0 < size) × (start + size ≤ 9 ^ 16) ⌝ }
+    ensures { λ r. ⌜ WholeUntil (now (codes .entry)) at start size r ⌝ }
 {
     if size < 9 {
         return at + 1;
     }
-    if codes[at] == cell {
+    if code::size_in(codes[at]) == size {
         return at + 1;
     }
-    let mut position = cell / 16;
+    let end = start + size;
+    let mut position = start;
     let mut i = at;
     while i < codes.len() {
         let code = codes[i];
-        if position < code / 16 {
+        if position < code::start_in(code) {
             return at;
         }
         position = position + code::size_in(code);
         i = i + 1;
-        if cell / 16 + size <= position {
+        if end <= position {
             return i;
         }
     }
@@ -138,8 +141,8 @@ fn put(text: &mut [u8], place: usize, byte: u8)
     }
 }
 
-// What was written: the place of the next code, and the place of the next byte.
-struct Placed {
+// Where writing ends: the place of the next code, and the place of the next byte.
+struct WrittenTo {
     next: usize,
     place: usize,
 }
@@ -148,70 +151,71 @@ struct Placed {
 fn put_node(
     codes: &[u64],
     at: usize,
-    cell: u64,
+    start: u64,
     size: u64,
     text: &mut [u8],
     place: usize,
     byte: u8,
-) -> Placed
-    requires { ⌜ (at < length (now codes)) × (0 < size) × (size ≤ 9 ^ 15) × (cell + 17 * size ≤ 2 ^ 63) × (place + (2 * size - 1) ≤ 2 ^ 63) ⌝ }
-    ensures { λ r. ⌜ NodePut (now (codes .entry)) at cell size place byte (now (text .entry)) (now (text .exit)) r ⌝ }
+) -> WrittenTo
+    requires { ⌜ (allCodes (now codes) ≡ true) × (at < length (now codes)) × (0 < size) × (start + size ≤ 9 ^ 16) × (place + (2 * size - 1) ≤ 2 ^ 63) ⌝ }
+    ensures { λ r. ⌜ NodePut (now (codes .entry)) at start size place byte (now (text .entry)) (now (text .exit)) r ⌝ }
 {
     put(text, place, byte);
-    let next = whole_until(codes, at, cell, size);
+    let next = whole_until(codes, at, start, size);
     if next != at {
-        return Placed {
+        return WrittenTo {
             next,
             place: place + 1,
         };
     }
-    put(text, place + 1, 40);
-    let list = put_list(codes, at, 9, cell + 1, size / 9, text, place + 2, 48);
-    put(text, list.place, 41);
-    Placed {
+    put(text, place + 1, b'(');
+    let list = put_list(codes, at, 9, start, size / 9, text, place + 2, b'0');
+    put(text, list.place, b')');
+    WrittenTo {
         next: list.next,
         place: list.place + 1,
     }
 }
 
-// Writes the nodes of the cells that are left of a list, from the one given on.
+// Writes the nodes of the cells that are left of a list, of which the first one starts at `start`.
 fn put_list(
     codes: &[u64],
     at: usize,
     left: u64,
-    cell: u64,
+    start: u64,
     size: u64,
     text: &mut [u8],
     place: usize,
     byte: u8,
-) -> Placed
-    requires { ⌜ (at ≤ length (now codes)) × (left ≤ 9) × (0 < size) × (size ≤ 9 ^ 15) × (cell + left * (16 * size) + 2 * size ≤ 2 ^ 63) × (place + left * (2 * size - 1) ≤ 2 ^ 63) × (byte + left ≤ 255) ⌝ }
-    ensures { λ r. ⌜ ListPut (now (codes .entry)) at left cell size place byte (now (text .entry)) (now (text .exit)) r ⌝ }
+) -> WrittenTo
+    requires { ⌜ (allCodes (now codes) ≡ true) × (at ≤ length (now codes)) × (left ≤ 9) × (0 < size) × (start + left * size ≤ 9 ^ 16) × (place + left * (2 * size - 1) ≤ 2 ^ 63) × (byte + left ≤ 255) ⌝ }
+    ensures { λ r. ⌜ ListPut (now (codes .entry)) at left start size place byte (now (text .entry)) (now (text .exit)) r ⌝ }
 {
     let mut next = at;
-    let mut first = finest_at(codes, at);
-    let mut child = cell;
+    let mut first = start_at(codes, at);
+    let mut child = start;
     let mut ends = place;
     let mut name = byte;
     let mut more = left;
     while more > 0 {
-        if first < child / 16 + size {
+        let end = child + size;
+        if first < end {
             let node = put_node(codes, next, child, size, text, ends, name);
             next = node.next;
             ends = node.place;
-            first = finest_at(codes, next);
+            first = start_at(codes, next);
         }
-        child = child + 16 * size;
+        child = end;
         name = name + 1;
         more = more - 1;
     }
-    Placed { next, place: ends }
+    WrittenTo { next, place: ends }
 }
 
 // 4 or 11, or 0 where the codes make a good list: a code that is no cell's comes before all else. A cell that starts where the one before it
 // ends, or later, comes after it and not inside.
 fn list_refusal(codes: &[u64]) -> u64
-    ensures { λ r. ⌜ r ≡ listRefusal (now (codes .entry)) ⌝ }
+    ensures { λ r. ⌜ r ≡ codesRefusal (now (codes .entry)) ⌝ }
 {
     let mut refusal: u64 = 0;
     let mut end: u64 = 0;
@@ -233,11 +237,11 @@ fn list_refusal(codes: &[u64]) -> u64
 
 // The length of the text of a good list.
 fn length_of(codes: &[u64]) -> u64
-    requires { ⌜ listRefusal (now codes) ≡ 0 ⌝ }
+    requires { ⌜ codesRefusal (now codes) ≡ 0 ⌝ }
     ensures { λ r. ⌜ LengthIs (now (codes .entry)) r ⌝ }
 {
-    let taken = measure_list(codes, 0, 6, 0, 205_891_132_094_649);
-    taken.bytes + 7
+    let faces = measure_list(codes, 0, 6, 0, code::FACE_SIZE);
+    faces.bytes + reading::HEADING as u64
 }
 
 // The seven bytes of heading.
@@ -245,13 +249,13 @@ fn put_heading(text: &mut [u8], north: u64, south: u64)
     requires { ⌜ (north ≤ 3) × (south ≤ 3) ⌝ }
     ensures { λ r. ⌜ now (text .exit) ≡ sets (now (text .entry)) 0 (heading north south) ⌝ }
 {
-    put(text, 0, 67);
-    put(text, 1, 86);
-    put(text, 2, 82);
+    put(text, 0, b'C');
+    put(text, 1, b'V');
+    put(text, 2, b'R');
     put(text, 3, 0);
     put(text, 4, 1);
-    put(text, 5, (48 + north) as u8);
-    put(text, 6, (48 + south) as u8);
+    put(text, 5, b'0' + north as u8);
+    put(text, 6, b'0' + south as u8);
 }
 
 // The text of a list of codes, into `text`: 5, 4, 11, 13 or 8 where there is none.
@@ -270,13 +274,14 @@ pub fn write(arrangement: Arrangement, codes: &[u64], text: &mut [u8]) -> Writte
         return Written::Refused(refused);
     }
     let length = length_of(codes);
-    if length > 65536 {
+    if length > reading::LONGEST as u64 {
         return Written::Refused(13);
     }
     if (text.len() as u64) < length {
         return Written::Refused(8);
     }
     put_heading(text, north, south);
-    put_list(codes, 0, 6, 0, 205_891_132_094_649, text, 7, 78);
+    let body = reading::HEADING;
+    put_list(codes, 0, 6, 0, code::FACE_SIZE, text, body, b'N');
     Written::Length(length)
 }

@@ -12,18 +12,26 @@ pub struct Refused {
 pub type Answer<T> = Result<T, Refused>;
 
 macro_rules! answers {
-    ($($name:ident { $($field:ident: $type:ty),* })*) => {$(
-        /// An answer of the library; its first field is the refusal.
+    ($($name:ident $(at $place:ident)? { $($field:ident: $type:ty),* })*) => {$(
+        /// An answer as the library gives it; its first field is the refusal.
         #[repr(C)]
-        #[derive(Clone, Copy, Debug, PartialEq, Eq)]
+        #[derive(Clone, Copy, Debug, Default, PartialEq, Eq)]
         pub struct $name {
-            refusal: u64,
+            pub refusal: u64,
+            $(pub $place: u64,)?
             $(pub $field: $type),*
         }
         impl $name {
+            /// A refusal, with 0 in every other field.
+            pub fn refused(refusal: u64) -> $name {
+                $name { refusal, ..$name::default() }
+            }
             /// This answer, unless it is a refusal.
             fn read(self) -> Answer<$name> {
-                answer(self.refusal, 0, self)
+                match self.refusal {
+                    0 => Ok(self),
+                    number => Err(Refused { number, place: 0 $(+ self.$place)? }),
+                }
             }
         }
     )*};
@@ -40,149 +48,146 @@ answers! {
     Point { x: i64, y: i64 }
     Vertices { x: [i64; 4], y: [i64; 4] }
     Fix { longitude: i64, z: i64 }
+    Check at place { n: u64, s: u64, cells: u64, size: u64 }
+    List at place { count: u64 }
+    Ask at place { covered: u64 }
 }
 
-/// The number of a text's whole cells and the sum of their sizes.
-#[repr(C)]
-#[derive(Clone, Copy, Debug, PartialEq, Eq)]
-pub struct Check {
-    refusal: u64,
-    place: u64,
-    pub cells: u64,
-    pub size: u64,
+// Safe are those that take numbers alone: the library takes any.
+unsafe extern "C" {
+    pub safe fn jgv_cell_code(face: u64, resolution: u64, row: u64, column: u64) -> Code;
+    pub safe fn jgv_code_cell(code: u64) -> Cell;
+    pub fn jgv_name_code(name: *const u8, length: usize) -> Code;
+    pub fn jgv_code_name(code: u64, name: *mut u8, room: usize) -> Length;
+    pub safe fn jgv_parent(code: u64) -> Code;
+    pub safe fn jgv_child(code: u64, digit: u64) -> Code;
+    pub safe fn jgv_size(code: u64) -> Size;
+    pub safe fn jgv_shape(code: u64) -> Shape;
+    pub safe fn jgv_corner_count(code: u64) -> Count;
+    pub safe fn jgv_square(n: u64, s: u64, code: u64) -> Square;
+    pub safe fn jgv_nucleus(n: u64, s: u64, code: u64) -> Point;
+    pub safe fn jgv_vertices(n: u64, s: u64, code: u64) -> Vertices;
+    pub safe fn jgv_point_code(n: u64, s: u64, resolution: u64, x: i64, y: i64) -> Code;
+    pub safe fn jgv_fix_code(n: u64, s: u64, resolution: u64, longitude: i64, z: i64) -> Code;
+    pub safe fn jgv_ground_nucleus(n: u64, s: u64, code: u64) -> Fix;
+    pub safe fn jgv_neighbour(n: u64, s: u64, code: u64, direction: u64) -> Code;
+    pub fn jgv_coverage_check(text: *const u8, length: usize) -> Check;
+    pub fn jgv_coverage_list(text: *const u8, length: usize, codes: *mut u64, room: usize) -> List;
+    pub fn jgv_coverage_write(n: u64, s: u64, codes: *const u64, count: usize, text: *mut u8, room: usize) -> Length;
+    pub fn jgv_coverage_ask(n: u64, s: u64, text: *const u8, length: usize, code: u64) -> Ask;
 }
 
-#[repr(C)]
-struct List {
-    refusal: u64,
-    place: u64,
-    count: u64,
-}
+/// The entries that take memory, on slices. Each is safe: the library reads and writes lent memory within its length only.
+pub mod lent {
+    use super::*;
 
-#[repr(C)]
-struct Ask {
-    refusal: u64,
-    place: u64,
-    covered: u64,
-}
+    pub fn name_code(name: &[u8]) -> Code {
+        unsafe { jgv_name_code(name.as_ptr(), name.len()) }
+    }
 
-fn answer<T>(number: u64, place: u64, value: T) -> Answer<T> {
-    if number == 0 {
-        Ok(value)
-    } else {
-        Err(Refused { number, place })
+    pub fn code_name(code: u64, name: &mut [u8]) -> Length {
+        unsafe { jgv_code_name(code, name.as_mut_ptr(), name.len()) }
+    }
+
+    pub fn coverage_check(text: &[u8]) -> Check {
+        unsafe { jgv_coverage_check(text.as_ptr(), text.len()) }
+    }
+
+    pub fn coverage_list(text: &[u8], codes: &mut [u64]) -> List {
+        unsafe { jgv_coverage_list(text.as_ptr(), text.len(), codes.as_mut_ptr(), codes.len()) }
+    }
+
+    pub fn coverage_write(n: u64, s: u64, codes: &[u64], text: &mut [u8]) -> Length {
+        unsafe { jgv_coverage_write(n, s, codes.as_ptr(), codes.len(), text.as_mut_ptr(), text.len()) }
+    }
+
+    pub fn coverage_ask(n: u64, s: u64, text: &[u8], code: u64) -> Ask {
+        unsafe { jgv_coverage_ask(n, s, text.as_ptr(), text.len(), code) }
     }
 }
 
-extern "C" {
-    fn jgv_cell_code(face: u64, resolution: u64, row: u64, column: u64) -> Code;
-    fn jgv_code_cell(code: u64) -> Cell;
-    fn jgv_name_code(name: *const u8, length: usize) -> Code;
-    fn jgv_code_name(code: u64, name: *mut u8, room: usize) -> Length;
-    fn jgv_parent(code: u64) -> Code;
-    fn jgv_child(code: u64, digit: u64) -> Code;
-    fn jgv_size(code: u64) -> Size;
-    fn jgv_shape(code: u64) -> Shape;
-    fn jgv_corner_count(code: u64) -> Count;
-    fn jgv_square(n: u64, s: u64, code: u64) -> Square;
-    fn jgv_nucleus(n: u64, s: u64, code: u64) -> Point;
-    fn jgv_vertices(n: u64, s: u64, code: u64) -> Vertices;
-    fn jgv_point_code(n: u64, s: u64, resolution: u64, x: i64, y: i64) -> Code;
-    fn jgv_fix_code(n: u64, s: u64, resolution: u64, longitude: i64, z: i64) -> Code;
-    fn jgv_ground_nucleus(n: u64, s: u64, code: u64) -> Fix;
-    fn jgv_neighbour(n: u64, s: u64, code: u64, direction: u64) -> Code;
-    fn jgv_coverage_check(text: *const u8, length: usize) -> Check;
-    fn jgv_coverage_list(text: *const u8, length: usize, codes: *mut u64, room: usize) -> List;
-    fn jgv_coverage_write(n: u64, s: u64, codes: *const u64, count: usize, text: *mut u8, room: usize) -> Length;
-    fn jgv_coverage_ask(n: u64, s: u64, text: *const u8, length: usize, code: u64) -> Ask;
-}
-
-// Each call below is safe: the library takes any numbers, and reads and writes lent slices within their length only.
-
 pub fn cell_code(face: u64, resolution: u64, row: u64, column: u64) -> Answer<u64> {
-    Ok(unsafe { jgv_cell_code(face, resolution, row, column) }.read()?.code)
+    Ok(jgv_cell_code(face, resolution, row, column).read()?.code)
 }
 
 pub fn code_cell(code: u64) -> Answer<Cell> {
-    unsafe { jgv_code_cell(code) }.read()
+    jgv_code_cell(code).read()
 }
 
 pub fn name_code(name: &[u8]) -> Answer<u64> {
-    Ok(unsafe { jgv_name_code(name.as_ptr(), name.len()) }.read()?.code)
+    Ok(lent::name_code(name).read()?.code)
 }
 
 pub fn code_name(code: u64, name: &mut [u8]) -> Answer<&[u8]> {
-    let written = unsafe { jgv_code_name(code, name.as_mut_ptr(), name.len()) }.read()?;
+    let written = lent::code_name(code, name).read()?;
     Ok(&name[..written.length as usize])
 }
 
 pub fn parent(code: u64) -> Answer<u64> {
-    Ok(unsafe { jgv_parent(code) }.read()?.code)
+    Ok(jgv_parent(code).read()?.code)
 }
 
 pub fn child(code: u64, digit: u64) -> Answer<u64> {
-    Ok(unsafe { jgv_child(code, digit) }.read()?.code)
+    Ok(jgv_child(code, digit).read()?.code)
 }
 
 pub fn size(code: u64) -> Answer<u64> {
-    Ok(unsafe { jgv_size(code) }.read()?.size)
+    Ok(jgv_size(code).read()?.size)
 }
 
 /// Quad 0, cap 1, dart 2, skew quad 3.
 pub fn shape(code: u64) -> Answer<u64> {
-    Ok(unsafe { jgv_shape(code) }.read()?.shape)
+    Ok(jgv_shape(code).read()?.shape)
 }
 
 pub fn corner_count(code: u64) -> Answer<u64> {
-    Ok(unsafe { jgv_corner_count(code) }.read()?.count)
+    Ok(jgv_corner_count(code).read()?.count)
 }
 
 pub fn square(n: u64, s: u64, code: u64) -> Answer<Square> {
-    unsafe { jgv_square(n, s, code) }.read()
+    jgv_square(n, s, code).read()
 }
 
 pub fn nucleus(n: u64, s: u64, code: u64) -> Answer<Point> {
-    unsafe { jgv_nucleus(n, s, code) }.read()
+    jgv_nucleus(n, s, code).read()
 }
 
 pub fn vertices(n: u64, s: u64, code: u64) -> Answer<Vertices> {
-    unsafe { jgv_vertices(n, s, code) }.read()
+    jgv_vertices(n, s, code).read()
 }
 
 pub fn point_code(n: u64, s: u64, resolution: u64, x: i64, y: i64) -> Answer<u64> {
-    Ok(unsafe { jgv_point_code(n, s, resolution, x, y) }.read()?.code)
+    Ok(jgv_point_code(n, s, resolution, x, y).read()?.code)
 }
 
 pub fn fix_code(n: u64, s: u64, resolution: u64, longitude: i64, z: i64) -> Answer<u64> {
-    Ok(unsafe { jgv_fix_code(n, s, resolution, longitude, z) }.read()?.code)
+    Ok(jgv_fix_code(n, s, resolution, longitude, z).read()?.code)
 }
 
 pub fn ground_nucleus(n: u64, s: u64, code: u64) -> Answer<Fix> {
-    unsafe { jgv_ground_nucleus(n, s, code) }.read()
+    jgv_ground_nucleus(n, s, code).read()
 }
 
 /// Directions 0 to 3 are up, right, down, left.
 pub fn neighbour(n: u64, s: u64, code: u64, direction: u64) -> Answer<u64> {
-    Ok(unsafe { jgv_neighbour(n, s, code, direction) }.read()?.code)
+    Ok(jgv_neighbour(n, s, code, direction).read()?.code)
 }
 
+/// A text's n and s, the number of its whole cells and the sum of their sizes.
 pub fn coverage_check(text: &[u8]) -> Answer<Check> {
-    let check = unsafe { jgv_coverage_check(text.as_ptr(), text.len()) };
-    answer(check.refusal, check.place, check)
+    lent::coverage_check(text).read()
 }
 
 pub fn coverage_list<'a>(text: &[u8], codes: &'a mut [u64]) -> Answer<&'a [u64]> {
-    let list = unsafe { jgv_coverage_list(text.as_ptr(), text.len(), codes.as_mut_ptr(), codes.len()) };
-    let count = answer(list.refusal, list.place, list.count)?;
-    Ok(&codes[..count as usize])
+    let listed = lent::coverage_list(text, codes).read()?;
+    Ok(&codes[..listed.count as usize])
 }
 
 pub fn coverage_write<'a>(n: u64, s: u64, codes: &[u64], text: &'a mut [u8]) -> Answer<&'a [u8]> {
-    let written = unsafe { jgv_coverage_write(n, s, codes.as_ptr(), codes.len(), text.as_mut_ptr(), text.len()) }.read()?;
+    let written = lent::coverage_write(n, s, codes, text).read()?;
     Ok(&text[..written.length as usize])
 }
 
 pub fn coverage_ask(n: u64, s: u64, text: &[u8], code: u64) -> Answer<bool> {
-    let ask = unsafe { jgv_coverage_ask(n, s, text.as_ptr(), text.len(), code) };
-    answer(ask.refusal, ask.place, ask.covered == 1)
+    Ok(lent::coverage_ask(n, s, text, code).read()?.covered == 1)
 }

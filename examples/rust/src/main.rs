@@ -1,8 +1,6 @@
 //! A tour of every entry, on examples of the scope paper. The tours in C and Python print the same lines.
 //! Each line begins with the entry's name, without jgv_. The arrangement (n, s) is (0, 0) where no other is said.
 
-mod jeguarivo;
-
 use jeguarivo::*;
 
 /// The name of a cell; 16 bytes are enough for any.
@@ -145,8 +143,8 @@ fn coverage() -> Answer<()> {
     write_text(&["O", "P0", "P1", "P2", "P3", "P4", "P5", "P6", "P7", "P8"], &mut room)?;
     let text = write_text(&["P3", "P41"], &mut room)?;
 
-    let check = coverage_check(text)?;
-    println!("coverage_check: P(34(1)) -> {} whole cells, size {}", check.cells, check.size);
+    let Check { n, s, cells, size, .. } = coverage_check(text)?;
+    println!("coverage_check: P(34(1)) -> n {n}, s {s}, {cells} whole cells, size {size}");
     let mut codes = [0; 32]; // a text has fewer whole cells than bytes
     let listed = coverage_list(text, &mut codes)?;
     let names = listed.iter().map(|&code| name_of(code)).collect::<Answer<Vec<String>>>()?;

@@ -46,9 +46,11 @@ impl From<u64> for Refused {
 /// What an entry that reads a text answers.
 pub type TextAnswer<T> = Result<T, Refused>;
 
-/// "The number of whole cells in the reading and the sum of their sizes."
+/// The heading's n and s, "the number of whole cells in the reading and the sum of their sizes".
 #[derive(Clone, Copy, Debug, PartialEq, Eq)]
 pub struct Checked {
+    pub n: u64,
+    pub s: u64,
     pub cells: u64,
     pub size: u64,
 }
@@ -348,12 +350,15 @@ fn lend<T: Copy>(answer: &[T], lent: &mut [T]) -> Answer<u64> {
 
 // ---------------------------------------------------------------- the entries
 
-/// The number of whole cells and the sum of their sizes; refuses 13, 10, 9.
+/// The heading's n and s, the number of whole cells and the sum of their sizes; refuses 13, 10, 9.
 pub fn check(text: &[u8]) -> TextAnswer<Checked> {
     checked_text(text)?;
     let cells = whole_cells(text);
     let sizes = cells.iter().map(|name| finest_cells(name.len() as u64 - 1));
+    let [n, s] = [text[5], text[6]].map(|digit| u64::from(digit - b'0'));
     Ok(Checked {
+        n,
+        s,
         cells: cells.len() as u64,
         size: sizes.sum(),
     })

@@ -29,7 +29,7 @@ pub fn lines(input: &[u8]) -> Vec<&[u8]> {
 }
 
 /// A whole number in decimal, with a minus sign before it where it is negative.
-fn number(bytes: &[u8]) -> Option<i64> {
+pub fn number(bytes: &[u8]) -> Option<i64> {
     let digits = bytes.strip_prefix(b"-").unwrap_or(bytes);
     if digits.len() > MOST_DIGITS || !digits.iter().all(u8::is_ascii_digit) {
         return None;
@@ -38,7 +38,7 @@ fn number(bytes: &[u8]) -> Option<i64> {
 }
 
 /// "`longitude z`, two whole numbers in decimal"; a carriage return may stand before the line end.
-fn fix(line: &[u8]) -> Option<(i64, i64)> {
+pub fn fix(line: &[u8]) -> Option<(i64, i64)> {
     let line = line.strip_suffix(b"\r").unwrap_or(line);
     let words: Vec<&[u8]> = line.split(|&byte| byte == b' ').collect();
     match words[..] {
@@ -47,9 +47,9 @@ fn fix(line: &[u8]) -> Option<(i64, i64)> {
     }
 }
 
-/// The code of a line's cell; refuses 5, 2, 6, and a line that is no fix with 6.
+/// The code of a line's cell; refuses 5, 2, 6. A line that is no fix is like one out of range.
 pub fn line_code(n: u64, s: u64, resolution: u64, line: &[u8]) -> Answer<u64> {
-    let (longitude, z) = fix(line).ok_or(6u64)?;
+    let (longitude, z) = fix(line).unwrap_or((i64::MAX, i64::MAX));
     fix_code(n, s, resolution, longitude, z)
 }
 

@@ -54,7 +54,7 @@ fn belt_cell(resolution: u64, c: u64, a: i64, z: i64) -> Vec<u8> {
 
 /// The digits of 1/2 + x h / 1,800,000,000, with h = sqrt(root) / 10^9. That w/m is at most this
 /// is (2w - m) x 9 x 10^17 <= m x sqrt(root): "decided by sign and by whole-number squares".
-fn digits_over_root(resolution: u64, x: i128, root: u128) -> Vec<u8> {
+pub fn digits_over_root(resolution: u64, x: i128, root: u128) -> Vec<u8> {
     let square = |value: i128| Whole::new((value * value) as u128);
     let under_root = square(x).times(&Whole::new(root));
     ternary_digits(resolution, |w, m| {

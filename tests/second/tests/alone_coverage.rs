@@ -288,7 +288,13 @@ fn readings() {
             .collect();
         let size = spans.iter().map(|span| span.end - span.start).sum();
         let count = cells.len() as u64;
-        assert_eq!(check(&text), Ok(Checked { cells: count, size }));
+        let checked = Checked {
+            n: 0,
+            s: 0,
+            cells: count,
+            size,
+        };
+        assert_eq!(check(&text), Ok(checked));
         let mut codes = vec![0; cells.len()];
         assert_eq!(list(&text, &mut codes), Ok(count));
         assert_eq!(
@@ -453,7 +459,13 @@ fn given_whole() {
         (Ok(fifteen.clone()), 15)
     );
     let size = 25_418_658_283_290;
-    assert_eq!(check(&fifteen), Ok(Checked { cells: 2, size }));
+    let checked = Checked {
+        n: 0,
+        s: 0,
+        cells: 2,
+        size,
+    };
+    assert_eq!(check(&fifteen), Ok(checked));
     assert_eq!(written(3, 1, &[]), Ok(b"CVR\0\x0131".to_vec()));
     let faces = codes(&["N", "O", "P", "Q", "R", "S"]);
     assert_eq!(written(0, 0, &faces), Ok(text(&LETTERS)));

@@ -30,6 +30,20 @@ fn whole_numbers() {
     }
 }
 
+/// Floors over a root at the finest resolution: with h = 3/10 and the root of 1/5.
+#[test]
+fn floors_over_a_root() {
+    let floors = [
+        (900_000_000, 90_000_000_000_000_000, 9_326_789),
+        (-123_456_789, 200_000_000_000_000_000, 6_734_328),
+    ];
+    for (x, root, wanted) in floors {
+        let digits = digits_over_root(15, x, root);
+        let floor = digits.iter().fold(0, |floor, &d| 3 * floor + u64::from(d));
+        assert_eq!(floor, wanted);
+    }
+}
+
 /// 01's rules over real numbers, near enough in floating point: the way right and up from the
 /// middle of the face, in face sides.
 fn forward(n: u64, s: u64, longitude: i64, z: i64) -> (f64, f64) {

@@ -1,6 +1,5 @@
 //! The proved coverage entries against the second program: each on more than a hundred thousand
-//! texts or lists, all short texts, and the values that 01 prints. A library that has no coverage
-//! entries doesn't link with this test.
+//! texts or lists, all short texts, and the values that 01 prints.
 
 #[cfg(not(proved))]
 #[test]
@@ -11,11 +10,11 @@ fn the_proved_library_is_linked() {
 /// Each entry on random, border, bad and long inputs.
 #[cfg(proved)]
 mod entries {
+    use jeguarivo::Length;
     use second::compare::{About, Refusing, Tally};
     use second::coverage::{self, accepts, whole_cells, written, RULES};
     use second::grid::Answer;
-    use second::proved::coverage as proved;
-    use second::proved::Length;
+    use second::proved::{coverage as proved, Like};
     use second::random::{Kind, Random, KINDS};
     use second::texts::{lent, lent_mut, Given};
 
@@ -93,7 +92,7 @@ mod entries {
                 }
             },
             about_text,
-            |given| coverage::check(lent(&given.bytes)).into(),
+            |given| Like::like(coverage::check(lent(&given.bytes))),
             |given| proved::check(lent(&given.bytes)),
         );
     }
@@ -118,7 +117,12 @@ mod entries {
                 }
             },
             about_text,
-            |given| coverage::list(lent(&given.bytes), lent_mut(&mut given.codes)).into(),
+            |given| {
+                Like::like(coverage::list(
+                    lent(&given.bytes),
+                    lent_mut(&mut given.codes),
+                ))
+            },
             |given| proved::list(lent(&given.bytes), lent_mut(&mut given.codes)),
         );
     }
@@ -152,7 +156,7 @@ mod entries {
             |given| {
                 let (codes, bytes) = (lent(&given.codes), lent_mut(&mut given.bytes));
                 let answer: Answer<u64> = coverage::write(given.n, given.s, codes, bytes);
-                Length::from(answer)
+                Length::like(answer)
             },
             |given| {
                 let (codes, bytes) = (lent(&given.codes), lent_mut(&mut given.bytes));
@@ -186,7 +190,14 @@ mod entries {
                 arrangement: Some((given.n, given.s)),
                 resolution: given.code % 16,
             },
-            |given| coverage::ask(given.n, given.s, lent(&given.bytes), given.code).into(),
+            |given| {
+                Like::like(coverage::ask(
+                    given.n,
+                    given.s,
+                    lent(&given.bytes),
+                    given.code,
+                ))
+            },
             |given| proved::ask(given.n, given.s, lent(&given.bytes), given.code),
         );
     }
@@ -195,9 +206,10 @@ mod entries {
 /// Every string of some bytes up to a length, after some beginnings, checked and listed.
 #[cfg(proved)]
 mod all_short_texts {
+    use jeguarivo::{Check, List};
     use second::compare::say;
     use second::coverage::{self, HEADING};
-    use second::proved::coverage as proved;
+    use second::proved::{coverage as proved, Like};
 
     /// Compares each text, and each with so many closing brackets behind it.
     fn same_after(beginning: &[u8], alphabet: &[u8], length: usize, closing: usize) -> [u64; 2] {
@@ -222,11 +234,11 @@ mod all_short_texts {
     }
 
     fn same(text: &[u8], counts: &mut [u64; 2]) {
-        let wanted = proved::Check::from(coverage::check(text));
+        let wanted = Check::like(coverage::check(text));
         assert_eq!(proved::check(text), wanted, "{}", text.escape_ascii());
         let (mut codes, mut wanted) = ([7; 9], [7; 9]);
         let listed = proved::list(text, &mut codes);
-        let by_second = proved::List::from(coverage::list(text, &mut wanted));
+        let by_second = List::like(coverage::list(text, &mut wanted));
         assert_eq!((listed, codes), (by_second, wanted));
         counts[0] += 1;
         counts[1] += u64::from([0, 8].contains(&listed.refusal));
@@ -241,7 +253,9 @@ mod all_short_texts {
     #[test]
     fn after_a_heading_up_to_eight_bytes() {
         let counts = same_after(b"", b"O08()", 8, 0);
-        say(&format!("all bodies of five bytes (all, accepted): {counts:?}"));
+        say(&format!(
+            "all bodies of five bytes (all, accepted): {counts:?}"
+        ));
     }
 
     #[test]
@@ -267,7 +281,7 @@ mod all_short_texts {
                 for byte in 0..=255 {
                     let mut text = text[..length].to_vec();
                     text[at] = byte;
-                    let wanted = proved::Check::from(coverage::check(&text));
+                    let wanted = Check::like(coverage::check(&text));
                     assert_eq!(proved::check(&text), wanted, "{}", text.escape_ascii());
                 }
             }
@@ -278,20 +292,22 @@ mod all_short_texts {
 /// The values that 01 and the readings print, from both programs.
 #[cfg(proved)]
 mod printed {
-    use second::coverage::{self, HEADING, LONGEST};
+    use jeguarivo::{Check, Length, List};
+    use second::coverage::{self, heading, HEADING, LONGEST};
     use second::grid::{code_of, finest_cells};
-    use second::proved::coverage as proved;
-    use second::proved::Length;
+    use second::proved::{coverage as proved, Like};
 
-    /// Both programs check a text to this refusal, place, number of cells and sum of sizes.
+    /// Both programs check a text of the arrangement (0, 0) to this refusal, place, number of cells
+    /// and sum of sizes.
     fn is(text: &[u8], refusal: u64, place: u64, cells: u64, size: u64) {
-        let wanted = proved::Check {
+        let wanted = Check {
             refusal,
             place,
             cells,
             size,
+            ..Check::default()
         };
-        assert_eq!(proved::Check::from(coverage::check(text)), wanted);
+        assert_eq!(Check::like(coverage::check(text)), wanted);
         assert_eq!(proved::check(text), wanted, "{}", text.escape_ascii());
     }
 
@@ -311,6 +327,21 @@ mod printed {
         assert_eq!(lent, [&wanted[..], &[0xEE]].concat());
     }
 
+    /// Both programs list these whole cells of a body, rising.
+    fn lists(of: &[u8], names: &[&str]) {
+        let codes: Vec<u64> = names.iter().map(|name| code_of(name.as_bytes())).collect();
+        let (mut by_second, mut by_proved) = (vec![7; codes.len()], vec![7; codes.len()]);
+        let count = codes.len() as u64;
+        assert_eq!(coverage::list(&body(of), &mut by_second), Ok(count));
+        let wanted = List {
+            refusal: 0,
+            place: 0,
+            count,
+        };
+        assert_eq!(proved::list(&body(of), &mut by_proved), wanted);
+        assert_eq!((&by_second, &by_proved), (&codes, &codes));
+    }
+
     #[test]
     fn given_whole() {
         writes(
@@ -318,9 +349,13 @@ mod printed {
             b"OP",
         );
         writes(&["P3", "P41"], b"P(34(1))");
+        lists(b"P(34(1))", &["P3", "P41"]);
+        assert_eq!(body(b"P(34(1))").len(), 15);
         is(&body(b"P(34(1))"), 0, 0, 2, 25_418_658_283_290);
         writes(&[], b"");
+        lists(b"", &[]);
         writes(&["N", "O", "P", "Q", "R", "S"], b"NOPQRS");
+        lists(b"NOPQRS", &["N", "O", "P", "Q", "R", "S"]);
         is(&body(b"NOPQRS"), 0, 0, 6, 6 * 9u64.pow(15));
     }
 
@@ -337,6 +372,13 @@ mod printed {
             9,
             8 * 9u64.pow(14) + 9u64.pow(13),
         );
+        lists(
+            b"O(012345678(0))",
+            &["O0", "O1", "O2", "O3", "O4", "O5", "O6", "O7", "O80"],
+        );
+        // "At depth 15 the last 8 can't stand", but a list may follow it at 14
+        let less_deep = [&b"O"[..], &b"(0".repeat(13), b"(012345678"].concat();
+        is(&body(&less_deep), 9, 7 + 27 + 10, 0, 0);
         let deep = [&b"O"[..], &b"(0".repeat(14)].concat();
         is(
             &body(&[&deep[..], b"(012345678"].concat()),
@@ -359,6 +401,50 @@ mod printed {
         is(b"CVR\0\x0100", 0, 0, 0, 0);
     }
 
+    /// N and N0; N0 and N; N0 twice; N0 and N1; 16 is no cell's code, and 4 comes before 11.
+    #[test]
+    fn lists_of_codes() {
+        let lists: [(&[u64], u64); 5] = [
+            (&[0, 1], 11),
+            (&[1, 0], 11),
+            (&[1, 1], 11),
+            (&[1, 366_028_679_279_377], 0),
+            (&[1, 0, 16], 4),
+        ];
+        for (codes, refusal) in lists {
+            let by_second = coverage::written(0, 0, codes);
+            assert_eq!(by_second.as_ref().err().copied().unwrap_or(0), refusal);
+            let mut lent = [0xEE; 12];
+            let answer = proved::write(0, 0, codes, &mut lent);
+            assert_eq!(
+                answer,
+                Length::like(by_second.clone().map(|text| text.len() as u64))
+            );
+            let text = by_second.unwrap_or_default();
+            let after = [&text[..], &vec![0xEE; lent.len() - text.len()]].concat();
+            assert_eq!(&lent[..], &after);
+        }
+    }
+
+    /// A text names its own arrangement; a refused one does not.
+    #[test]
+    fn arrangements() {
+        for (n, s) in (0..16).map(|both| (both / 4, both % 4)) {
+            let mut text = [&heading(n, s)[..], b"N(8)S"].concat();
+            let wanted = Check {
+                n,
+                s,
+                cells: 2,
+                size: 9u64.pow(15) + 9u64.pow(14),
+                ..Check::default()
+            };
+            assert_eq!(Check::like(coverage::check(&text)), wanted);
+            assert_eq!(proved::check(&text), wanted);
+            text.push(b'S');
+            is(&text, 9, 12, 0, 0);
+        }
+    }
+
     /// Past the length limit nothing else is looked at, and at it all is.
     #[test]
     fn longest() {
@@ -374,7 +460,7 @@ mod printed {
         for codes in [&many[..], &many[1..]] {
             let (mut lent, mut wanted) = ([9; 80], [9; 80]);
             let answer = proved::write(0, 0, codes, &mut lent);
-            let by_second = Length::from(coverage::write(0, 0, codes, &mut wanted));
+            let by_second = Length::like(coverage::write(0, 0, codes, &mut wanted));
             assert_eq!((answer, lent), (by_second, wanted));
             assert_eq!(answer.refusal, 0);
         }

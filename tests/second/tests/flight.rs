@@ -1,7 +1,7 @@
 //! The sample flight in examples/flight: its expected text is the second program's.
 
 use second::coverage::{ask, check, whole_cells};
-use second::flights::{lines, named, recorded};
+use second::flights::{line_code, lines, named, recorded};
 use second::grid::code_of;
 
 fn example(file: &str) -> Vec<u8> {
@@ -17,6 +17,16 @@ fn the_sample_text_is_the_second_programs() {
         flown.text == Ok(example("flight/flight.cvr")),
         "examples/flight/flight.cvr is not the text of flight.txt"
     );
+}
+
+/// 5 and 2 come before 6, whatever the line is.
+#[test]
+fn a_line_that_is_no_fix() {
+    for line in [&b"x"[..], b"", b"1800000000 0"] {
+        assert_eq!(line_code(4, 0, 16, line), Err(5));
+        assert_eq!(line_code(0, 3, 16, line), Err(2));
+        assert_eq!(line_code(0, 3, 15, line), Err(6));
+    }
 }
 
 /// The longitudes of a flight.
@@ -54,7 +64,8 @@ fn what_the_example_prints_is_the_second_programs() {
         expected.lines().partition(|line| line.starts_with("$ "));
     let text = example("flight/flight.cvr");
     let checked = check(&text).expect("an accepted text");
-    let mut wanted = vec![format!("0 0 {} {}", checked.cells, checked.size)];
+    let (n, s) = (char::from(text[5]), char::from(text[6])); // the heading's digits
+    let mut wanted = vec![format!("0 0 {n} {s} {} {}", checked.cells, checked.size)];
     let cells = whole_cells(&text);
     let string = |name: &[u8]| String::from_utf8(name.to_vec()).expect("letters and digits");
     wanted.extend(cells.iter().take(5).map(|name| string(name)));

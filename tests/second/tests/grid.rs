@@ -11,8 +11,9 @@ fn the_proved_library_is_linked() {
 #[cfg(proved)]
 mod entries {
     use second::compare::{compare, About};
+    use second::grid;
+    use second::proved::{self, Like};
     use second::random::{Kind, Random, GUARD};
-    use second::{grid, proved};
 
     fn at(resolution: u64) -> About {
         About {
@@ -53,7 +54,7 @@ mod entries {
                 (face, resolution, row, random.row(kind, resolution))
             },
             |&(_, resolution, _, _)| at(resolution),
-            |&(f, k, i, j)| grid::cell_code(f, k, i, j).into(),
+            |&(f, k, i, j)| Like::like(grid::cell_code(f, k, i, j)),
             |&(f, k, i, j)| proved::cell_code(f, k, i, j),
         );
     }
@@ -65,7 +66,7 @@ mod entries {
             &[4],
             Random::code,
             |&code| at(code % 16),
-            |&code| grid::code_cell(code).into(),
+            |&code| Like::like(grid::code_cell(code)),
             |&code| proved::code_cell(code),
         );
     }
@@ -77,7 +78,7 @@ mod entries {
             &[1, 2, 3],
             Random::name_bytes,
             |bytes| at((bytes.len() as u64).wrapping_sub(1)),
-            |bytes| (grid::name_code(bytes).into(), bytes.clone()),
+            |bytes| (Like::like(grid::name_code(bytes)), bytes.clone()),
             |bytes| {
                 let lent = bytes.clone();
                 (proved::name_code(&lent), lent)
@@ -98,7 +99,7 @@ mod entries {
                 (code, random.memory(room))
             },
             |&(code, _)| at(code % 16),
-            |(code, memory)| lend(memory, |lent| grid::code_name(*code, lent).into()),
+            |(code, memory)| lend(memory, |lent| Like::like(grid::code_name(*code, lent))),
             |(code, memory)| lend(memory, |lent| proved::code_name(*code, lent)),
         );
     }
@@ -110,7 +111,7 @@ mod entries {
             &[4, 12],
             Random::code,
             |&code| at(code % 16),
-            |&code| grid::parent(code).into(),
+            |&code| Like::like(grid::parent(code)),
             |&code| proved::parent(code),
         );
     }
@@ -122,7 +123,7 @@ mod entries {
             &[3, 4, 12],
             |random, kind| (random.code(kind), random.number(kind, 9)),
             |&(code, _)| at(code % 16),
-            |&(code, digit)| grid::child(code, digit).into(),
+            |&(code, digit)| Like::like(grid::child(code, digit)),
             |&(code, digit)| proved::child(code, digit),
         );
     }
@@ -134,7 +135,7 @@ mod entries {
             &[4],
             Random::code,
             |&code| at(code % 16),
-            |&code| grid::size(code).into(),
+            |&code| Like::like(grid::size(code)),
             |&code| proved::size(code),
         );
     }
@@ -146,7 +147,7 @@ mod entries {
             &[4],
             Random::code,
             |&code| at(code % 16),
-            |&code| grid::shape(code).into(),
+            |&code| Like::like(grid::shape(code)),
             |&code| proved::shape(code),
         );
     }
@@ -158,7 +159,7 @@ mod entries {
             &[4],
             Random::code,
             |&code| at(code % 16),
-            |&code| grid::corner_count(code).into(),
+            |&code| Like::like(grid::corner_count(code)),
             |&code| proved::corner_count(code),
         );
     }
@@ -170,7 +171,7 @@ mod entries {
             &[4, 5],
             arranged,
             |&(n, s, code)| arranged_at(n, s, code % 16),
-            |&(n, s, code)| grid::square(n, s, code).into(),
+            |&(n, s, code)| Like::like(grid::square(n, s, code)),
             |&(n, s, code)| proved::square(n, s, code),
         );
     }
@@ -182,7 +183,7 @@ mod entries {
             &[4, 5],
             arranged,
             |&(n, s, code)| arranged_at(n, s, code % 16),
-            |&(n, s, code)| grid::nucleus(n, s, code).into(),
+            |&(n, s, code)| Like::like(grid::nucleus(n, s, code)),
             |&(n, s, code)| proved::nucleus(n, s, code),
         );
     }
@@ -194,7 +195,7 @@ mod entries {
             &[4, 5],
             arranged,
             |&(n, s, code)| arranged_at(n, s, code % 16),
-            |&(n, s, code)| grid::vertices(n, s, code).into(),
+            |&(n, s, code)| Like::like(grid::vertices(n, s, code)),
             |&(n, s, code)| proved::vertices(n, s, code),
         );
     }
@@ -211,7 +212,7 @@ mod entries {
                 (n, s, resolution, x, y)
             },
             |&(n, s, resolution, _, _)| arranged_at(n, s, resolution),
-            |&(n, s, k, x, y)| grid::point_code(n, s, k, x, y).into(),
+            |&(n, s, k, x, y)| Like::like(grid::point_code(n, s, k, x, y)),
             |&(n, s, k, x, y)| proved::point_code(n, s, k, x, y),
         );
     }
@@ -226,7 +227,7 @@ mod entries {
                 (n, s, code, random.number(kind, 4))
             },
             |&(n, s, code, _)| arranged_at(n, s, code % 16),
-            |&(n, s, code, direction)| grid::neighbour(n, s, code, direction).into(),
+            |&(n, s, code, direction)| Like::like(grid::neighbour(n, s, code, direction)),
             |&(n, s, code, direction)| proved::neighbour(n, s, code, direction),
         );
     }
@@ -235,8 +236,9 @@ mod entries {
 /// Every cell of resolution 0 to 3, through every entry that takes one.
 #[cfg(proved)]
 mod all_coarse_cells {
+    use jeguarivo::{Cell, Code, Count, Length, Point, Shape, Size, Square, Vertices};
     use second::grid::{self, cells_along, code_of, Name, LETTERS};
-    use second::proved::{self, *};
+    use second::proved::{self, Like};
 
     fn coarse_names() -> Vec<Name> {
         let mut level: Vec<Name> = LETTERS.iter().map(|&letter| vec![letter]).collect();
@@ -256,16 +258,16 @@ mod all_coarse_cells {
     fn without_an_arrangement() {
         for name in coarse_names() {
             let code = code_of(&name);
-            assert_eq!(proved::code_cell(code), Cell::from(grid::code_cell(code)));
-            assert_eq!(proved::name_code(&name), Code::from(Ok(code)));
-            assert_eq!(proved::parent(code), Code::from(grid::parent(code)));
+            assert_eq!(proved::code_cell(code), Cell::like(grid::code_cell(code)));
+            assert_eq!(proved::name_code(&name), Code::like(Ok(code)));
+            assert_eq!(proved::parent(code), Code::like(grid::parent(code)));
             for digit in 0..10 {
-                let wanted = Code::from(grid::child(code, digit));
+                let wanted = Code::like(grid::child(code, digit));
                 assert_eq!(proved::child(code, digit), wanted);
             }
-            assert_eq!(proved::size(code), Size::from(grid::size(code)));
-            assert_eq!(proved::shape(code), ShapeNumber::from(grid::shape(code)));
-            let count = Count::from(grid::corner_count(code));
+            assert_eq!(proved::size(code), Size::like(grid::size(code)));
+            assert_eq!(proved::shape(code), Shape::like(grid::shape(code)));
+            let count = Count::like(grid::corner_count(code));
             assert_eq!(proved::corner_count(code), count);
         }
     }
@@ -277,7 +279,7 @@ mod all_coarse_cells {
                 let (mut lent, mut wanted) = (vec![0xA5; room], vec![0xA5; room]);
                 let answer = proved::code_name(code_of(&name), &mut lent);
                 let by_second = grid::code_name(code_of(&name), &mut wanted);
-                assert_eq!((answer, lent), (Length::from(by_second), wanted));
+                assert_eq!((answer, lent), (Length::like(by_second), wanted));
             }
         }
     }
@@ -289,7 +291,7 @@ mod all_coarse_cells {
             let m = cells_along(resolution);
             for face in 0..=6 {
                 for (row, column) in (0..=m).flat_map(|i| (0..=m).map(move |j| (i, j))) {
-                    let wanted = grid::cell_code(face, resolution, row, column).into();
+                    let wanted = Code::like(grid::cell_code(face, resolution, row, column));
                     assert_eq!(proved::cell_code(face, resolution, row, column), wanted);
                 }
             }
@@ -301,14 +303,14 @@ mod all_coarse_cells {
         for (n, s) in (0..16).map(|both| (both / 4, both % 4)) {
             for name in coarse_names() {
                 let code = code_of(&name);
-                let square = SquareAnswer::from(grid::square(n, s, code));
+                let square = Square::like(grid::square(n, s, code));
                 assert_eq!(proved::square(n, s, code), square);
-                let nucleus = Point::from(grid::nucleus(n, s, code));
+                let nucleus = Point::like(grid::nucleus(n, s, code));
                 assert_eq!(proved::nucleus(n, s, code), nucleus);
-                let vertices = Vertices::from(grid::vertices(n, s, code));
+                let vertices = Vertices::like(grid::vertices(n, s, code));
                 assert_eq!(proved::vertices(n, s, code), vertices);
                 for direction in 0..5 {
-                    let wanted = Code::from(grid::neighbour(n, s, code, direction));
+                    let wanted = Code::like(grid::neighbour(n, s, code, direction));
                     assert_eq!(proved::neighbour(n, s, code, direction), wanted);
                 }
             }
@@ -326,7 +328,7 @@ mod all_coarse_cells {
                     let x = square.left + square.side / 2 * (column / 3) + column % 3 - 1;
                     let y = square.top - square.side / 2 * (row / 3) + row % 3 - 1;
                     let k = name.len() as u64 - 1;
-                    let wanted = Code::from(grid::point_code(n, s, k, x, y));
+                    let wanted = Code::like(grid::point_code(n, s, k, x, y));
                     assert_eq!(proved::point_code(n, s, k, x, y), wanted);
                 }
             }
@@ -337,8 +339,9 @@ mod all_coarse_cells {
 /// The values that 01 and 000 print, from both programs.
 #[cfg(proved)]
 mod printed {
-    use second::grid::{self, M};
-    use second::proved::{self, Code, Length};
+    use jeguarivo::{Cell, Code, Length, Shape, Square};
+    use second::grid::{self, code_of, M};
+    use second::proved::{self, Like};
 
     /// The name that a proved code has, by the proved library.
     fn name_of(code: Code) -> String {
@@ -354,7 +357,7 @@ mod printed {
         let p0 = proved::name_code(b"P0").code;
         let four = (0..4).map(|direction| {
             let next = proved::neighbour(n, s, p0, direction);
-            assert_eq!(next, Code::from(grid::neighbour(n, s, p0, direction)));
+            assert_eq!(next, Code::like(grid::neighbour(n, s, p0, direction)));
             name_of(next)
         });
         four.collect()
@@ -376,6 +379,57 @@ mod printed {
         }
         let past = proved::size(19_765_548_681_086_304);
         assert_eq!((past.refusal, past.size), (4, 0));
+    }
+
+    /// Cells as face, resolution, row and column, with their names: the code leads to each.
+    #[test]
+    fn places() {
+        let greatest = 14_348_906;
+        let places: [(&[u8], [u64; 4]); 8] = [
+            (b"N", [0, 0, 0, 0]),
+            (b"N0", [0, 1, 0, 0]),
+            (b"N1", [0, 1, 0, 1]),
+            (b"O", [1, 0, 0, 0]),
+            (b"P3", [2, 1, 1, 0]),
+            (b"P41", [2, 2, 3, 4]),
+            (b"Q33", [3, 2, 4, 0]),
+            (b"S888888888888888", [5, 15, greatest, greatest]),
+        ];
+        for (name, [face, resolution, row, column]) in places {
+            let code = code_of(name);
+            let wanted = Cell {
+                refusal: 0,
+                face,
+                resolution,
+                row,
+                column,
+            };
+            assert_eq!(Cell::like(grid::code_cell(code)), wanted);
+            assert_eq!(proved::code_cell(code), wanted);
+            let by_second = grid::cell_code(face, resolution, row, column);
+            assert_eq!(by_second, Ok(code));
+            let found = proved::cell_code(face, resolution, row, column);
+            assert_eq!(found, Code::like(by_second));
+            assert_eq!(name_of(found).as_bytes(), name);
+        }
+    }
+
+    #[test]
+    fn refused_names() {
+        for (name, refusal) in [(&b"N9"[..], 3), (b"X", 1)] {
+            assert_eq!(grid::name_code(name), Err(refusal));
+            assert_eq!(proved::name_code(name), Code::refused(refusal));
+        }
+    }
+
+    /// 000, section 4: quad 0, cap 1, dart 2, skew quad 3.
+    #[test]
+    fn shapes() {
+        for (name, shape) in [("N", 1), ("N4", 1), ("N0", 2), ("N1", 3), ("P0", 0)] {
+            let code = code_of(name.as_bytes());
+            assert_eq!(grid::shape(code), Ok(shape), "{name}");
+            assert_eq!(proved::shape(code), Shape { refusal: 0, shape }, "{name}");
+        }
     }
 
     /// 01, proved table, line 9.
@@ -408,6 +462,23 @@ mod printed {
                 code: 0,
             };
             assert_eq!(proved::point_code(0, 0, resolution, 4 * M, 0), refused);
+        }
+    }
+
+    /// "A face side is M = 2 x 3^15 = 28,697,814 units"; the last point of the belt on the equator,
+    /// and its lowest one on the left, which the lowest row owns.
+    #[test]
+    fn last_points() {
+        assert_eq!((M, M), (28_697_814, 2 * 3i64.pow(15)));
+        let square = Square::like(grid::square(0, 0, code_of(b"O")));
+        assert_eq!((square.left, square.top, square.side), (0, M / 2, M));
+        assert_eq!(proved::square(0, 0, code_of(b"O")), square);
+        for (x, y, name) in [(4 * M - 1, 0, "R5"), (0, -M / 2, "O6")] {
+            assert_eq!(
+                grid::point_code(0, 0, 1, x, y),
+                Ok(code_of(name.as_bytes()))
+            );
+            assert_eq!(name_of(proved::point_code(0, 0, 1, x, y)), name);
         }
     }
 }

@@ -12,8 +12,9 @@ fn the_proved_library_is_linked() {
 #[cfg(proved)]
 mod entries {
     use second::compare::{compare, compare_mix, About};
+    use second::ground;
+    use second::proved::{self, Like};
     use second::random::Kind;
-    use second::{ground, proved};
 
     fn about(n: u64, s: u64, resolution: u64) -> About {
         About {
@@ -37,7 +38,7 @@ mod entries {
                 (n, s, resolution, longitude, z)
             },
             |&(n, s, resolution, _, _)| about(n, s, resolution),
-            |&(n, s, k, longitude, z)| ground::fix_code(n, s, k, longitude, z).into(),
+            |&(n, s, k, longitude, z)| Like::like(ground::fix_code(n, s, k, longitude, z)),
             |&(n, s, k, longitude, z)| proved::fix_code(n, s, k, longitude, z),
         );
     }
@@ -52,7 +53,7 @@ mod entries {
                 (n, s, random.code(kind))
             },
             |&(n, s, code)| about(n, s, code % 16),
-            |&(n, s, code)| ground::ground_nucleus(n, s, code).into(),
+            |&(n, s, code)| Like::like(ground::ground_nucleus(n, s, code)),
             |&(n, s, code)| proved::ground_nucleus(n, s, code),
         );
     }
@@ -61,16 +62,17 @@ mod entries {
 /// "Each cell's nucleus, taken to the ground and cut to whole units, names that cell again."
 #[cfg(proved)]
 mod nuclei {
+    use jeguarivo::{Code, Fix};
     use second::compare::say;
     use second::grid::{code_of, LETTERS};
-    use second::proved::{self, Code, Fix};
+    use second::proved::{self, Like};
     use second::random::{Kind, Random};
     use second::{grid::Name, ground};
 
     /// Checks one cell, by both programs.
     fn names_itself(n: u64, s: u64, code: u64) {
         let fix = proved::ground_nucleus(n, s, code);
-        assert_eq!(fix, Fix::from(ground::ground_nucleus(n, s, code)));
+        assert_eq!(fix, Fix::like(ground::ground_nucleus(n, s, code)));
         let (longitude, z) = (fix.longitude, fix.z);
         let found = proved::fix_code(n, s, code % 16, longitude, z);
         assert_eq!(found, Code { refusal: 0, code }, "{n} {s} {fix:?}");
@@ -121,10 +123,11 @@ mod nuclei {
 /// Values that 01 prints and positions a hair from an edge, from both programs.
 #[cfg(proved)]
 mod printed {
+    use jeguarivo::{Cell, Code, Fix};
     use second::fixes::exact_edges;
     use second::grid::code_of;
     use second::ground::{self, HALF_TURN, ONE, QUARTER};
-    use second::proved::{self, Code};
+    use second::proved::{self, Like};
 
     /// The cell of a fix is the named one, by both programs.
     fn is(n: u64, s: u64, k: u64, longitude: i64, z: i64, name: &str) {
@@ -140,7 +143,8 @@ mod printed {
     fn lines_1_to_8() {
         let (west, z) = (-1_350_000_000, 666_666_666_666_666_666);
         is(0, 0, 2, 0, 0, "Q33");
-        for longitude in [-HALF_TURN, west, -1, 0, 1, QUARTER, HALF_TURN - 1] {
+        let any = 123_456_789;
+        for longitude in [-HALF_TURN, west, -1, 0, 1, any, QUARTER, HALF_TURN - 1] {
             is(0, 0, 1, longitude, ONE, "N4");
         }
         is(0, 0, 1, west, z, "O1");
@@ -159,6 +163,42 @@ mod printed {
         is(0, 0, 1, west, z + 1, "N4");
         is(0, 0, 1, west, -z, "S1");
         is(0, 0, 1, west, -z - 1, "S4");
+    }
+
+    /// Both are floored, so that the south is no mirror of the north: z is 23/27 of 10^18.
+    #[test]
+    fn ground_nuclei() {
+        let nuclei = [
+            ("N7", 851_851_851_851_851_851),
+            ("S1", -851_851_851_851_851_852),
+        ];
+        for (name, z) in nuclei {
+            let (code, longitude) = (code_of(name.as_bytes()), -1_350_000_000);
+            assert_eq!(ground::ground_nucleus(0, 0, code), Ok((longitude, z)));
+            let wanted = Fix {
+                refusal: 0,
+                longitude,
+                z,
+            };
+            assert_eq!(proved::ground_nucleus(0, 0, code), wanted);
+        }
+    }
+
+    /// At the finest resolution, with h = 3/10 and one turn: the column is 0.65 of 3^15, and the
+    /// row half of it, both floored.
+    #[test]
+    fn a_floor_over_a_root_at_15() {
+        let (longitude, z) = (-450_000_000, 970_000_000_000_000_000);
+        let found = proved::fix_code(0, 0, 15, longitude, z);
+        assert_eq!(found, Code::like(ground::fix_code(0, 0, 15, longitude, z)));
+        let wanted = Cell {
+            refusal: 0,
+            face: 0,
+            resolution: 15,
+            row: 7_174_453,
+            column: 9_326_789,
+        };
+        assert_eq!(proved::code_cell(found.code), wanted);
     }
 
     /// "At a pole every longitude gives the same cell": all 4s.
@@ -186,7 +226,7 @@ mod printed {
                 let longitude = a + c as i64 * QUARTER - HALF_TURN;
                 for (east, up) in (0..9).map(|step| (step % 3 - 1, step / 3 - 1)) {
                     let (longitude, z) = (longitude + east, z + up);
-                    let wanted = Code::from(ground::fix_code(n, s, k, longitude, z));
+                    let wanted = Code::like(ground::fix_code(n, s, k, longitude, z));
                     assert_eq!(proved::fix_code(n, s, k, longitude, z), wanted);
                 }
             }

@@ -2,7 +2,8 @@
 //! and bad ones. RATTLE_BIN names the folder of the programs; without it these tests fail.
 
 use second::compare::say;
-use second::flights::{lines, named, recorded};
+use second::coverage::HEADING;
+use second::flights::{fix, lines, named, number, recorded, MOST_CELLS};
 use second::random::{Random, KINDS};
 use std::fs::File;
 use std::path::PathBuf;
@@ -64,10 +65,12 @@ fn runs(random: &mut Random) -> Vec<Run> {
     runs
 }
 
-/// Runs a program of RATTLE_BIN with the input from a file, as a person would.
+/// Runs a program of RATTLE_BIN with the input from a file, as a person would. Each test has a
+/// file of its own, as tests run side by side.
 fn output(program: &str, run: &Run) -> Output {
     let folder = std::env::var("RATTLE_BIN").expect("RATTLE_BIN, so nothing was compared");
-    let file = PathBuf::from(env!("CARGO_TARGET_TMPDIR")).join(program);
+    let test = std::thread::current();
+    let file = PathBuf::from(env!("CARGO_TARGET_TMPDIR")).join(test.name().unwrap_or(program));
     std::fs::write(&file, &run.input).expect("a scratch file");
     Command::new(PathBuf::from(folder).join(program))
         .args(run.setting.map(|number| number.to_string()))
@@ -131,4 +134,62 @@ fn record() {
         "record: {all} lines, left out {left_out}; {texts} texts, {too_long} too long"
     ));
     assert!(all > 30_000 && left_out > 5000 && texts > 200 && too_long > 0);
+}
+
+/// `name_fixes` on an input, by both programs.
+fn names(setting: [u64; 3], input: &[u8], wanted: &str) {
+    let [n, s, resolution] = setting;
+    let by_second = named(n, s, resolution, input);
+    assert_eq!(String::from_utf8_lossy(&by_second), wanted);
+    let input = input.to_vec();
+    let found = output("name_fixes", &Run { setting, input });
+    assert_eq!(String::from_utf8_lossy(&found.stdout), wanted);
+    check_said(&found.stderr, &[], setting);
+}
+
+/// `record` on an input, by both programs: the text's body, or none, and what is said.
+fn records(setting: [u64; 3], input: &[u8], body: Option<&[u8]>, said: &[&str]) {
+    let [n, s, resolution] = setting;
+    let wanted = body.map_or(Vec::new(), |body| [HEADING, body].concat());
+    let flown = recorded(n, s, resolution, input);
+    assert_eq!(flown.text.unwrap_or_default(), wanted);
+    let input = input.to_vec();
+    let found = output("record", &Run { setting, input });
+    assert_eq!(found.stdout, wanted);
+    let said: Vec<String> = said.iter().map(|said| said.to_string()).collect();
+    check_said(&found.stderr, &said, setting);
+}
+
+/// A fix with a carriage return, one number alone, and a number of 64 bits.
+#[test]
+fn printed_lines() {
+    assert_eq!(fix(b"-42 7\r"), Some((-42, 7)));
+    assert_eq!(fix(b"7"), None);
+    assert_eq!(number(b"9223372036854775807"), Some(i64::MAX));
+    assert_eq!(number(b"9223372036854775808"), None);
+    assert_eq!(lines(b"1\n\n23"), [&b"1"[..], b"", b"23"]);
+    let setting = [0, 0, 2];
+    names(setting, b"0 0\n", "Q33\n");
+    names(setting, b"\n", "6\n");
+    names(setting, b"1\n\n23", "6\n6\n6\n");
+    names(setting, b"-42 7\r\n42 7\r\n7\n", "P55\nQ33\n6\n");
+    let long = b"9223372036854775808 0\n0 9223372036854775808\n";
+    names(setting, long, "6\n6\n");
+}
+
+/// A cell that is flown later goes to its place, one that is flown again changes nothing, and one
+/// more than a recorder holds is refused. Line numbers are printed in decimal.
+#[test]
+fn printed_flights() {
+    let (setting, fine) = ([0, 0, 0], [0, 0, 15]);
+    let three = b"-1800000000 0\n0 0\n-900000000 0\n0 0\n";
+    records(setting, three, Some(b"OPQ"), &[]);
+    let late = [&b"0 0\n".repeat(204)[..], b"x\n"].concat();
+    let said = ["record: line 205: refusal 6:"];
+    records(setting, &late, Some(b"Q"), &said);
+    let many: String = (0..=MOST_CELLS)
+        .map(|i| format!("{} 0\n", 100 * i))
+        .collect();
+    let said = ["record: nothing is written, there are more than 65,536 cells: refusal 13:"];
+    records(fine, many.as_bytes(), None, &said);
 }

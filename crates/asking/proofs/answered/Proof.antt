@@ -26,8 +26,9 @@ returns-3 : tie.Need-returns-3
 unfolding askedAs
 returns-3 c =
     let a = c .before .before .before .before .before .before .args in
+    let yes-or-no : Bool = anyWithin (wholeCells (nodesOf (a .text .now))) (cellOf (a .code)) in
     ap Covered (c .is-covered .ensures)
-    ∙ sym (ap₂ (λ (x y : Bool). cond (x && y) (Covered (anyWithin (wholeCells (nodesOf (a .text .now))) (cellOf (a .code)))) (Refused 14 0)) (eq-eqb _ _ (c .before .before .before .if1 .left)) (eq-eqb _ _ (c .before .if2 .left)))
+    ∙ sym (ap₂ (λ (x y : Bool). cond (x && y) (Covered yes-or-no) (Refused 14 0)) (eq-eqb _ _ (c .before .before .before .if1 .left)) (eq-eqb _ _ (c .before .if2 .left)))
 
 pub answered-spec : {M : Type 1} → statement M
 answered-spec = tie.close (tie.spec returns returns-2 is-covered-requires returns-3)

@@ -4,8 +4,8 @@ use mathlib.Core.Bool.{true}
 use borrow.Author.Needs.{needs}
 use borrow.Author.Tests.{not-true, not-false}
 use Rattle.code.specs.Code.{isCode}
-use Rattle.code.specs.CodeLaws.{code-passes, code-stops}
-use Rattle.reader.specs.AnswerLaws.{answered, refused}
+use Rattle.code.specs.Laws.Code.{code-passes, code-stops}
+use Rattle.reader.specs.Laws.Answer.{text-checked, text-refused}
 use Rattle.asking.proofs.Answers.{not-arranged, no-code, not-read, read-to}
 use Rattle.asking.proofs.ask.Statement.{statement}
 use Rattle.asking.proofs.ask.Tie as tie
@@ -43,14 +43,16 @@ enum-known-north c = search needs
 answered-requires : tie.Need-answered-requires
 answered-requires c κs =
     let k = c .before .before .before in
-    (answered _ (sym (c .before .north .given .1) ∙ k .check .ensures) .text, a-code (k .before))
+    let r = text-checked _ (sym (c .before .north .given .1) ∙ k .check .ensures) in
+    (r .text, r .start, a-code (k .before))
 
 returns-3 : tie.Need-returns-3
 returns-3 c =
     let k = c .before .before .before in
     let f = k .before .before .before in
     let a = f .before .before .before .args in
-    not-read (a .arrangement) (a .text .now) (a .code) (f .before .refusal .ensures) (f .if1 .left) (code-passes (a .code) (a-code (k .before))) (refused (a .text .now) (sym (c .before .refusal2 .given .1) ∙ k .check .ensures))
+    not-read (a .arrangement) (a .text .now) (a .code) (f .before .refusal .ensures) (f .if1 .left) (code-passes (a .code) (a-code (k .before)))
+    (text-refused (a .text .now) (sym (c .before .refusal2 .given .1) ∙ k .check .ensures))
 
 returns-4 : tie.Need-returns-4
 returns-4 c =
@@ -59,7 +61,8 @@ returns-4 c =
     let f = k .before .before .before in
     let a = f .before .before .before .args in
     c .answered .ensures
-    ∙ read-to (a .arrangement) (a .text .now) (a .code) (f .before .refusal .ensures) (f .if1 .left) (code-passes (a .code) (a-code (k .before))) (answered (a .text .now) (sym (w .north .given .1) ∙ k .check .ensures))
+    ∙ read-to (a .arrangement) (a .text .now) (a .code) (f .before .refusal .ensures) (f .if1 .left) (code-passes (a .code) (a-code (k .before)))
+    (text-checked (a .text .now) (sym (w .north .given .1) ∙ k .check .ensures))
 
 pub ask-spec : {M : Type 1} → statement M
 ask-spec =

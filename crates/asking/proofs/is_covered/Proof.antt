@@ -5,23 +5,24 @@ use native.Mathlib.Omega.{arith}
 use lib.ListN.{length, drop}
 use borrow.Author.Needs.{needs}
 use Rattle.code.specs.Code.{cellOf}
-use Rattle.code.specs.CodeLaws.{code-is-cell}
+use Rattle.code.specs.Laws.Code.{code-is-cell}
 use Rattle.code.specs.Inside.{endOf}
-use Rattle.code.specs.InsideLaws.{end-small, size-pos}
+use Rattle.code.specs.Laws.Inside.{end-small, size-pos}
 use Rattle.reading.specs.Ground.{wholeCells}
-use Rattle.reading.specs.ReadingLaws.{many-most}
+use Rattle.reading.specs.Laws.Reading.{many-most}
 use Rattle.reading.specs.TextReading.{nodesOf}
+use Rattle.walk.specs.Laws.Past.{node-some}
 use Rattle.asking.specs.Ask.{anyWithin}
-use Rattle.asking.specs.AskNodes.{anyIn, nodes-asked}
-use Rattle.asking.proofs.Laws.{Asks, asks-start, asks-end, asks-shut, asks-named, asks-fits, asks-behind, asks-past, asks-yes, asks-into, node-some}
+use Rattle.asking.specs.Internal.AskNodes.{anyIn, nodes-asked}
+use Rattle.asking.proofs.Laws.{Asks, asks-start, asks-end, asks-shut, asks-named, asks-fits, asks-behind, asks-past, asks-yes, asks-into}
 use Rattle.asking.proofs.is_covered.Statement.{statement}
 use Rattle.asking.proofs.is_covered.Tie as tie
 
 abbrev Inv-loop : tie.InvT-loop
-Inv-loop text code from to base₀ before₀ size₀ i₀ base before size i = Asks text from to (anyIn from to 0 (9 ^ 15) (nodesOf text)) base before size i
+Inv-loop text body code from to base₀ before₀ size₀ i₀ base before size i = Asks text from to (anyIn from to 0 (9 ^ 15) (nodesOf text)) base before size i
 
 abbrev μ-loop : tie.MeasureT-loop
-μ-loop text code from to base₀ before₀ size₀ i₀ base before size i = length text - i
+μ-loop text body code from to base₀ before₀ size₀ i₀ base before size i = length text - i
 
 -- the loop's first state gives the answer
 answer : (c : tie.After-size-in Inv-loop μ-loop) → let a = c .before .before .before .args in
@@ -36,7 +37,7 @@ some : (c : tie.After-size-in Inv-loop μ-loop) → c .before .start-in .result 
 some c = omega (arith, size-pos (cellOf (c .before .before .before .args .code)), c .size-in .ensures)
 
 start-in-requires : tie.Need-start-in-requires Inv-loop μ-loop
-start-in-requires c κs = c .before .pre .1
+start-in-requires c κs = c .before .pre .2
 
 size-in-requires : tie.Need-size-in-requires Inv-loop μ-loop
 size-in-requires c κs = search needs
@@ -45,11 +46,11 @@ add-to : tie.Need-add-to Inv-loop μ-loop
 unfolding endOf
 add-to c =
     let n = c .before .before .before in
-    let v = code-is-cell (n .args .code) (n .pre .1) in
+    let v = code-is-cell (n .args .code) (n .pre .2) in
     omega (arith, c .before .start-in .ensures, c .size-in .ensures, end-small (cellOf (n .args .code)) v, v .faced)
 
 loop-holds : tie.Need-loop-holds Inv-loop μ-loop
-loop-holds c = asks-start _ _ _ (c .before .before .before .pre .0)
+loop-holds c = asks-start _ _ _ (c .before .before .before .pre .0) (c .before .before .before .pre .1)
 
 shared-slice-read-b : tie.Need-shared-slice-read-b Inv-loop μ-loop
 shared-slice-read-b c = search needs
@@ -72,7 +73,9 @@ add-start : tie.Need-add-start Inv-loop μ-loop
 add-start c = omega (arith, asks-fits (c .before .before .before .loop .inv) (c .before .before .loop-test .taken) (c .if1 .left))
 
 returns-2 : tie.Need-returns-2 Inv-loop μ-loop
-returns-2 c = asks-behind (c .before .before .before .before .loop .inv) (c .before .before .before .loop-test .taken) (c .before .if1 .left) (c .if2 .taken) ∙ answer (c .before .before .before .before .before)
+returns-2 c =
+    asks-behind (c .before .before .before .before .loop .inv) (c .before .before .before .loop-test .taken) (c .before .if1 .left) (c .if2 .taken) ∙ answer
+    (c .before .before .before .before .before)
 
 add-if3 : tie.Need-add-if3 Inv-loop μ-loop
 add-if3 c = omega (arith, asks-fits (c .before .before .before .before .loop .inv) (c .before .before .before .loop-test .taken) (c .before .if1 .left))
@@ -81,16 +84,23 @@ past-node-requires : tie.Need-past-node-requires Inv-loop μ-loop
 past-node-requires c κs = search needs
 
 loop-less : tie.Need-loop-less Inv-loop μ-loop
-loop-less c = omega (arith, c .past-node .ensures, node-some (drop (c .before .before .before .before .before .before .loop .i) (c .before .before .before .before .before .before .before .before .before .before .args .text .now)))
+loop-less c =
+    let l = c .before .before .before .before .before .before in
+    omega (arith, c .past-node .ensures, node-some (drop (l .loop .i) (l .before .before .before .before .args .text .now)))
 
 loop-again : tie.Need-loop-again Inv-loop μ-loop
-loop-again c = rw (c .past-node .ensures) (asks-past (c .before .before .before .before .before .before .loop .inv) (c .before .before .before .before .before .loop-test .taken) (c .before .before .before .if1 .left) (c .before .if3 .taken))
+loop-again c =
+    let l = c .before .before .before .before .before in
+    rw (c .past-node .ensures) (asks-past (l .before .loop .inv) (l .loop-test .taken) (c .before .before .before .if1 .left) (c .before .if3 .taken))
 
 whole-at-requires : tie.Need-whole-at-requires Inv-loop μ-loop
 whole-at-requires c κs = search needs
 
 returns-3 : tie.Need-returns-3 Inv-loop μ-loop
-returns-3 c = asks-yes (c .before .before .before .before .before .before .before .loop .inv) (c .before .before .before .before .before .before .loop-test .taken) (c .before .before .before .before .if1 .left) (c .before .before .before .if2 .left) (c .before .before .if3 .left) (sym (c .before .whole-at .ensures) ∙ c .if4 .taken) ∙ answer (c .before .before .before .before .before .before .before .before)
+returns-3 c =
+    asks-yes (c .before .before .before .before .before .before .before .loop .inv) (c .before .before .before .before .before .before .loop-test .taken)
+    (c .before .before .before .before .if1 .left) (c .before .before .before .if2 .left) (c .before .before .if3 .left) (sym (c .before .whole-at .ensures) ∙ c .if4 .taken)
+    ∙ answer (c .before .before .before .before .before .before .before .before)
 
 add-i : tie.Need-add-i Inv-loop μ-loop
 add-i c = omega (arith, c .before .before .before .before .before .before .before .before .before .before .before .good)
@@ -99,7 +109,10 @@ loop-less-2 : tie.Need-loop-less-2 Inv-loop μ-loop
 loop-less-2 c = search needs
 
 loop-again-2 : tie.Need-loop-again-2 Inv-loop μ-loop
-loop-again-2 c = asks-into (c .before .before .before .before .before .before .before .loop .inv) (c .before .before .before .before .before .before .loop-test .taken) (c .before .before .before .before .if1 .left) (c .before .before .before .if2 .left) (c .before .before .if3 .left) (some (c .before .before .before .before .before .before .before .before)) (sym (c .before .whole-at .ensures) ∙ c .if4 .left)
+loop-again-2 c =
+    asks-into (c .before .before .before .before .before .before .before .loop .inv) (c .before .before .before .before .before .before .loop-test .taken)
+    (c .before .before .before .before .if1 .left) (c .before .before .before .if2 .left) (c .before .before .if3 .left)
+    (some (c .before .before .before .before .before .before .before .before)) (sym (c .before .whole-at .ensures) ∙ c .if4 .left)
 
 returns-4 : tie.Need-returns-4 Inv-loop μ-loop
 returns-4 c = asks-end (c .before .loop .inv) (c .loop-test .left) ∙ answer (c .before .before)

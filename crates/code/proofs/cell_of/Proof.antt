@@ -6,8 +6,8 @@ use Rattle.ternary.specs.Weave.{rowIn, columnIn}
 use Rattle.cell.specs.declared.Found.the-variants.{At}
 use Rattle.cell.specs.Cell.{found}
 use Rattle.code.specs.Code.{cellOf}
-use Rattle.code.specs.CodeLaws.{a-code}
-use Rattle.code.specs.DecodedLaws.{parted, unparted}
+use Rattle.code.specs.Laws.Code.{a-code}
+use Rattle.code.specs.Laws.Decoded.{parted, unparted}
 use Rattle.code.proofs.Laws.{path-below, row-sixteen, column-sixteen}
 use Rattle.code.proofs.cell_of.Statement.{statement}
 use Rattle.code.proofs.cell_of.Tie as tie

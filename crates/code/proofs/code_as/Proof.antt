@@ -1,10 +1,10 @@
 -- `code::code_as` meets its contract: the first finest cell is one of 9^16. Assumes nothing.
-use mathlib.Core.Path.{_≡_, ap}
+use mathlib.Core.Path.{ap}
 use Prim.Native.Nat.{ℕ, _+_, _*_, _≤_}
 use native.Mathlib.Omega.{arith}
 use borrow.Author.Needs.{needs}
 use Rattle.code.specs.Number.{startAs, codeAs}
-use Rattle.code.specs.NumberLaws.{end-as-small}
+use Rattle.code.specs.Laws.Number.{end-as-small}
 use Rattle.code.proofs.code_as.Statement.{statement}
 use Rattle.code.proofs.code_as.Tie as tie
 

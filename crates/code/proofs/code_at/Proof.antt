@@ -1,10 +1,10 @@
 -- `code::code_at` meets its contract: the path, moved up to the finest digits, is below 9^15. Assumes nothing.
-use mathlib.Core.Path.{_≡_, sym, ap, subst}
+use mathlib.Core.Path.{sym, ap, subst}
 use Prim.Native.Nat.{ℕ, _+_, _*_, _<_}
 use native.Mathlib.Omega.{arith}
 use borrow.Author.Needs.{needs}
 use Rattle.code.specs.Code.{codeAt}
-use Rattle.code.specs.CodeLaws.{finest-small}
+use Rattle.code.specs.Laws.Code.{finest-small}
 use Rattle.code.proofs.code_at.Statement.{statement}
 use Rattle.code.proofs.code_at.Tie as tie
 

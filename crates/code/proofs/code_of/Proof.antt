@@ -1,8 +1,7 @@
 -- `code::code_of` meets its contract. Assumes nothing.
-use mathlib.Core.Path.{_≡_, ap, _∙_}
-use borrow.Author.Needs.{needs}
+use mathlib.Core.Path.{ap, _∙_}
 use Rattle.code.specs.Code.{codeAt, codeOf}
-use Rattle.code.specs.CodeLaws.{path-small}
+use Rattle.code.specs.Laws.Code.{path-small}
 use Rattle.code.proofs.Laws.{both-below, path-sixteen}
 use Rattle.code.proofs.code_of.Statement.{statement}
 use Rattle.code.proofs.code_of.Tie as tie

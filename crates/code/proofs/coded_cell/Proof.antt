@@ -1,7 +1,7 @@
 -- `code::coded_cell` meets its contract. Assumes nothing.
-use mathlib.Core.Path.{_≡_, sym, ap, _∙_}
+use mathlib.Core.Path.{sym, _∙_}
 use borrow.Author.Needs.{needs}
-use Rattle.cell.specs.CellLaws.{is-cell}
+use Rattle.cell.specs.Laws.Cell.{is-cell}
 use Rattle.code.proofs.Laws.{refused, answered}
 use Rattle.code.proofs.coded_cell.Statement.{statement}
 use Rattle.code.proofs.coded_cell.Tie as tie

@@ -1,5 +1,5 @@
 -- `code::found_code` meets its contract. Assumes nothing.
-use mathlib.Core.Path.{_≡_, sym, ap, _∙_}
+use mathlib.Core.Path.{sym, ap, _∙_}
 use Rattle.code.specs.declared.Coded.the-variants.{Code}
 use Rattle.code.specs.Code.{foundCode}
 use borrow.Author.Needs.{needs}

@@ -1,12 +1,12 @@
 -- `code::is_code` meets its contract. Assumes nothing.
-use mathlib.Core.Path.{_≡_, sym, ap, ap₂, _∙_}
+use mathlib.Core.Path.{sym, ap, _∙_}
 use mathlib.Core.Bool.{_&&_}
 use Prim.Native.Nat.{ℕ, _/_, _%_, _-_, _^_, _≤_, _<_}
 use native.Mathlib.Omega.{arith}
 use lib.Dec.{eqb}
 use borrow.Author.Needs.{needs}
 use borrow.Author.Tests.{lt-ltb, le-ltb}
-use Rattle.ternary.specs.Powers.{nine-pos}
+use Rattle.ternary.specs.Laws.Powers.{nine-pos}
 use Rattle.code.specs.Code.{isCode}
 use Rattle.code.proofs.Laws.{rest-cut}
 use Rattle.code.proofs.is_code.Statement.{statement}

@@ -4,7 +4,7 @@ use Prim.Native.Nat.{ℕ, _-_, _*_, _/_, _%_, _≤_}
 use native.Mathlib.Nat.{div-add-mod'}
 use native.Mathlib.Omega.{arith}
 use borrow.Author.Needs.{needs}
-use Rattle.ternary.specs.Powers.{nine-pos}
+use Rattle.ternary.specs.Laws.Powers.{nine-pos}
 use Rattle.code.specs.Code.{pathIn}
 use Rattle.code.proofs.Laws.{no-code, a-code, no-face, a-rest, no-rest}
 use Rattle.code.proofs.parts_of.Statement.{statement}

@@ -1,5 +1,5 @@
 -- `code::start_in` meets its contract: a code without its resolution is the first finest cell. Assumes nothing.
-use Rattle.code.specs.InsideLaws.{start-at}
+use Rattle.code.specs.Laws.Inside.{start-at}
 use Rattle.code.proofs.start_in.Statement.{statement}
 use Rattle.code.proofs.start_in.Tie as tie
 

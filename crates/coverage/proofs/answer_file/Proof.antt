@@ -1,21 +1,37 @@
--- `answer_file` is safe: the bytes read lie within the buffer. Assumes nothing.
+-- `answer_file` is safe: the bytes of the file have their room. Assumes nothing.
 use mathlib.Core.Path.{sym}
 use lib.Seq.{length-take-le}
+use Rattle.console.specs.Laws.Input.{count-fits}
 use borrow.Author.Needs.{needs}
 use Rattle.coverage.proofs.answer_file.Statement.{statement}
 use Rattle.coverage.proofs.answer_file.Tie as tie
 
+buffer-requires : tie.Need-buffer-requires
+buffer-requires c κs = search needs
+
+slice-aggregate-load : tie.Need-slice-aggregate-load
+slice-aggregate-load c = search needs
+
+slice-aggregate-load-2 : tie.Need-slice-aggregate-load-2
+slice-aggregate-load-2 c = search needs
+
+load-requires : tie.Need-load-requires
+load-requires c κs = search needs
+
+enum-known-count : tie.Need-enum-known-count
+enum-known-count c = search needs
+
+enum-told : tie.Need-enum-told
+enum-told c = search needs
+
 returns : tie.Need-returns
 returns c = search needs
 
+array-share-prefix-text : tie.Need-array-share-prefix-text
+array-share-prefix-text c = count-fits _ _ (c .before .before .before .before .before .load .ensures) (c .before .count .given .1)
+
 slice-aggregate-answer : tie.Need-slice-aggregate-answer
-slice-aggregate-answer c = sym (length-take-le _ _ (c .before .before .before .pre))
-
-slice-aggregate-answer-2 : tie.Need-slice-aggregate-answer-2
-slice-aggregate-answer-2 c = search needs
-
-slice-aggregate-answer-3 : tie.Need-slice-aggregate-answer-3
-slice-aggregate-answer-3 c = search needs
+slice-aggregate-answer c = sym (length-take-le _ _ (count-fits _ _ (c .before .before .before .before .before .before .load .ensures) (c .before .before .count .given .1)))
 
 answer-requires : tie.Need-answer-requires
 answer-requires c κs = search needs
@@ -27,9 +43,14 @@ pub answer-file-spec : {M : Type 1} → statement M
 answer-file-spec =
     tie.close
     (tie.spec
+    buffer-requires
+    slice-aggregate-load
+    slice-aggregate-load-2
+    load-requires
+    enum-known-count
+    enum-told
     returns
+    array-share-prefix-text
     slice-aggregate-answer
-    slice-aggregate-answer-2
-    slice-aggregate-answer-3
     answer-requires
     returns-2)

@@ -1,42 +1,87 @@
--- `take_all` meets its contract: each turn takes the bytes that it read. Assumes nothing.
-use mathlib.Core.Path.{_≡_, refl}
-use Prim.Native.Nat.{_≤_}
-use native.Mathlib.Omega.{arith}
-use lib.ListN.{length}
+-- `take_all` meets its contract: each turn takes the line that it was handed, or stops there. Assumes nothing.
+use mathlib.Core.Path.{_≡_, refl, sym}
 use mathlib.Core.List.{[]}
-use Rattle.coverage.specs.Read.{OfSome}
-use Rattle.coverage.proofs.Laws.{reads-none, stopped-reads}
+use Prim.Native.Nat.{_-_, _≤_}
+use lib.ListN.{length, take}
+use lib.Seq.{length-take-le}
+use Rattle.lines.specs.Fold.{OfEnded}
+use Rattle.lines.specs.Laws.Fold.{no-line, then-none}
+use Rattle.console.specs.Input.{unread}
+use Rattle.console.specs.Laws.Input.{line-given, line-length, last-given, last-length}
+use Rattle.coverage.specs.Names.{read, withName}
+use Rattle.coverage.proofs.Laws.{taken-more, line-read, line-stops, last-read, last-stops}
+use native.Mathlib.Omega.{arith}
 use borrow.Author.Needs.{needs}
 use Rattle.coverage.proofs.take_all.Statement.{statement}
 use Rattle.coverage.proofs.take_all.Tie as tie
 
 abbrev Inv-loop : tie.InvT-loop
-Inv-loop bytes₀ line₀ codes₀ names₀ turns₀ t8 t9 bytes line codes names turns =
-    (names .count ≤ length codes) × (names .at ≤ length line) × (length bytes ≡ length bytes₀) × (length line ≡ length line₀) × (length codes ≡ length codes₀)
-    × OfSome line codes names
+Inv-loop bytes₀ room₀ codes₀ from₀ end₀ count₀ t15 t16 t17 bytes room codes from end count =
+    (from ≤ end) × (end ≤ length bytes) × (count ≤ length codes) × (length bytes ≡ length bytes₀) × (length room ≡ length room₀) × (length codes ≡ length codes₀)
+    × OfEnded (withName (length codes)) (read []) (read (take count codes))
 
 abbrev μ-loop : tie.MeasureT-loop
-μ-loop bytes₀ line₀ codes₀ names₀ turns₀ t8 t9 bytes line codes names turns = turns
+μ-loop bytes₀ room₀ codes₀ from₀ end₀ count₀ t15 t16 t17 bytes room codes from end count = length codes₀ - count
 
 loop-holds : tie.Need-loop-holds Inv-loop μ-loop
-loop-holds c =
-    let a = c .before .before .before .args in
-    (omega arith, omega arith, refl, refl, refl, ([], reads-none (a .line .now) (a .codes .now) _ refl refl))
+loop-holds c = (omega arith, omega arith, omega arith, refl, refl, refl, no-line (withName _) (read []))
 
-read-requires : tie.Need-read-requires Inv-loop μ-loop
-read-requires c κs = search needs
+slice-aggregate-next-line : tie.Need-slice-aggregate-next-line Inv-loop μ-loop
+slice-aggregate-next-line c = search needs
 
-slice-aggregate-say-failure : tie.Need-slice-aggregate-say-failure Inv-loop μ-loop
-slice-aggregate-say-failure c = search needs
+next-line-requires : tie.Need-next-line-requires Inv-loop μ-loop
+next-line-requires c κs = search needs
 
-slice-aggregate-say-failure-2 : tie.Need-slice-aggregate-say-failure-2 Inv-loop μ-loop
-slice-aggregate-say-failure-2 c = search needs
+enum-known-length : tie.Need-enum-known-length Inv-loop μ-loop
+enum-known-length c = search needs
 
-say-failure-requires : tie.Need-say-failure-requires Inv-loop μ-loop
-say-failure-requires c κs = search needs
+slice-reshare-prefix-take-name : tie.Need-slice-reshare-prefix-take-name Inv-loop μ-loop
+slice-reshare-prefix-take-name c = line-length _ _ _ (c .before .before .before .before .before .before .before .next-line .ensures) _ _ _ (c .before .length .given .1)
 
-stopped-requires : tie.Need-stopped-requires Inv-loop μ-loop
-stopped-requires c κs = search needs
+slice-aggregate-take-name : tie.Need-slice-aggregate-take-name Inv-loop μ-loop
+slice-aggregate-take-name c = sym
+    (length-take-le _ _ (line-length _ _ _ (c .before .before .before .before .before .before .before .before .next-line .ensures) _ _ _ (c .before .before .length .given .1)))
+
+take-name-requires : tie.Need-take-name-requires Inv-loop μ-loop
+take-name-requires c κs = search needs
+
+enum-known-more : tie.Need-enum-known-more Inv-loop μ-loop
+enum-known-more c = search needs
+
+loop-less : tie.Need-loop-less Inv-loop μ-loop
+loop-less c =
+    let n = c .before .before .before .before .before .before .before .before .before .before .before .before .before .before .before in
+    let l = n .before .before .before .before .loop in
+    let line = c .before .before .before .before .before .before .before .before .before .length .given in
+    let t = c .before .before .before .before .before .take-name in
+    let m = taken-more (n .next-line .last .1 .1 .1 .1 .0) (search needs) (l .codes) (t .last .1 .0) (l .count) (line .0 .0) (l .inv .6) (t .ensures) _ (c .before .more .given .1) in
+    omega (arith, m .0, m .1, l .inv .5)
+
+loop-again : tie.Need-loop-again Inv-loop μ-loop
+loop-again c =
+    let n = c .before .before .before .before .before .before .before .before .before .before .before .before .before .before .before in
+    let l = n .before .before .before .before .loop in
+    let line = c .before .before .before .before .before .before .before .before .before .length .given in
+    let g = line-given _ _ _ (n .next-line .ensures) _ _ _ (line .1) in
+    let t = c .before .before .before .before .before .take-name in
+    let e = c .before .more .given .1 in
+    let m = taken-more (n .next-line .last .1 .1 .1 .1 .0) (search needs) (l .codes) (t .last .1 .0) (l .count) (line .0 .0) (l .inv .6) (t .ensures) _ e in
+    let v = line-read (n .next-line .last .1 .1 .1 .1 .0) (search needs) (l .codes) (t .last .1 .0) (l .count) (line .0 .0) (l .inv .6) (t .ensures)
+    (unread (l .bytes) (l .from) (l .end)) (n .next-line .last .1 .0) _ _ _ g e in
+    let same : length (t .last .1 .0) ≡ length (l .codes) = search needs in
+    (g .6, g .7, m .0, search needs, search needs, search needs, rw same v)
+
+enum-known-refusal : tie.Need-enum-known-refusal Inv-loop μ-loop
+enum-known-refusal c = search needs
+
+slice-aggregate-say-line : tie.Need-slice-aggregate-say-line Inv-loop μ-loop
+slice-aggregate-say-line c = search needs
+
+add-say-line : tie.Need-add-say-line Inv-loop μ-loop
+add-say-line c = search needs
+
+say-line-requires : tie.Need-say-line-requires Inv-loop μ-loop
+say-line-requires c κs = search needs
 
 same-length : tie.Need-same-length Inv-loop μ-loop
 same-length c = search needs
@@ -49,9 +94,30 @@ same-length-3 c = search needs
 
 returns : tie.Need-returns Inv-loop μ-loop
 returns c =
-    let s = c .stopped .ensures in
-    let v = c .before .before .before .before .before .before .before .before .before .before .loop .inv in
-    ((omega (arith, s .0, v .0), omega (arith, s .1)), ([], stopped-reads (s .2)))
+    let n = c .before .before .before .before .before .before .before .before .before .before .before .before .before .before .before .before .before in
+    let l = n .before .before .before .before .loop in
+    let line = c .before .before .before .before .before .before .before .before .before .before .before .length .given in
+    let g = line-given _ _ _ (n .next-line .ensures) _ _ _ (line .1) in
+    let t = c .before .before .before .before .before .before .before .take-name in
+    rw (sym (l .inv .5))
+    (line-stops (n .next-line .last .1 .1 .1 .1 .0) (search needs) (l .codes) (t .last .1 .0) (l .count) (line .0 .0) (l .inv .6) (t .ensures) (unread (l .bytes) (l .from) (l .end))
+    (n .next-line .last .1 .0) _ _ _ g (c .before .before .before .refusal .given .1))
+
+enum-known-length-2 : tie.Need-enum-known-length-2 Inv-loop μ-loop
+enum-known-length-2 c = search needs
+
+slice-reshare-prefix-take-name-2 : tie.Need-slice-reshare-prefix-take-name-2 Inv-loop μ-loop
+slice-reshare-prefix-take-name-2 c = last-length _ _ _ (c .before .before .before .before .before .before .before .next-line .ensures) _ (c .before .length2 .given .1)
+
+slice-aggregate-take-name-2 : tie.Need-slice-aggregate-take-name-2 Inv-loop μ-loop
+slice-aggregate-take-name-2 c = sym
+    (length-take-le _ _ (last-length _ _ _ (c .before .before .before .before .before .before .before .before .next-line .ensures) _ (c .before .before .length2 .given .1)))
+
+take-name-requires-2 : tie.Need-take-name-requires-2 Inv-loop μ-loop
+take-name-requires-2 c κs = search needs
+
+enum-known-more-2 : tie.Need-enum-known-more-2 Inv-loop μ-loop
+enum-known-more-2 c = search needs
 
 same-length-4 : tie.Need-same-length-4 Inv-loop μ-loop
 same-length-4 c = search needs
@@ -63,28 +129,27 @@ same-length-6 : tie.Need-same-length-6 Inv-loop μ-loop
 same-length-6 c = search needs
 
 returns-2 : tie.Need-returns-2 Inv-loop μ-loop
-returns-2 c = let v = c .before .before .before .before .before .before .before .loop .inv in ((v .0, v .1), v .5)
+returns-2 c =
+    let n = c .before .before .before .before .before .before .before .before .before .before .before .before .before .before .before in
+    let l = n .before .before .before .before .loop in
+    let line = c .before .before .before .before .before .before .before .before .before .length2 .given in
+    let g = last-given _ _ _ (n .next-line .ensures) _ (line .1) in
+    let t = c .before .before .before .before .before .take-name2 in
+    rw (sym (l .inv .5))
+    (last-read (n .next-line .last .1 .1 .1 .1 .0) (search needs) (l .codes) (t .last .1 .0) (l .count) (line .0 .0) (l .inv .6) (t .ensures) (unread (l .bytes) (l .from) (l .end))
+    (n .next-line .last .1 .0) _ g (c .before .more2 .given .1))
 
-slice-reshare-prefix-take-bytes : tie.Need-slice-reshare-prefix-take-bytes Inv-loop μ-loop
-slice-reshare-prefix-take-bytes c = search needs
+enum-known-refusal-2 : tie.Need-enum-known-refusal-2 Inv-loop μ-loop
+enum-known-refusal-2 c = search needs
 
-slice-aggregate-take-bytes : tie.Need-slice-aggregate-take-bytes Inv-loop μ-loop
-slice-aggregate-take-bytes c = search needs
+slice-aggregate-say-line-2 : tie.Need-slice-aggregate-say-line-2 Inv-loop μ-loop
+slice-aggregate-say-line-2 c = search needs
 
-take-bytes-requires : tie.Need-take-bytes-requires Inv-loop μ-loop
-take-bytes-requires c κs = search needs
+add-say-line-2 : tie.Need-add-say-line-2 Inv-loop μ-loop
+add-say-line-2 c = search needs
 
-sub-turns : tie.Need-sub-turns Inv-loop μ-loop
-sub-turns c = search needs
-
-loop-less : tie.Need-loop-less Inv-loop μ-loop
-loop-less c = search needs
-
-loop-again : tie.Need-loop-again Inv-loop μ-loop
-loop-again c =
-    let f = c .before .before .before .before .take-bytes .ensures in
-    let some = c .before .before .before .before .before .before .before .before .before .before .before .before .before .before .before .loop .inv .5 in
-    (f .0 .0, f .0 .1, search needs, search needs, search needs, (_, f .1 .on (some .0) (some .1)))
+say-line-requires-2 : tie.Need-say-line-requires-2 Inv-loop μ-loop
+say-line-requires-2 c κs = search needs
 
 same-length-7 : tie.Need-same-length-7 Inv-loop μ-loop
 same-length-7 c = search needs
@@ -96,7 +161,45 @@ same-length-9 : tie.Need-same-length-9 Inv-loop μ-loop
 same-length-9 c = search needs
 
 returns-3 : tie.Need-returns-3 Inv-loop μ-loop
-returns-3 c = let v = c .before .loop .inv in ((v .0, v .1), v .5)
+returns-3 c =
+    let n = c .before .before .before .before .before .before .before .before .before .before .before .before .before .before .before .before .before in
+    let l = n .before .before .before .before .loop in
+    let line = c .before .before .before .before .before .before .before .before .before .before .before .length2 .given in
+    let g = last-given _ _ _ (n .next-line .ensures) _ (line .1) in
+    let t = c .before .before .before .before .before .before .before .take-name2 in
+    rw (sym (l .inv .5))
+    (last-stops (n .next-line .last .1 .1 .1 .1 .0) (search needs) (l .codes) (t .last .1 .0) (l .count) (line .0 .0) (l .inv .6) (t .ensures) (unread (l .bytes) (l .from) (l .end))
+    (n .next-line .last .1 .0) _ g (c .before .before .before .refusal2 .given .1))
+
+enum-told : tie.Need-enum-told Inv-loop μ-loop
+enum-told c = search needs
+
+same-length-10 : tie.Need-same-length-10 Inv-loop μ-loop
+same-length-10 c = search needs
+
+same-length-11 : tie.Need-same-length-11 Inv-loop μ-loop
+same-length-11 c = search needs
+
+same-length-12 : tie.Need-same-length-12 Inv-loop μ-loop
+same-length-12 c = search needs
+
+returns-4 : tie.Need-returns-4 Inv-loop μ-loop
+returns-4 c = let l = c .before .before .before .before .before .before .before .before .before .before .loop in (then-none (withName _) (rw (sym (l .inv .5)) (l .inv .6)), l .inv .2)
+
+enum-told-2 : tie.Need-enum-told-2 Inv-loop μ-loop
+enum-told-2 c = search needs
+
+same-length-13 : tie.Need-same-length-13 Inv-loop μ-loop
+same-length-13 c = search needs
+
+same-length-14 : tie.Need-same-length-14 Inv-loop μ-loop
+same-length-14 c = search needs
+
+same-length-15 : tie.Need-same-length-15 Inv-loop μ-loop
+same-length-15 c = search needs
+
+returns-5 : tie.Need-returns-5 Inv-loop μ-loop
+returns-5 c = tt
 
 pub take-all-spec : {M : Type 1} → statement M
 take-all-spec =
@@ -105,26 +208,47 @@ take-all-spec =
     Inv-loop
     μ-loop
     loop-holds
-    read-requires
-    slice-aggregate-say-failure
-    slice-aggregate-say-failure-2
-    say-failure-requires
-    stopped-requires
+    slice-aggregate-next-line
+    next-line-requires
+    enum-known-length
+    slice-reshare-prefix-take-name
+    slice-aggregate-take-name
+    take-name-requires
+    enum-known-more
+    loop-less
+    loop-again
+    enum-known-refusal
+    slice-aggregate-say-line
+    add-say-line
+    say-line-requires
     same-length
     same-length-2
     same-length-3
     returns
+    enum-known-length-2
+    slice-reshare-prefix-take-name-2
+    slice-aggregate-take-name-2
+    take-name-requires-2
+    enum-known-more-2
     same-length-4
     same-length-5
     same-length-6
     returns-2
-    slice-reshare-prefix-take-bytes
-    slice-aggregate-take-bytes
-    take-bytes-requires
-    sub-turns
-    loop-less
-    loop-again
+    enum-known-refusal-2
+    slice-aggregate-say-line-2
+    add-say-line-2
+    say-line-requires-2
     same-length-7
     same-length-8
     same-length-9
-    returns-3)
+    returns-3
+    enum-told
+    same-length-10
+    same-length-11
+    same-length-12
+    returns-4
+    enum-told-2
+    same-length-13
+    same-length-14
+    same-length-15
+    returns-5)

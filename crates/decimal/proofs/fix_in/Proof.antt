@@ -7,7 +7,7 @@ use native.Mathlib.Omega.{arith}
 use lib.ListN.{length, take, drop}
 use lib.Seq.{length-take-le}
 use borrow.Author.Needs.{needs}
-use Rattle.signed.specs.SignLaws.{back-result}
+use Rattle.signed.specs.Laws.Sign.{back-result}
 use Rattle.decimal.specs.declared.FixLine.the-variants.{Fix}
 use Rattle.decimal.specs.Decimal.{numberIn, ahead, behind, trimmed}
 use Rattle.decimal.proofs.Laws.{from-on, take-ahead, ahead-le, drop-ahead, take-trimmed, no-space, no-first, no-second, two-numbers}
@@ -33,12 +33,17 @@ inside c =
     omega arith
 
 first-is : (c : tie.After-number-in) → c .number-in .result ≡ numberIn (ahead 32 (trimmed (c .before .before .before .before .before .before .before .args .line .now)))
-first-is c = c .number-in .ensures ∙ ap numberIn (ap₂ (λ (n : ℕ) (l : List ℕ). take n l) (space-is (c .before .before .before)) (text-is (c .before .before .before .before .before)) ∙ take-ahead 32 (trimmed (c .before .before .before .before .before .before .before .args .line .now)))
+first-is c = c .number-in .ensures ∙ ap numberIn (ap₂ (λ (n : ℕ) (l : List ℕ). take n l) (space-is (c .before .before .before))
+    (text-is (c .before .before .before .before .before)) ∙ take-ahead 32 (trimmed (c .before .before .before .before .before .before .before .args .line .now)))
 
-second-is : (c : tie.After-number-in2) → c .number-in2 .result ≡ numberIn (behind 32 (trimmed (c .before .before .before .before .before .before .before .before .before .before .before .before .args .line .now)))
+second-is : (c : tie.After-number-in2) → c .number-in2 .result ≡ numberIn
+    (behind 32 (trimmed (c .before .before .before .before .before .before .before .before .before .before .before .before .args .line .now)))
 second-is c =
     let s = c .before .before .before .before .before .before .before .before .before .before .before .before .args .line .now in
-    c .number-in2 .ensures ∙ ap numberIn (from-on (c .before .before .before .before .before .before .before .before .ahead-of .result + 1) (take (c .before .before .before .before .before .before .before .before .before .before .trimmed-length .result) s) ∙ ap₂ (λ (n : ℕ) (l : List ℕ). drop (n + 1) l) (space-is (c .before .before .before .before .before .before .before .before)) (text-is (c .before .before .before .before .before .before .before .before .before .before)) ∙ drop-ahead 32 (trimmed s))
+    c .number-in2 .ensures ∙ ap numberIn (from-on (c .before .before .before .before .before .before .before .before .ahead-of .result + 1)
+    (take (c .before .before .before .before .before .before .before .before .before .before .trimmed-length .result) s) ∙ ap₂ (λ (n : ℕ) (l : List ℕ). drop (n + 1) l)
+    (space-is (c .before .before .before .before .before .before .before .before)) (text-is (c .before .before .before .before .before .before .before .before .before .before))
+    ∙ drop-ahead 32 (trimmed s))
 
 trimmed-length-requires : tie.Need-trimmed-length-requires
 trimmed-length-requires c κs = search needs
@@ -56,7 +61,8 @@ slice-aggregate-number-in : tie.Need-slice-aggregate-number-in
 slice-aggregate-number-in c =
     let n = text-length (c .before .before .before .before) in
     let h = inside (c .before) in
-    sym (length-take-le (c .before .before .ahead-of .result) (take (c .before .before .before .before .trimmed-length .result) (c .before .before .before .before .before .before .args .line .now)) (omega arith))
+    sym (length-take-le (c .before .before .ahead-of .result) (take (c .before .before .before .before .trimmed-length .result)
+    (c .before .before .before .before .before .before .args .line .now)) (omega arith))
 
 number-in-requires : tie.Need-number-in-requires
 number-in-requires c κs = search needs
@@ -98,15 +104,19 @@ enum-told-2 : tie.Need-enum-told-2
 enum-told-2 c = search needs
 
 returns-3 : tie.Need-returns-3
-returns-3 c = no-second (c .before .before .before .before .before .before .before .before .before .before .before .before .before .before .args .line .now) (sym (c .enum-told2 .given .1) ∙ second-is (c .before .before))
+returns-3 c = no-second (c .before .before .before .before .before .before .before .before .before .before .before .before .before .before .args .line .now)
+    (sym (c .enum-told2 .given .1) ∙ second-is (c .before .before))
 
 returns-4 : tie.Need-returns-4
 returns-4 c =
     let a = c .before .before .before .before .before .before .longitude .given in
     let b = c .before .z .given in
-    ap₂ Fix (back-result (a .0 .0) (c .before .before .before .before .before .known-told .given .0 .1)) (back-result (b .0 .0) (c .known-told2 .given .0 .1)) ∙ two-numbers (c .before .before .before .before .before .before .before .before .before .before .before .before .before .before .before .args .line .now) (a .0 .0) (b .0 .0) (sym (a .1) ∙ first-is (c .before .before .before .before .before .before .before .before)) (sym (b .1) ∙ second-is (c .before .before .before))
+    ap₂ Fix (back-result (a .0 .0) (c .before .before .before .before .before .known-told .given .0 .1)) (back-result (b .0 .0) (c .known-told2 .given .0 .1)) ∙ two-numbers
+    (c .before .before .before .before .before .before .before .before .before .before .before .before .before .before .before .args .line .now) (a .0 .0) (b .0 .0)
+    (sym (a .1) ∙ first-is (c .before .before .before .before .before .before .before .before)) (sym (b .1) ∙ second-is (c .before .before .before))
 
 pub fix-in-spec : {M : Type 1} → statement M
 fix-in-spec =
     tie.close
-    (tie.spec trimmed-length-requires slice-aggregate-text ahead-of-requires returns slice-aggregate-number-in number-in-requires enum-known-longitude enum-told returns-2 add-rest sub-number-in part-number-in-start part-number-in-end number-in-requires-2 enum-known-z enum-told-2 returns-3 returns-4)
+    (tie.spec trimmed-length-requires slice-aggregate-text ahead-of-requires returns slice-aggregate-number-in number-in-requires enum-known-longitude enum-told returns-2 add-rest
+    sub-number-in part-number-in-start part-number-in-end number-in-requires-2 enum-known-z enum-told-2 returns-3 returns-4)

@@ -4,7 +4,7 @@ use mathlib.Core.Bool.{true, false}
 use native.Mathlib.Omega.{arith}
 use lib.ListN.{drop}
 use borrow.Author.Needs.{needs}
-use Rattle.decimal.specs.Decimal.{wholeIn, numberOf}
+use Rattle.decimal.specs.Decimal.{wholeIn, signedNumber}
 use Rattle.decimal.proofs.Laws.{from-on, no-number, minus-in, plain-in}
 use Rattle.decimal.proofs.number_in.Statement.{statement}
 use Rattle.decimal.proofs.number_in.Tie as tie
@@ -34,7 +34,7 @@ returns-2 : tie.Need-returns-2
 returns-2 c =
     let s = c .before .before .before .before .before .before .before .args .text .now in
     let w : c .before .whole-in .result ≡ wholeIn (drop 1 s) = c .before .whole-in .ensures ∙ ap wholeIn (from-on 1 s) in
-    c .number-of .ensures ∙ ap (numberOf true) w ∙ minus-in s (omega arith) (c .before .before .before .if2 .taken)
+    c .number-of .ensures ∙ ap (signedNumber true) w ∙ minus-in s (omega arith) (c .before .before .before .if2 .taken)
 
 whole-in-requires-2 : tie.Need-whole-in-requires-2
 whole-in-requires-2 c κs = search needs
@@ -45,7 +45,7 @@ number-of-requires-2 c κs = search needs
 returns-3 : tie.Need-returns-3
 returns-3 c =
     let s = c .before .before .before .before .before .before .args .text .now in
-    c .number-of2 .ensures ∙ ap (numberOf false) (c .before .whole-in2 .ensures) ∙ plain-in s (omega arith) (c .before .before .if2 .left)
+    c .number-of2 .ensures ∙ ap (signedNumber false) (c .before .whole-in2 .ensures) ∙ plain-in s (omega arith) (c .before .before .if2 .left)
 
 pub number-in-spec : {M : Type 1} → statement M
 number-in-spec =

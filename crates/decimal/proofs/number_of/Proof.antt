@@ -3,7 +3,7 @@ use mathlib.Core.Path.{sym, _∙_}
 use mathlib.Core.Bool.{true, false}
 use native.Mathlib.Omega.{arith}
 use borrow.Author.Needs.{needs}
-use Rattle.signed.specs.SignLaws.{back-as, neg-sub}
+use Rattle.signed.specs.Laws.Sign.{back-as, neg-sub}
 use Rattle.decimal.proofs.Laws.{no-size, large, small}
 use Rattle.decimal.proofs.number_of.Statement.{statement}
 use Rattle.decimal.proofs.number_of.Tie as tie

@@ -68,7 +68,8 @@ returns c =
     let k : a .at + n - a .at ≡ length (printed (a .x)) = omega arith in
     let f = ap (λ (i : ℕ). take i s) (sym e) ∙ l .inv .3 ∙ ap (λ (i : ℕ). take i (a .out .now)) e in
     let g = ap₂ (λ (i j : ℕ). lastBytes i (l .rest) ++ drop j s) (sym z) (sym e) ∙ l .inv .4 in
-    let r = ap₂ (λ (i j : ℕ). lastBytes i (a .x) ++ drop (a .at + j) (a .out .now)) k m ∙ ap (λ (p : List ℕ). p ++ drop (a .at + length (printed (a .x))) (a .out .now)) (sym (printed-last (a .x))) in
+    let r = ap₂ (λ (i j : ℕ). lastBytes i (a .x) ++ drop (a .at + j) (a .out .now)) k m ∙ ap (λ (p : List ℕ). p ++ drop (a .at + length (printed (a .x))) (a .out .now))
+    (sym (printed-last (a .x))) in
     (omega arith, (omega arith, sym (take-append-drop (a .at) s) ∙ ap₂ _++_ f (g ∙ r)))
 
 pub put-whole-spec : {M : Type 1} → statement M

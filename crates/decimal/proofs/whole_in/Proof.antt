@@ -5,13 +5,13 @@ use Prim.Native.Nat.{ℕ, _+_, _-_, _*_, _^_, _≤_, _<_}
 use native.Mathlib.Omega.{arith}
 use lib.ListN.{length, drop, getD, drop-of-length-le}
 use borrow.Author.Needs.{needs}
-use Rattle.decimal.specs.Decimal.{allDigits, isDigit}
+use Rattle.decimal.specs.Decimal.{allDecimal, isDecimal}
 use Rattle.decimal.proofs.Laws.{ten-le, read, read-all, low-digit, high-digit, a-digit, next, stopped, further, read-on, none-in, many-in, other-in, digits-in}
 use Rattle.decimal.proofs.whole_in.Statement.{statement}
 use Rattle.decimal.proofs.whole_in.Tie as tie
 
 abbrev Inv-loop : tie.InvT-loop
-Inv-loop text n₀ i₀ n i = (i ≤ length text) × (n < 10 ^ i) × (allDigits (drop i text) ≡ allDigits text) × (read n (drop i text) ≡ read 0 text)
+Inv-loop text n₀ i₀ n i = (i ≤ length text) × (n < 10 ^ i) × (allDecimal (drop i text) ≡ allDecimal text) × (read n (drop i text) ≡ read 0 text)
 
 abbrev μ-loop : tie.MeasureT-loop
 μ-loop text n₀ i₀ n i = length text - i
@@ -68,18 +68,18 @@ loop-again c =
     let l = c .before .before .before .before .before .loop in
     let s = c .before .before .before .before .before .before .before .before .before .args .text .now in
     let w = c .before .before .wide .ensures in
-    let d : isDigit (getD s (l .i) 0) ≡ _ = a-digit (getD s (l .i) 0) (rw w at (c .before .if3 .left)) (rw w at (c .if4 .left)) in
+    let d : isDecimal (getD s (l .i) 0) ≡ _ = a-digit (getD s (l .i) 0) (rw w at (c .before .if3 .left)) (rw w at (c .if4 .left)) in
     let r = ap (λ (x : ℕ). read (l .n * 10 + (x - 48)) (drop (l .i + 1) s)) w in
     let m = next (l .n) (l .i) (c .before .before .wide .result) (l .inv .1) (omega arith) in
     (omega arith, omega arith, further s (l .i) (omega arith) d ∙ l .inv .2, r ∙ read-on s (l .i) (omega arith) (l .n) ∙ l .inv .3)
 
 returns-5 : tie.Need-returns-5 Inv-loop μ-loop
-unfolding allDigits read
+unfolding allDecimal read
 returns-5 c =
     let l = c .before .loop in
     let s = c .before .before .before .before .before .args .text .now in
     let z = drop-of-length-le s {i = l .i} (omega arith) in
-    digits-in s (l .n) (omega arith) (omega arith) (sym (l .inv .2) ∙ ap allDigits z) (sym (ap (read (l .n)) z) ∙ l .inv .3 ∙ read-all s)
+    digits-in s (l .n) (omega arith) (omega arith) (sym (l .inv .2) ∙ ap allDecimal z) (sym (ap (read (l .n)) z) ∙ l .inv .3 ∙ read-all s)
 
 pub whole-in-spec : {M : Type 1} → statement M
 whole-in-spec =

@@ -3,7 +3,7 @@ use mathlib.Core.Path.{_≡_, sym, ap, _∙_}
 use Prim.Native.Nat.{ℕ, _+_, _-_, _*_, _/_, _^_, _≤_, _<_}
 use native.Mathlib.Nat.{one-le-pow, mod-lt, lt-of-le-of-lt, lt-of-lt-of-le, le-trans, le-of-lt, le-of-eq, le-add-right, mul-comm, mul-pos, mul-le-mul-right, pow-le-pow-right, pow-zero}
 use native.Mathlib.Omega.{arith}
-use Rattle.division.specs.DivisionLaws.{whole-is, rest-is, next-power, digit, whole-lt}
+use Rattle.division.specs.Laws.Division.{whole-is, rest-is, next-power, digit, whole-lt}
 use Rattle.division.proofs.scaled.Statement.{statement}
 use Rattle.division.proofs.scaled.Tie as tie
 

@@ -1,10 +1,10 @@
 -- `flight::line_code` meets its contract: each way is one case of the line's reading. Assumes nothing.
-use mathlib.Core.Path.{_≡_, sym, ap, ap₂, _∙_}
-use Rattle.signed.specs.SignLaws.{back-result}
-use Rattle.cell.specs.FoundLaws.{found-is-cell}
+use mathlib.Core.Path.{sym, ap, ap₂, _∙_}
+use Rattle.signed.specs.Laws.Sign.{back-result}
+use Rattle.cell.specs.Laws.Found.{found-is-cell}
 use Rattle.code.specs.Code.{foundCode}
-use Rattle.code.specs.CodeLaws.{found-coded}
-use Rattle.locate.specs.FixLaws.{fix-allowed}
+use Rattle.code.specs.Laws.Code.{found-coded}
+use Rattle.locate.specs.Laws.Fix.{fix-allowed}
 use Rattle.flight.specs.Flight.{fixCoded, ofLine, lineCode}
 use borrow.Author.Needs.{needs}
 use Rattle.flight.proofs.line_code.Statement.{statement}
@@ -19,11 +19,14 @@ enum-known-longitude c = search needs
 enum-told : tie.Need-enum-told
 enum-told c = search needs
 
+no-fix-requires : tie.Need-no-fix-requires
+no-fix-requires c κs = search needs
+
 returns : tie.Need-returns
 unfolding lineCode ofLine
 returns c =
-    let a = c .before .before .before .before .args in
-    ap (ofLine (a .n) (a .s) (a .resolution)) (sym (c .enum-told .given .1) ∙ c .before .before .fix-in .ensures)
+    let f = c .before .before .before in
+    c .no-fix .ensures ∙ ap (ofLine (f .before .before .args .setting)) (sym (c .before .enum-told .given .1) ∙ f .fix-in .ensures)
 
 locate-requires : tie.Need-locate-requires
 locate-requires c κs = search needs
@@ -40,9 +43,18 @@ returns-2 c =
     let a = f .before .before .args in
     let g = x .longitude .given in
     c .found-code .ensures ∙ ap foundCode (c .before .locate .ensures) ∙ found-coded _ _
-    ∙ ap₂ (fixCoded (record { north = a .n; south = a .s }) (a .resolution)) (back-result (g .0 .0) (k .known-told .given .0 .1)) (back-result (g .0 .1 .0) (k .known-told .given .1 .0 .1))
-    ∙ ap (ofLine (a .n) (a .s) (a .resolution)) (sym (g .1) ∙ f .fix-in .ensures)
+    ∙ ap₂ (fixCoded (a .setting)) (back-result (g .0 .0) (k .known-told .given .0 .1)) (back-result (g .0 .1 .0) (k .known-told .given .1 .0 .1))
+    ∙ ap (ofLine (a .setting)) (sym (g .1) ∙ f .fix-in .ensures)
 
 pub line-code-spec : {M : Type 1} → statement M
 line-code-spec =
-    tie.close (tie.spec fix-in-requires enum-known-longitude enum-told returns locate-requires found-code-requires returns-2)
+    tie.close
+    (tie.spec
+    fix-in-requires
+    enum-known-longitude
+    enum-told
+    no-fix-requires
+    returns
+    locate-requires
+    found-code-requires
+    returns-2)

@@ -1,5 +1,5 @@
 -- `coded_answer` meets its contract. Assumes nothing.
-use mathlib.Core.Path.{_≡_, refl, sym, ap, ap₂, _∙_}
+use mathlib.Core.Path.{sym, ap}
 use Rattle.jeguarivo.specs.Entries.{codedAnswer}
 use borrow.Author.Needs.{needs}
 use Rattle.jeguarivo.proofs.coded_answer.Statement.{statement}

@@ -1,5 +1,5 @@
 -- `found_answer` meets its contract. Assumes nothing.
-use mathlib.Core.Path.{_≡_, ap, _∙_}
+use mathlib.Core.Path.{ap, _∙_}
 use Rattle.jeguarivo.specs.Entries.{codedAnswer}
 use borrow.Author.Needs.{needs}
 use Rattle.jeguarivo.proofs.found_answer.Statement.{statement}

@@ -1,7 +1,6 @@
 -- `jgv_cell_code` meets its contract. Assumes nothing.
-use mathlib.Core.Path.{_≡_, refl, sym, ap, ap₂, _∙_}
-use Rattle.jeguarivo.specs.Entries.{codedAnswer, cellCode}
-use Rattle.jeguarivo.proofs.Laws.{coded-code}
+use mathlib.Core.Path.{ap, _∙_}
+use Rattle.jeguarivo.specs.Entries.{codedAnswer, cellCode, codeAnswer}
 use borrow.Author.Needs.{needs}
 use Rattle.jeguarivo.proofs.jgv_cell_code.Statement.{statement}
 use Rattle.jeguarivo.proofs.jgv_cell_code.Tie as tie
@@ -13,8 +12,8 @@ coded-answer-requires : tie.Need-coded-answer-requires
 coded-answer-requires c κs = search needs
 
 returns : tie.Need-returns
-unfolding cellCode
-returns c = c .coded-answer .ensures ∙ ap codedAnswer (c .before .coded-cell .ensures) ∙ coded-code _ _
+unfolding cellCode codeAnswer
+returns c = c .coded-answer .ensures ∙ ap codedAnswer (c .before .coded-cell .ensures)
 
 pub jgv-cell-code-spec : {M : Type 1} → statement M
 jgv-cell-code-spec = tie.close (tie.spec coded-cell-requires coded-answer-requires returns)

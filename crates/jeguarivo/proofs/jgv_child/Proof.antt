@@ -1,15 +1,15 @@
 -- `jgv_child` meets its contract. Assumes nothing.
-use mathlib.Core.Path.{_≡_, sym, ap, ap₂, _∙_}
+use mathlib.Core.Path.{ap, _∙_}
 use borrow.Author.Tests.{lt-ltb, le-ltb}
 use Rattle.logic.specs.Refusal.{refuse, _otherwise_, given}
 use Rattle.cell.specs.declared.Found.{Found}
 use Rattle.cell.specs.declared.Cell.{Cell}
-use Rattle.cell.specs.FoundLaws.{found-is-cell}
+use Rattle.cell.specs.Laws.Found.{found-is-cell}
 use Rattle.cell.specs.Hierarchy.{childOf, childRefusal}
-use Rattle.cell.specs.HierarchyLaws.{child-allowed}
-use Rattle.code.specs.Code.{codeOf, foundCode}
+use Rattle.cell.specs.Laws.Hierarchy.{child-allowed}
+use Rattle.code.specs.Code.{coded, codeOf, foundCode}
 use Rattle.jeguarivo.specs.Entries.{codeAnswer, codedAnswer, childCode}
-use Rattle.code.specs.DecodedLaws.{decoded, undecoded}
+use Rattle.code.specs.Laws.Decoded.{decoded, undecoded}
 use Rattle.jeguarivo.proofs.Laws.{four-first, code-refused, found-code, next-code}
 use native.Mathlib.Omega.{arith}
 use borrow.Author.Needs.{needs}
@@ -17,7 +17,7 @@ use Rattle.jeguarivo.proofs.jgv_child.Statement.{statement}
 use Rattle.jeguarivo.proofs.jgv_child.Tie as tie
 
 returns : tie.Need-returns
-unfolding childCode codeAnswer given _otherwise_
+unfolding childCode codeAnswer coded _otherwise_
 returns c = simp (lt-ltb _ _ (c .if1 .taken))
 
 cell-of-requires : tie.Need-cell-of-requires

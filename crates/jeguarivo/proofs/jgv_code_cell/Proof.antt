@@ -1,7 +1,6 @@
 -- `jgv_code_cell` meets its contract. Assumes nothing.
-use mathlib.Core.Path.{_≡_, sym, ap, ap₂, _∙_}
+use mathlib.Core.Path.{sym, ap, _∙_}
 use Rattle.jeguarivo.specs.Entries.{codeCell, foundAnswer}
-use Rattle.jeguarivo.proofs.Laws.{found-numbers}
 use borrow.Author.Needs.{needs}
 use Rattle.jeguarivo.proofs.jgv_code_cell.Statement.{statement}
 use Rattle.jeguarivo.proofs.jgv_code_cell.Tie as tie
@@ -17,11 +16,11 @@ enum-known-refusal c = search needs
 
 returns : tie.Need-returns
 unfolding codeCell
-returns c = sym (ap foundAnswer (c .before .cell .given .1)) ∙ ap foundAnswer (c .before .before .before .cell-of .ensures) ∙ found-numbers _ _
+returns c = sym (ap foundAnswer (c .before .cell .given .1)) ∙ ap foundAnswer (c .before .before .before .cell-of .ensures)
 
 returns-2 : tie.Need-returns-2
 unfolding codeCell
-returns-2 c = sym (ap foundAnswer (c .before .refusal .given .1)) ∙ ap foundAnswer (c .before .before .before .cell-of .ensures) ∙ found-numbers _ _
+returns-2 c = sym (ap foundAnswer (c .before .refusal .given .1)) ∙ ap foundAnswer (c .before .before .before .cell-of .ensures)
 
 pub jgv-code-cell-spec : {M : Type 1} → statement M
 jgv-code-cell-spec =

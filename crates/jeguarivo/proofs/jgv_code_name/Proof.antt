@@ -1,7 +1,6 @@
 -- `jgv_code_name` meets its contract. Assumes nothing.
-use mathlib.Core.Path.{_≡_, sym, ap, ap₂, _∙_}
+use mathlib.Core.Path.{sym, ap, _∙_}
 use Rattle.jeguarivo.specs.Entries.{writtenName, namedAnswer}
-use Rattle.jeguarivo.proofs.Laws.{named-numbers}
 use borrow.Author.Needs.{needs}
 use Rattle.jeguarivo.proofs.jgv_code_name.Statement.{statement}
 use Rattle.jeguarivo.proofs.jgv_code_name.Tie as tie
@@ -22,7 +21,7 @@ returns : tie.Need-returns
 unfolding writtenName
 returns c =
     let w = c .before .before .before .before .before in
-    (sym (ap namedAnswer (c .before .length .given .1)) ∙ ap namedAnswer (w .code-name .ensures .0) ∙ named-numbers _ _, w .code-name .ensures .1)
+    (sym (ap namedAnswer (c .before .length .given .1)) ∙ ap namedAnswer (w .code-name .ensures .0), w .code-name .ensures .1)
 
 same-length-2 : tie.Need-same-length-2
 same-length-2 c = search needs
@@ -31,7 +30,7 @@ returns-2 : tie.Need-returns-2
 unfolding writtenName
 returns-2 c =
     let w = c .before .before .before .before .before in
-    (sym (ap namedAnswer (c .before .refusal .given .1)) ∙ ap namedAnswer (w .code-name .ensures .0) ∙ named-numbers _ _, w .code-name .ensures .1)
+    (sym (ap namedAnswer (c .before .refusal .given .1)) ∙ ap namedAnswer (w .code-name .ensures .0), w .code-name .ensures .1)
 
 pub jgv-code-name-spec : {M : Type 1} → statement M
 jgv-code-name-spec =

@@ -1,9 +1,9 @@
 -- `jgv_corner_count` meets its contract. Assumes nothing.
-use mathlib.Core.Path.{_≡_, sym, ap, ap₂, _∙_}
+use mathlib.Core.Path.{sym, ap, _∙_}
 use Rattle.code.specs.Code.{cellOf}
 use Rattle.shape.specs.Shape.{shapeOf, cornersOf}
 use Rattle.jeguarivo.specs.Entries.{cornerCount}
-use Rattle.code.specs.DecodedLaws.{decoded, undecoded}
+use Rattle.code.specs.Laws.Decoded.{decoded, undecoded}
 use Rattle.jeguarivo.proofs.Laws.{value-given, zero-given}
 use borrow.Author.Needs.{needs}
 use Rattle.jeguarivo.proofs.jgv_corner_count.Statement.{statement}

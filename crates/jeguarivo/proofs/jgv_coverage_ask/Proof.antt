@@ -1,7 +1,6 @@
 -- `jgv_coverage_ask` meets its contract. Assumes nothing.
-use mathlib.Core.Path.{_≡_, sym, ap, _∙_}
-use Rattle.jeguarivo.specs.Texts.{askNumbers, askedText}
-use Rattle.jeguarivo.proofs.Texts.{ask-numbers}
+use mathlib.Core.Path.{sym, ap, _∙_}
+use Rattle.jeguarivo.specs.Texts.{askNumbers}
 use borrow.Author.Needs.{needs}
 use Rattle.jeguarivo.proofs.jgv_coverage_ask.Statement.{statement}
 use Rattle.jeguarivo.proofs.jgv_coverage_ask.Tie as tie
@@ -19,14 +18,12 @@ enum-known-refusal : tie.Need-enum-known-refusal
 enum-known-refusal c = search needs
 
 returns : tie.Need-returns
-unfolding askedText
 returns c =
     (λ i. record { refusal = 0; place = 0; covered = c .as-number .ensures i })
-    ∙ sym (ap askNumbers (c .before .before .covered .given .1)) ∙ ap askNumbers (c .before .before .before .before .ask .ensures) ∙ ask-numbers _ _ _
+    ∙ sym (ap askNumbers (c .before .before .covered .given .1)) ∙ ap askNumbers (c .before .before .before .before .ask .ensures)
 
 returns-2 : tie.Need-returns-2
-unfolding askedText
-returns-2 c = sym (ap askNumbers (c .before .refusal .given .1)) ∙ ap askNumbers (c .before .before .before .ask .ensures) ∙ ask-numbers _ _ _
+returns-2 c = sym (ap askNumbers (c .before .refusal .given .1)) ∙ ap askNumbers (c .before .before .before .ask .ensures)
 
 pub jgv-coverage-ask-spec : {M : Type 1} → statement M
 jgv-coverage-ask-spec =

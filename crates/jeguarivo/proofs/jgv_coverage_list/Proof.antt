@@ -1,7 +1,6 @@
 -- `jgv_coverage_list` meets its contract. Assumes nothing.
-use mathlib.Core.Path.{_≡_, sym, ap, _∙_}
-use Rattle.jeguarivo.specs.Texts.{listNumbers, listedText}
-use Rattle.jeguarivo.proofs.Texts.{list-numbers}
+use mathlib.Core.Path.{sym, ap, _∙_}
+use Rattle.jeguarivo.specs.Texts.{listNumbers}
 use borrow.Author.Needs.{needs}
 use Rattle.jeguarivo.proofs.jgv_coverage_list.Statement.{statement}
 use Rattle.jeguarivo.proofs.jgv_coverage_list.Tie as tie
@@ -19,19 +18,17 @@ same-length : tie.Need-same-length
 same-length c = search needs
 
 returns : tie.Need-returns
-unfolding listedText
 returns c =
     let w = c .before .before .before .before .before in
-    (sym (ap listNumbers (c .before .count .given .1)) ∙ ap listNumbers (w .list .ensures .0) ∙ list-numbers _ _, w .list .ensures .1)
+    (sym (ap listNumbers (c .before .count .given .1)) ∙ ap listNumbers (w .list .ensures .0), w .list .ensures .1)
 
 same-length-2 : tie.Need-same-length-2
 same-length-2 c = search needs
 
 returns-2 : tie.Need-returns-2
-unfolding listedText
 returns-2 c =
     let w = c .before .before .before .before .before in
-    (sym (ap listNumbers (c .before .refusal .given .1)) ∙ ap listNumbers (w .list .ensures .0) ∙ list-numbers _ _, w .list .ensures .1)
+    (sym (ap listNumbers (c .before .refusal .given .1)) ∙ ap listNumbers (w .list .ensures .0), w .list .ensures .1)
 
 pub jgv-coverage-list-spec : {M : Type 1} → statement M
 jgv-coverage-list-spec =

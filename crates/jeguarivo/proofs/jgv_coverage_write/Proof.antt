@@ -1,7 +1,6 @@
 -- `jgv_coverage_write` meets its contract. Assumes nothing.
-use mathlib.Core.Path.{_≡_, sym, ap, _∙_}
-use Rattle.jeguarivo.specs.Texts.{writtenNumbers, writtenText}
-use Rattle.jeguarivo.proofs.Texts.{write-numbers}
+use mathlib.Core.Path.{sym, ap, _∙_}
+use Rattle.jeguarivo.specs.Texts.{writtenNumbers}
 use borrow.Author.Needs.{needs}
 use Rattle.jeguarivo.proofs.jgv_coverage_write.Statement.{statement}
 use Rattle.jeguarivo.proofs.jgv_coverage_write.Tie as tie
@@ -19,19 +18,17 @@ same-length : tie.Need-same-length
 same-length c = search needs
 
 returns : tie.Need-returns
-unfolding writtenText
 returns c =
     let w = c .before .before .before .before .before in
-    (sym (ap writtenNumbers (c .before .length .given .1)) ∙ ap writtenNumbers (w .write .ensures .0) ∙ write-numbers _ _, w .write .ensures .1)
+    (sym (ap writtenNumbers (c .before .length .given .1)) ∙ ap writtenNumbers (w .write .ensures .0), w .write .ensures .1)
 
 same-length-2 : tie.Need-same-length-2
 same-length-2 c = search needs
 
 returns-2 : tie.Need-returns-2
-unfolding writtenText
 returns-2 c =
     let w = c .before .before .before .before .before in
-    (sym (ap writtenNumbers (c .before .refusal .given .1)) ∙ ap writtenNumbers (w .write .ensures .0) ∙ write-numbers _ _, w .write .ensures .1)
+    (sym (ap writtenNumbers (c .before .refusal .given .1)) ∙ ap writtenNumbers (w .write .ensures .0), w .write .ensures .1)
 
 pub jgv-coverage-write-spec : {M : Type 1} → statement M
 jgv-coverage-write-spec =

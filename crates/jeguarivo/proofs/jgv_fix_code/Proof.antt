@@ -1,11 +1,11 @@
 -- `jgv_fix_code` meets its contract. Assumes nothing.
-use mathlib.Core.Path.{_≡_, sym, ap, ap₂, _∙_}
-use Rattle.signed.specs.SignLaws.{back}
+use mathlib.Core.Path.{ap, ap₂, _∙_}
+use Rattle.signed.specs.Laws.Sign.{back}
 use Rattle.cell.specs.declared.Found.{Found}
-use Rattle.cell.specs.FoundLaws.{found-is-cell}
-use Rattle.code.specs.Code.{codeOf, foundCode}
-use Rattle.locate.specs.FixLaws.{fix-allowed}
-use Rattle.jeguarivo.specs.Entries.{codeAnswer, codedAnswer, fixCode}
+use Rattle.cell.specs.Laws.Found.{found-is-cell}
+use Rattle.code.specs.Code.{foundCode}
+use Rattle.locate.specs.Laws.Fix.{fix-allowed}
+use Rattle.jeguarivo.specs.Entries.{codedAnswer, fixCode}
 use Rattle.jeguarivo.proofs.Laws.{found-code}
 use borrow.Author.Needs.{needs}
 use Rattle.jeguarivo.proofs.jgv_fix_code.Statement.{statement}

@@ -1,6 +1,6 @@
 -- `jgv_ground_nucleus` meets its contract. Assumes nothing.
-use mathlib.Core.Path.{_≡_, ap, _∙_}
-use Rattle.signed.specs.SignLaws.{back-result}
+use mathlib.Core.Path.{ap, _∙_}
+use Rattle.signed.specs.Laws.Sign.{back-result}
 use Rattle.nucleus.specs.Nucleus.{groundNucleus}
 use Rattle.jeguarivo.specs.Entries.{groundFix, aFix, noFix}
 use Rattle.jeguarivo.proofs.Laws.{placed-stands, placed-value, placed-none}
@@ -31,7 +31,12 @@ returns c =
     let p = x .before .before in
     let a = p .before .args in
     placed-value (a .n) (a .s) (a .code) (p .placed .ensures) (λ a c. aFix (groundNucleus a c)) noFix (x .cell .given .1)
-    ((λ i. record { refusal = 0; longitude = back-result (q .ground-nucleus .result .longitude) (c .struct-told .given .0 .1) i; z = back-result (q .ground-nucleus .result .z) (c .struct-told .given .1 .0 .1) i })
+    ((λ i. record {
+      refusal = 0;
+      longitude = back-result (q .ground-nucleus .result .longitude) (c .struct-told .given .0 .1) i;
+      z = back-result (q .ground-nucleus .result .z)
+          (c .struct-told .given .1 .0 .1) i;
+    })
     ∙ ap aFix (q .ground-nucleus .ensures))
 
 returns-2 : tie.Need-returns-2

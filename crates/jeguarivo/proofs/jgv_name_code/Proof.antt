@@ -1,7 +1,6 @@
 -- `jgv_name_code` meets its contract. Assumes nothing.
-use mathlib.Core.Path.{_≡_, refl, sym, ap, ap₂, _∙_}
-use Rattle.jeguarivo.specs.Entries.{codedAnswer, nameAnswer}
-use Rattle.jeguarivo.proofs.Laws.{coded-code}
+use mathlib.Core.Path.{ap, _∙_}
+use Rattle.jeguarivo.specs.Entries.{codedAnswer, nameAnswer, codeAnswer}
 use borrow.Author.Needs.{needs}
 use Rattle.jeguarivo.proofs.jgv_name_code.Statement.{statement}
 use Rattle.jeguarivo.proofs.jgv_name_code.Tie as tie
@@ -13,8 +12,8 @@ coded-answer-requires : tie.Need-coded-answer-requires
 coded-answer-requires c κs = search needs
 
 returns : tie.Need-returns
-unfolding nameAnswer
-returns c = c .coded-answer .ensures ∙ ap codedAnswer (c .before .name-code .ensures) ∙ coded-code _ _
+unfolding nameAnswer codeAnswer
+returns c = c .coded-answer .ensures ∙ ap codedAnswer (c .before .name-code .ensures)
 
 pub jgv-name-code-spec : {M : Type 1} → statement M
 jgv-name-code-spec = tie.close (tie.spec name-code-requires coded-answer-requires returns)

@@ -1,18 +1,18 @@
 -- `jgv_neighbour` meets its contract. Assumes nothing.
-use mathlib.Core.Path.{_≡_, sym, ap, ap₂, _∙_}
+use mathlib.Core.Path.{sym, ap, ap₂, _∙_}
 use mathlib.Core.Bool.{Bool}
 use borrow.Author.Tests.{lt-ltb, le-ltb}
 use Rattle.logic.specs.Refusal.{refuse, _otherwise_}
-use Rattle.logic.specs.RefusalLaws.{stops, passes}
+use Rattle.logic.specs.Laws.Refusal.{stops, passes}
 use Rattle.cell.specs.declared.Found.{Found}
 use Rattle.cell.specs.declared.Cell.{Cell}
-use Rattle.cell.specs.CellLaws.{cell-is}
-use Rattle.cell.specs.FoundLaws.{found-is-cell}
+use Rattle.cell.specs.Laws.Cell.{cell-is}
+use Rattle.cell.specs.Laws.Found.{found-is-cell}
 use Rattle.cell.specs.Neighbour.{neighbourOf, neighbourRefusal}
-use Rattle.cell.specs.NeighbourLaws.{neighbour-allowed}
+use Rattle.cell.specs.Laws.Neighbour.{neighbour-allowed}
 use Rattle.code.specs.Code.{codeOf, foundCode, codeRefusal}
 use Rattle.jeguarivo.specs.Entries.{codeAnswer, codedAnswer, neighbourCode}
-use Rattle.code.specs.DecodedLaws.{decoded, undecoded}
+use Rattle.code.specs.Laws.Decoded.{decoded, undecoded}
 use Rattle.jeguarivo.proofs.Laws.{code-refused, found-code}
 use native.Mathlib.Omega.{arith}
 use borrow.Author.Needs.{needs}

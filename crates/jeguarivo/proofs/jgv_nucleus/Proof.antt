@@ -1,6 +1,6 @@
 -- `jgv_nucleus` meets its contract. Assumes nothing.
-use mathlib.Core.Path.{_≡_, ap, _∙_}
-use Rattle.signed.specs.SignLaws.{back-result}
+use mathlib.Core.Path.{ap, _∙_}
+use Rattle.signed.specs.Laws.Sign.{back-result}
 use Rattle.plane.specs.Plane.{nucleusOf}
 use Rattle.jeguarivo.specs.Entries.{cellNucleus, aPoint, noPoint}
 use Rattle.jeguarivo.proofs.Laws.{placed-stands, placed-value, placed-none}

@@ -1,13 +1,13 @@
 -- `jgv_parent` meets its contract. Assumes nothing.
-use mathlib.Core.Path.{_≡_, sym, ap, ap₂, _∙_}
+use mathlib.Core.Path.{ap, _∙_}
 use Rattle.cell.specs.declared.Found.{Found}
 use Rattle.cell.specs.declared.Cell.{Cell}
-use Rattle.cell.specs.FoundLaws.{found-is-cell}
+use Rattle.cell.specs.Laws.Found.{found-is-cell}
 use Rattle.cell.specs.Hierarchy.{parentOf, parentRefusal}
-use Rattle.cell.specs.HierarchyLaws.{parent-allowed}
+use Rattle.cell.specs.Laws.Hierarchy.{parent-allowed}
 use Rattle.code.specs.Code.{codeOf, foundCode}
 use Rattle.jeguarivo.specs.Entries.{codeAnswer, codedAnswer, parentCode}
-use Rattle.code.specs.DecodedLaws.{decoded, undecoded}
+use Rattle.code.specs.Laws.Decoded.{decoded, undecoded}
 use Rattle.jeguarivo.proofs.Laws.{four-first, code-refused, found-code, next-code}
 use native.Mathlib.Omega.{arith}
 use borrow.Author.Needs.{needs}

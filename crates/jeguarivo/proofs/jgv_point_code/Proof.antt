@@ -1,11 +1,11 @@
 -- `jgv_point_code` meets its contract. Assumes nothing.
-use mathlib.Core.Path.{_≡_, sym, ap, ap₂, _∙_}
-use Rattle.signed.specs.SignLaws.{back}
+use mathlib.Core.Path.{ap, ap₂, _∙_}
+use Rattle.signed.specs.Laws.Sign.{back}
 use Rattle.cell.specs.declared.Found.{Found}
-use Rattle.cell.specs.FoundLaws.{found-is-cell}
-use Rattle.code.specs.Code.{codeOf, foundCode}
-use Rattle.plane.specs.PlaneLaws.{point-allowed}
-use Rattle.jeguarivo.specs.Entries.{codeAnswer, codedAnswer, pointCode}
+use Rattle.cell.specs.Laws.Found.{found-is-cell}
+use Rattle.code.specs.Code.{foundCode}
+use Rattle.plane.specs.Laws.Plane.{point-allowed}
+use Rattle.jeguarivo.specs.Entries.{codedAnswer, pointCode}
 use Rattle.jeguarivo.proofs.Laws.{found-code}
 use borrow.Author.Needs.{needs}
 use Rattle.jeguarivo.proofs.jgv_point_code.Statement.{statement}

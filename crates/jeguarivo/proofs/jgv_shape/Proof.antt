@@ -1,9 +1,9 @@
 -- `jgv_shape` meets its contract. Assumes nothing.
-use mathlib.Core.Path.{_≡_, sym, ap, ap₂, _∙_}
+use mathlib.Core.Path.{sym, ap, _∙_}
 use Rattle.code.specs.Code.{cellOf}
-use Rattle.shape.specs.Shape.{shapeOf, numberOf}
+use Rattle.shape.specs.Shape.{shapeOf, shapeNumber}
 use Rattle.jeguarivo.specs.Entries.{cellShape}
-use Rattle.code.specs.DecodedLaws.{decoded, undecoded}
+use Rattle.code.specs.Laws.Decoded.{decoded, undecoded}
 use Rattle.jeguarivo.proofs.Laws.{value-given, zero-given}
 use borrow.Author.Needs.{needs}
 use Rattle.jeguarivo.proofs.jgv_shape.Statement.{statement}
@@ -23,7 +23,7 @@ unfolding cellShape
 returns c =
     let code = c .before .before .before .args .code in
     let u = undecoded code (c .before .before .cell-of .ensures) (c .enum-told .given .1) in
-    λ i. record { refusal = sym u i; shape = zero-given (numberOf (shapeOf (cellOf code))) 0 u i }
+    λ i. record { refusal = sym u i; shape = zero-given (shapeNumber (shapeOf (cellOf code))) 0 u i }
 
 shape-of-requires : tie.Need-shape-of-requires
 shape-of-requires c κs = decoded _ (c .before .before .before .cell-of .ensures) (c .before .cell .given .1) .cell
@@ -36,7 +36,7 @@ unfolding cellShape
 returns-2 c =
     let x = c .before .before .before in
     let d = decoded _ (x .before .before .cell-of .ensures) (x .cell .given .1) in
-    λ i. record { refusal = sym (d .allowed) i; shape = value-given 0 (d .allowed) (c .number .ensures ∙ ap numberOf (c .before .shape-of .ensures ∙ ap shapeOf (d .is))) i }
+    λ i. record { refusal = sym (d .allowed) i; shape = value-given 0 (d .allowed) (c .number .ensures ∙ ap shapeNumber (c .before .shape-of .ensures ∙ ap shapeOf (d .is))) i }
 
 pub jgv-shape-spec : {M : Type 1} → statement M
 jgv-shape-spec =

@@ -1,6 +1,6 @@
 -- `jgv_square` meets its contract. Assumes nothing.
-use mathlib.Core.Path.{_≡_, ap, _∙_}
-use Rattle.signed.specs.SignLaws.{back-result}
+use mathlib.Core.Path.{ap, _∙_}
+use Rattle.signed.specs.Laws.Sign.{back-result}
 use Rattle.plane.specs.Plane.{squareOf}
 use Rattle.jeguarivo.specs.Entries.{cellSquare, aSquare, noSquare}
 use Rattle.jeguarivo.proofs.Laws.{placed-stands, placed-value, placed-none}
@@ -31,7 +31,13 @@ returns c =
     let p = x .before .before in
     let a = p .before .args in
     placed-value (a .n) (a .s) (a .code) (p .placed .ensures) (λ a c. aSquare (squareOf a c)) noSquare (x .cell .given .1)
-    ((λ i. record { refusal = 0; left = back-result (q .square-of .result .left) (c .struct-told .given .0 .1) i; top = back-result (q .square-of .result .top) (c .struct-told .given .1 .0 .1) i; side = back-result (q .square-of .result .side) (c .struct-told .given .1 .1 .0 .1) i })
+    ((λ i. record {
+      refusal = 0;
+      left = back-result (q .square-of .result .left) (c .struct-told .given .0 .1) i;
+      top = back-result (q .square-of .result .top)
+          (c .struct-told .given .1 .0 .1) i;
+      side = back-result (q .square-of .result .side) (c .struct-told .given .1 .1 .0 .1) i;
+    })
     ∙ ap aSquare (q .square-of .ensures))
 
 returns-2 : tie.Need-returns-2

@@ -1,5 +1,5 @@
 -- `jgv_vertices` meets its contract. Assumes nothing.
-use mathlib.Core.Path.{_≡_, ap}
+use mathlib.Core.Path.{ap}
 use Rattle.plane.specs.Plane.{verticesOf}
 use Rattle.jeguarivo.specs.Entries.{cellVertices, theVertices, noVertices}
 use Rattle.jeguarivo.proofs.Laws.{placed-stands, placed-value, placed-none}

@@ -1,5 +1,5 @@
 -- `placed` meets its contract: a refused arrangement, or what the code says. Assumes nothing.
-use Rattle.cell.specs.FoundLaws.{refused, then}
+use Rattle.cell.specs.Laws.Found.{refused, then}
 use Rattle.jeguarivo.specs.Entries.{placedRefusal}
 use borrow.Author.Needs.{needs}
 use Rattle.jeguarivo.proofs.placed.Statement.{statement}

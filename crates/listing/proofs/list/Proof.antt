@@ -1,8 +1,8 @@
 -- `listing::list` meets its contract: nothing is written before every test. Assumes nothing.
-use mathlib.Core.Path.{_≡_, refl, sym, _∙_}
+use mathlib.Core.Path.{refl, sym, _∙_}
 use lib.ListN.{length}
 use Rattle.listing.specs.List.{codesIn}
-use Rattle.reader.specs.AnswerLaws.{Read, Unread, answered, refused}
+use Rattle.reader.specs.Laws.Answer.{TextChecked, text-checked, text-refused}
 use Rattle.listing.proofs.Answers.{counted, short, enough, unread, nothing-listed, all-listed}
 use native.Mathlib.Omega.{arith}
 use borrow.Author.Needs.{needs}
@@ -10,8 +10,10 @@ use Rattle.listing.proofs.list.Statement.{statement}
 use Rattle.listing.proofs.list.Tie as tie
 
 -- the text was read
-read-in : (c : tie.After-cells) → let t = c .before .before .before .before .before .args .text .now in let g = c .cells .given .0 in Read t (g .0) (g .1 .0) (g .1 .1 .0) (g .1 .1 .1 .0)
-read-in c = answered _ (sym (c .cells .given .1) ∙ c .before .before .check .ensures)
+read-in :
+    (c : tie.After-cells) →
+    let t = c .before .before .before .before .before .args .text .now in let g = c .cells .given .0 in TextChecked t (g .0) (g .1 .0) (g .1 .1 .0) (g .1 .1 .1 .0) (g .1 .1 .1 .1 .0)
+read-in c = text-checked _ (sym (c .cells .given .1) ∙ c .before .before .check .ensures)
 
 check-requires : tie.Need-check-requires
 check-requires c κs = search needs
@@ -32,12 +34,12 @@ put-codes-requires : tie.Need-put-codes-requires
 put-codes-requires c κs =
     let r = read-in (c .before .before .before) in
     let e = counted r in
-    (r .text, omega arith)
+    (r .text, r .start, omega arith)
 
 returns-2 : tie.Need-returns-2
 returns-2 c =
     let a = c .before .before .before .before .before .before .args in
-    let u = refused (a .text .now) (sym (c .before .refusal .given .1) ∙ c .before .before .before .check .ensures) in
+    let u = text-refused (a .text .now) (sym (c .before .refusal .given .1) ∙ c .before .before .before .check .ensures) in
     nothing-listed (a .text .now) _ (a .codes .now) (unread (length (a .codes .now)) u) (u .some) (u .place)
 
 same-length : tie.Need-same-length

@@ -1,26 +1,27 @@
 -- `listing::put_codes` meets its contract: the codes put so far, and those of what is left, are the text's. Assumes nothing.
 use mathlib.Core.Path.{_≡_, sym, _∙_}
-use mathlib.Core.Bool.{true, false}
+use mathlib.Core.Bool.{true}
 use Prim.Native.Nat.{_-_, _≤_, _<_}
-use native.Mathlib.Omega.{arith}
 use lib.ListN.{length, drop}
 use borrow.Author.Needs.{needs}
 use borrow.Author.Tests.{not-true, not-false}
 use Rattle.walk.specs.Walk.{wholeAt}
-use Rattle.walk.specs.WalkLaws.{goes-here}
+use Rattle.walk.specs.Laws.Walk.{goes-here}
 use Rattle.listing.specs.List.{codesOf}
 use Rattle.listing.proofs.Laws.{Lists, lists-start, on, lists-past, has-room, lists-put, lists-end}
 use Rattle.listing.proofs.put_codes.Statement.{statement}
 use Rattle.listing.proofs.put_codes.Tie as tie
 
 abbrev Inv-loop : tie.InvT-loop
-Inv-loop text codes₀ spot₀ count₀ i₀ codes spot count i = (length (codesOf text) ≤ length codes₀) × Lists text codes₀ codes count i spot
+Inv-loop text body codes₀ spot₀ count₀ i₀ codes spot count i = (length (codesOf text) ≤ length codes₀) × Lists text codes₀ codes count i spot
 
 abbrev μ-loop : tie.MeasureT-loop
-μ-loop text codes₀ spot₀ count₀ i₀ codes spot count i = length text - i
+μ-loop text body codes₀ spot₀ count₀ i₀ codes spot count i = length text - i
 
 -- where a whole cell stands, and its code was made
-stands : (c : tie.After-code-as Inv-loop μ-loop) → wholeAt (drop (c .before .before .before .before .before .before .loop .i) (c .before .before .before .before .before .before .before .before .before .args .text .now)) ≡ true
+stands :
+    (c : tie.After-code-as Inv-loop μ-loop) →
+    wholeAt (drop (c .before .before .before .before .before .before .loop .i) (c .before .before .before .before .before .before .before .before .before .args .text .now)) ≡ true
 stands c = sym (c .before .before .whole-at .ensures) ∙ not-false _ (c .before .if1 .left)
 
 room : (c : tie.After-code-as Inv-loop μ-loop) → let l = c .before .before .before .before .before .before .loop in l .count < length (l .codes)
@@ -30,7 +31,7 @@ room c =
     has-room (l .inv .1) (b .before .loop-test .taken) (c .before .before .before .after .ensures) (stands c) (l .inv .0)
 
 loop-holds : tie.Need-loop-holds Inv-loop μ-loop
-loop-holds c = (c .before .before .pre .1, lists-start (c .before .before .args .text .now) _ (c .before .before .pre .0))
+loop-holds c = let p = c .before .before .pre in (p .2, lists-start (c .before .before .args .text .now) _ (p .0) (p .1))
 
 shared-slice-read-after : tie.Need-shared-slice-read-after Inv-loop μ-loop
 shared-slice-read-after c = search needs

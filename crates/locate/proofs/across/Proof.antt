@@ -4,7 +4,7 @@ use Prim.Native.Nat.{ℕ, _*_}
 use native.Mathlib.Omega.{arith}
 use borrow.Author.Needs.{needs}
 use lib.IntN.{negℤ}
-use Rattle.signed.specs.SignLaws.{sub-at, sub-neg}
+use Rattle.signed.specs.Laws.Sign.{sub-at, sub-neg}
 use Rattle.locate.specs.Fix.{quarter}
 use Rattle.locate.proofs.across.Statement.{statement}
 use Rattle.locate.proofs.across.Tie as tie

@@ -3,7 +3,7 @@ use Prim.Native.Nat.{_+_, _*_, _/_, _%_, _≤_}
 use native.Mathlib.Nat.{mul-le-mul}
 use native.Mathlib.Omega.{arith}
 use borrow.Author.Needs.{needs}
-use Rattle.ternary.specs.Powers.{power-le}
+use Rattle.ternary.specs.Laws.Powers.{power-le}
 use Rattle.locate.specs.Fix.{quarter, beltCell}
 use Rattle.locate.proofs.belt.Statement.{statement}
 use Rattle.locate.proofs.belt.Tie as tie

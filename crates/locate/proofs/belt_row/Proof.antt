@@ -4,8 +4,8 @@ use Prim.Native.Nat.{ℕ, _*_, _/_, _^_, _<_}
 use native.Mathlib.Nat.{le-of-lt, mul-le-mul}
 use native.Mathlib.Omega.{arith}
 use borrow.Author.Needs.{needs}
-use Rattle.ternary.specs.Powers.{power-le}
-use Rattle.locate.specs.PartLaws.{part-lt, part-coarser}
+use Rattle.ternary.specs.Laws.Powers.{power-le}
+use Rattle.locate.specs.Laws.Part.{part-lt, part-coarser}
 use Rattle.locate.proofs.belt_row.Statement.{statement}
 use Rattle.locate.proofs.belt_row.Tie as tie
 

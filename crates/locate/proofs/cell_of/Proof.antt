@@ -7,11 +7,11 @@ use borrow.Author.Needs.{needs}
 use lib.IntN.{ℤ, natAbs}
 use Rattle.cell.specs.declared.Arrangement.{Arrangement}
 use Rattle.signed.specs.Sign.{negative, withSign}
-use Rattle.signed.specs.SignLaws.{back, below-zero, sign-and-size}
-use Rattle.locate.specs.Fix.{inBelt, eastOf, offsetOf, heightOf, beltCell, capCell, northCell, southCell, fixCell}
-use Rattle.locate.specs.End.{endOf}
-use Rattle.locate.specs.FixLaws.{fix-belt, fix-south, fix-north}
-use Rattle.locate.specs.RangeLaws.{longitude-low, east-small, z-small, belt-at, cap-at, offset-small}
+use Rattle.signed.specs.Laws.Sign.{back, below-zero, sign-and-size}
+use Rattle.locate.specs.Fix.{isBelt, eastOf, offsetOf, heightOf, beltCell, capCell, northCell, southCell, fixCell}
+use Rattle.locate.specs.Internal.End.{turnedEnd}
+use Rattle.locate.specs.Laws.Fix.{fix-belt, fix-south, fix-north}
+use Rattle.locate.specs.Internal.RangeLaws.{longitude-low, east-small, z-small, belt-at, cap-at, offset-small}
 use Rattle.locate.proofs.Laws.{stands-cell}
 use Rattle.locate.proofs.cell_of.Statement.{statement}
 use Rattle.locate.proofs.cell_of.Tie as tie
@@ -42,10 +42,10 @@ sign-is c = c .is-negative .ensures ∙ ap negative (back (c .before .before .be
 
 -- ---- the belt or a cap
 
-belt-is : (c : tie.Then1) → inBelt (c .before .before .before .before .before .args .z) ≡ true
+belt-is : (c : tie.Then1) → isBelt (c .before .before .before .before .before .args .z) ≡ true
 belt-is c = let m = c .before .before in belt-at (m .before .before .before .args .z) (omega (arith, size-is m))
 
-belt-not : (c : tie.Else1) → inBelt (c .before .before .before .before .before .args .z) ≡ false
+belt-not : (c : tie.Else1) → isBelt (c .before .before .before .before .before .args .z) ≡ false
 belt-not c = let m = c .before .before in cap-at (m .before .before .before .args .z) (omega (arith, size-is m))
 
 offset-is : (c : tie.After-offset) → c .offset .result ≡ offsetOf (c .before .before .before .before .before .before .args .z)
@@ -55,7 +55,8 @@ offset-is c =
     c .offset .ensures ∙ ap₂ (λ (b : Bool) (y : ℕ). offsetOf (withSign b y)) (sign-is n) (size-is (n .before)) ∙ ap offsetOf (sign-and-size z)
 
 -- the cell at a cap's end, by the sign
-cap-cell : (a : Arrangement) (k : ℕ) (L z : ℤ) {east t : ℕ} (b : Bool) → b ≡ negative z → east ≡ eastOf L → t ≡ heightOf z → inBelt z ≡ false → capCell (cond b 5 0) k t (endOf a b east) ≡ fixCell a k L z
+cap-cell : (a : Arrangement) (k : ℕ) (L z : ℤ) {east t : ℕ} (b : Bool) → b ≡ negative z → east ≡ eastOf L → t ≡ heightOf z → isBelt z ≡ false → capCell
+    (cond b 5 0) k t (turnedEnd a b east) ≡ fixCell a k L z
 unfolding southCell northCell
 cap-cell a k L z true s e h o = ap₂ (southCell (a .south) k) e h ∙ sym (fix-south a k L z o (below-zero z ∙ sym s))
 cap-cell a k L z false s e h o = ap₂ (northCell (a .north) k) e h ∙ sym (fix-north a k L z o (below-zero z ∙ sym s))
@@ -121,7 +122,7 @@ returns-2 c =
     let t : ℕ = 3 * (10 ^ 18 - m .magnitude .result) in
     c .cap .ensures
     ∙ stands-cell (f .cap-face .result) (a .resolution) t _ _ (x .end-of .ensures)
-    ∙ ap (λ (y : ℕ). capCell y (a .resolution) t (endOf (a .arrangement) south (e .shifted .result))) (f .cap-face .ensures)
+    ∙ ap (λ (y : ℕ). capCell y (a .resolution) t (turnedEnd (a .arrangement) south (e .shifted .result))) (f .cap-face .ensures)
     ∙ cap-cell (a .arrangement) (a .resolution) (a .longitude) (a .z) south (sign-is n) (east-is e) (height-is m) (belt-not (x .before))
 
 pub cell-of-spec : {M : Type 1} → statement M

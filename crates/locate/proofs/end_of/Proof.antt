@@ -9,9 +9,9 @@ use Rattle.cell.specs.declared.Arrangement.{Arrangement}
 use Rattle.cell.specs.Cell.{IsArrangement}
 use Rattle.cell.specs.Neighbour.{turnOf}
 use Rattle.root.specs.Floor.{axisOf}
-use Rattle.locate.specs.Fix.{Point, quarter, startNorth, startSouth, turnedNorth}
-use Rattle.locate.specs.End.{Stands, endOf}
-use Rattle.locate.specs.TurnLaws.{south-turned}
+use Rattle.locate.specs.Fix.{CapPoint, quarter, startNorth, startSouth, turnedNorth}
+use Rattle.locate.specs.Internal.End.{Stands, turnedEnd}
+use Rattle.locate.specs.Laws.Turn.{south-turned}
 use Rattle.locate.proofs.end_of.Statement.{statement}
 use Rattle.locate.proofs.end_of.Tie as tie
 
@@ -20,7 +20,7 @@ module _ (a : Arrangement) (east : ℕ) (u : ℤ) (v : IsArrangement a) (h : eas
   abbrev turns : Bool → ℕ
   turns south = cond south ((a .south + 4 - east / quarter) % 4) (turnOf (east / quarter) (a .north))
 
-  ended : (b : Bool) → u ≡ startNorth (east % quarter) .0 → turnedNorth (turns b) (u, cond (not b) (negℤ (pos quarter)) (pos quarter)) ≡ endOf a b east
+  ended : (b : Bool) → u ≡ startNorth (east % quarter) .0 → turnedNorth (turns b) (u, cond (not b) (negℤ (pos quarter)) (pos quarter)) ≡ turnedEnd a b east
   unfolding startNorth startSouth
   ended true e =
       ap (λ (x : ℤ). turnedNorth (turns true) (x, pos quarter)) e
@@ -43,11 +43,11 @@ returns c =
     let a = s .args in
     let y : ℤ = cond (not (a .south)) (negℤ (pos quarter)) (pos quarter) in
     let u : ℤ = axisOf (c .before .across .result) in
-    let e : turnedNorth (c .before .before .turns-of .result) (u, y) ≡ endOf (a .arrangement) (a .south) (a .east) =
+    let e : turnedNorth (c .before .before .turns-of .result) (u, y) ≡ turnedEnd (a .arrangement) (a .south) (a .east) =
     ap (λ (j : ℕ). turnedNorth j (u, y)) (c .before .before .turns-of .ensures .1)
     ∙ ended (a .arrangement) (a .east) u (s .pre .0) (omega arith) (a .south) (c .before .across .ensures .0)
     in
-    subst (λ (x : Point). Stands x (c .turned .result)) e (c .turned .ensures)
+    subst (λ (x : CapPoint). Stands x (c .turned .result)) e (c .turned .ensures)
 
 pub end-of-spec : {M : Type 1} → statement M
 end-of-spec = tie.close (tie.spec turns-of-requires across-requires turned-requires returns)

@@ -8,7 +8,8 @@ use Rattle.locate.proofs.finest_row.Statement.{statement}
 use Rattle.locate.proofs.finest_row.Tie as tie
 
 -- where the rest is a step, it is less than two
-one-more : (x : ℕ) → x < 4000000000000000000 → 4000000000000000000 ≤ 14348907 * (x % 278766877506) + 13985942 * (x / 278766877506) → x / 278766877506 + 1 ≡ 14348907 * x / 4000000000000000000
+one-more : (x : ℕ) → x < 4000000000000000000 → 4000000000000000000 ≤ 14348907 * (x % 278766877506) + 13985942 * (x / 278766877506) → x / 278766877506 + 1 ≡ 14348907 * x /
+    4000000000000000000
 one-more x h l =
     let w : ℕ = x / 278766877506 in
     let y : ℕ = x % 278766877506 in

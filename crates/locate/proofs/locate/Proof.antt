@@ -8,9 +8,9 @@ use Rattle.logic.specs.Refusal.{refuse, _otherwise_}
 use Rattle.cell.specs.declared.Found.{Found}
 use Rattle.cell.specs.declared.Found.the-variants.{At}
 use Rattle.cell.specs.Cell.{IsArrangement, found}
-use Rattle.cell.specs.CellLaws.{is-arrangement}
-use Rattle.cell.specs.FoundLaws.{refused, then}
-use Rattle.signed.specs.SignLaws.{back}
+use Rattle.cell.specs.Laws.Cell.{is-arrangement}
+use Rattle.cell.specs.Laws.Found.{refused, then}
+use Rattle.signed.specs.Laws.Sign.{back}
 use Rattle.locate.specs.Fix.{inRange, fixCell, fixRefusal}
 use Rattle.locate.proofs.locate.Statement.{statement}
 use Rattle.locate.proofs.locate.Tie as tie

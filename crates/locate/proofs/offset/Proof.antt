@@ -4,7 +4,7 @@ use borrow.Author.Needs.{needs}
 use mathlib.Core.Bool.{Bool}
 use Rattle.signed.specs.Sign.{withSign}
 use Rattle.locate.specs.Fix.{offsetOf}
-use Rattle.locate.specs.RangeLaws.{offset-south, offset-north}
+use Rattle.locate.specs.Internal.RangeLaws.{offset-south, offset-north}
 use Rattle.locate.proofs.offset.Statement.{statement}
 use Rattle.locate.proofs.offset.Tie as tie
 

@@ -7,9 +7,9 @@ use lib.ListN.{length, drop}
 use borrow.Author.Needs.{needs}
 use Rattle.ternary.specs.Digits.{digits}
 use Rattle.code.specs.Code.{cellOf, pathIn}
-use Rattle.code.specs.DecodedLaws.{parted, unparted}
+use Rattle.code.specs.Laws.Decoded.{parted, unparted}
 use Rattle.name.specs.Name.{digitBytes, nameIn}
-use Rattle.name.specs.NameLaws.{length-name, code-name-is}
+use Rattle.name.specs.Laws.Name.{length-name, code-name-is}
 use Rattle.name.proofs.Laws.{refused-4, refused-8, not-refused, nothing-written, name-written}
 use Rattle.name.proofs.code_name.Statement.{statement}
 use Rattle.name.proofs.code_name.Tie as tie

@@ -1,17 +1,17 @@
 -- `name::name_code` meets its contract. Assumes nothing.
 use mathlib.Core.Path.{_≡_, sym, ap, ap₂, _∙_}
-use mathlib.Core.Bool.{true, false}
-use Prim.Native.Nat.{ℕ, _-_, _≤_}
+use mathlib.Core.Bool.{true}
+use Prim.Native.Nat.{ℕ, _-_}
 use native.Mathlib.Omega.{arith}
-use lib.ListN.{length, drop, getD}
+use lib.ListN.{length, drop}
 use borrow.Author.Needs.{needs}
 use borrow.Author.Tests.{not-true, not-false, lt-ltb, le-ltb}
 use Rattle.logic.specs.Refusal.{_otherwise_}
 use Rattle.ternary.specs.Digits.{value}
 use Rattle.code.specs.declared.Coded.the-variants.{Code}
 use Rattle.code.specs.Code.{coded, codeAt}
-use Rattle.name.specs.Name.{firstLetter, allDigits, digitsIn, nameRefusal, nameCode}
-use Rattle.name.specs.NameLaws.{Accepted, letter-bounds, path-below, not-refused}
+use Rattle.name.specs.Name.{firstLetter, allDigits, digitsIn, nameRefusal, nameCode, NameForm}
+use Rattle.name.specs.Laws.Name.{letter-bounds, path-below, not-refused}
 use Rattle.name.proofs.Laws.{read-bad, read-good}
 use Rattle.name.proofs.name_code.Statement.{statement}
 use Rattle.name.proofs.name_code.Tie as tie
@@ -21,7 +21,8 @@ lettered : (c : tie.Else2) → firstLetter (c .before .before .before .before .a
 lettered c = sym (c .before .first-letter .ensures) ∙ not-false _ (c .if2 .left)
 
 -- with all its digits read
-read-in : (c : tie.After-path) → let s = c .before .before .before .before .before .before .before .args .name .now in (allDigits (drop 1 s) ≡ true) × (c .path .given .0 .0 ≡ value 9 (digitsIn s))
+read-in : (c : tie.After-path) → let s = c .before .before .before .before .before .before .before .args .name .now in (allDigits (drop 1 s) ≡ true) ×
+    (c .path .given .0 .0 ≡ value 9 (digitsIn s))
 read-in c = read-good _ _ _ (sym (c .path .given .1) ∙ c .before .before .read-path .ensures)
 
 returns : tie.Need-returns
@@ -56,17 +57,17 @@ returns-3 c =
 shared-slice-read-wide : tie.Need-shared-slice-read-wide
 shared-slice-read-wide c = let l = letter-bounds _ (lettered (c .before .before .before .before .before)) in omega arith
 
+sub-wide : tie.Need-sub-wide
+sub-wide c = let l = letter-bounds _ (lettered (c .before .before .before .before .before)) in omega arith
+
 wide-requires : tie.Need-wide-requires
 wide-requires c κs = search needs
-
-sub-face : tie.Need-sub-face
-sub-face c = let l = letter-bounds _ (lettered (c .before .before .before .before .before .before)) in omega (arith, c .wide .ensures)
 
 sub-code-at : tie.Need-sub-code-at
 sub-code-at c = let l = letter-bounds _ (lettered (c .before .before .before .before .before .before)) in omega arith
 
 -- the name is one
-named : (c : tie.After-path) → Accepted (c .before .before .before .before .before .before .before .args .name .now)
+named : (c : tie.After-path) → NameForm (c .before .before .before .before .before .before .before .args .name .now)
 named c =
     let e = c .before .before .before in
     record { short = e .before .before .if1 .left; lettered = lettered e; digital = read-in c .0 }
@@ -82,10 +83,10 @@ unfolding coded nameCode
 returns-4 c =
     let p = c .before .before .before .before in
     let s = p .before .before .before .before .before .before .before .args .name .now in
-    let code = c .code-at .ensures ∙ ap₂ (λ (x y : ℕ). codeAt (x - 78) (length s - 1) y) (c .before .wide .ensures) (read-in p .1) in
+    let code = c .code-at .ensures ∙ ap₂ (λ (x y : ℕ). codeAt x (length s - 1) y) (c .before .wide .ensures) (read-in p .1) in
     ap Code code ∙ sym (ap (λ (x : ℕ). coded x (nameCode s)) (not-refused s (named p)))
 
 pub name-code-spec : {M : Type 1} → statement M
 name-code-spec =
     tie.close
-    (tie.spec returns first-letter-requires returns-2 read-path-requires enum-known-path enum-told returns-3 shared-slice-read-wide wide-requires sub-face sub-code-at code-at-requires returns-4)
+    (tie.spec returns first-letter-requires returns-2 read-path-requires enum-known-path enum-told returns-3 shared-slice-read-wide sub-wide wide-requires sub-code-at code-at-requires returns-4)

@@ -1,9 +1,9 @@
 -- `name::put_digits` meets its contract: the digits still to write, and the bytes behind them, are the whole. Assumes nothing.
 use mathlib.Core.Path.{_≡_, refl, sym, ap, ap₂, _∙_}
-use mathlib.Core.List.{List, _++_}
-use Prim.Native.Nat.{ℕ, _+_, _/_, _%_, _≤_, _<_}
+use mathlib.Core.List.{_++_}
+use Prim.Native.Nat.{ℕ, _+_, _%_, _≤_, _<_}
 use native.Mathlib.Omega.{arith}
-use lib.ListN.{length, take, drop, set, length-set, take-append-drop}
+use lib.ListN.{length, take, drop, length-set, take-append-drop}
 use borrow.Author.Needs.{needs}
 use Rattle.ternary.specs.Digits.{digits}
 use Rattle.name.specs.Name.{digitBytes}
@@ -13,7 +13,8 @@ use Rattle.name.proofs.put_digits.Tie as tie
 
 abbrev Inv-loop : tie.InvT-loop
 Inv-loop name₀ count path p₀ left₀ name p left =
-    (left ≤ count) × (length name ≡ length name₀) × (take (left + 1) name ≡ take (left + 1) name₀) × (digitBytes (digits 9 left p) ++ drop (left + 1) name ≡ digitBytes (digits 9 count path) ++ drop (count + 1) name₀)
+    (left ≤ count) × (length name ≡ length name₀) × (take (left + 1) name ≡ take (left + 1) name₀) × (digitBytes (digits 9 left p) ++ drop (left + 1) name ≡ digitBytes
+    (digits 9 count path) ++ drop (count + 1) name₀)
 
 abbrev μ-loop : tie.MeasureT-loop
 μ-loop name₀ count path p₀ left₀ name p left = left
@@ -61,4 +62,4 @@ returns c =
 pub put-digits-spec : {M : Type 1} → statement M
 put-digits-spec =
     tie.close
-    (tie.spec Inv-loop μ-loop loop-holds add-name cast-name slice-write-name sub-left loop-less loop-again same-length returns)
+    (tie.spec Inv-loop μ-loop loop-holds cast-name add-name slice-write-name sub-left loop-less loop-again same-length returns)

@@ -30,9 +30,10 @@ returns : tie.Need-returns
 returns c =
     let a = c .before .before .before .before .before .args in
     let s = a .name .now in
-    ap (λ (l : List ℕ). set l 0 (78 + a .face)) (c .before .before .put-digits .ensures) ∙ front s (digitBytes (digits 9 (a .count) (a .path)) ++ drop (a .count + 1) s) (78 + a .face) (omega arith)
+    ap (λ (l : List ℕ). set l 0 (78 + a .face)) (c .before .before .put-digits .ensures) ∙ front s (digitBytes (digits 9 (a .count) (a .path)) ++ drop (a .count + 1) s) (78 + a .face)
+    (omega arith)
 
 pub put-name-spec : {M : Type 1} → statement M
 put-name-spec =
     tie.close
-    (tie.spec put-digits-requires add-name cast-name slice-write-name same-length returns)
+    (tie.spec put-digits-requires cast-name add-name slice-write-name same-length returns)

@@ -6,7 +6,7 @@ use native.Mathlib.Nat.{pow-suc}
 use native.Mathlib.Omega.{arith}
 use lib.ListN.{length, drop, getD, drop-of-length-le}
 use borrow.Author.Needs.{needs}
-use Rattle.ternary.specs.Powers.{nine-le}
+use Rattle.ternary.specs.Laws.Powers.{nine-le}
 use Rattle.name.specs.Name.{allDigits, isDigit}
 use Rattle.name.proofs.Laws.{read, read-all, low-digit, high-digit, a-digit, stopped, further, read-on, no-digit, all-digits}
 use Rattle.name.proofs.read_path.Statement.{statement}
@@ -26,40 +26,45 @@ next p i b h k l =
     let e : 9 ^ (i + 1 - 1) ≡ 9 ^ (i - 1) * 9 = ap (λ (x : ℕ). 9 ^ x) (n ∙ add-one (i - 1)) ∙ pow-suc 9 (i - 1) in
     omega arith
 
-small : (c : tie.Else2 Inv-loop μ-loop) → let l = c .before .before .before .before .before .loop in l .path * 9 + (c .before .before .wide .result - 48) < 205891132094649
+small :
+    (c : tie.Else2 Inv-loop μ-loop) →
+    let l = c .before .before .before .before .loop in
+    let s = c .before .before .before .before .before .before .args .name .now in
+    l .path * 9 + (getD s (l .i) 0 - 48) < 205891132094649
 small c =
-    let l = c .before .before .before .before .before .loop in
-    let h = next (l .path) (l .i) (c .before .before .wide .result) (l .inv .0) (l .inv .2) (omega arith) in
+    let l = c .before .before .before .before .loop in
+    let s = c .before .before .before .before .before .before .args .name .now in
+    let h = next (l .path) (l .i) (getD s (l .i) 0) (l .inv .0) (l .inv .2) (omega (arith, c .if2 .left)) in
     let g : 9 ^ (l .i + 1 - 1) ≤ 9 ^ 15 = nine-le {i = l .i + 1 - 1} {j = 15} (omega arith) in
     omega arith
 
 loop-holds : tie.Need-loop-holds Inv-loop μ-loop
 loop-holds c = (omega arith, omega arith, omega arith, refl, refl)
 
-shared-slice-read-wide : tie.Need-shared-slice-read-wide Inv-loop μ-loop
-shared-slice-read-wide c = search needs
-
-wide-requires : tie.Need-wide-requires Inv-loop μ-loop
-wide-requires c κs = search needs
+shared-slice-read-b : tie.Need-shared-slice-read-b Inv-loop μ-loop
+shared-slice-read-b c = search needs
 
 returns : tie.Need-returns Inv-loop μ-loop
 returns c =
-    let l = c .before .before .before .before .loop in
-    let s = c .before .before .before .before .before .before .args .name .now in
-    no-digit (allDigits (drop 1 s)) _ (sym (l .inv .3) ∙ stopped s (l .i) (omega arith) (low-digit (getD s (l .i) 0) (rw (c .before .wide .ensures) at (c .if1 .taken))))
+    let l = c .before .before .before .loop in
+    let s = c .before .before .before .before .before .args .name .now in
+    no-digit (allDigits (drop 1 s)) _ (sym (l .inv .3) ∙ stopped s (l .i) (omega arith) (low-digit (getD s (l .i) 0) (c .if1 .taken)))
 
 returns-2 : tie.Need-returns-2 Inv-loop μ-loop
 returns-2 c =
-    let l = c .before .before .before .before .before .loop in
-    let s = c .before .before .before .before .before .before .before .args .name .now in
-    let w = c .before .before .wide .ensures in
-    no-digit (allDigits (drop 1 s)) _ (sym (l .inv .3) ∙ stopped s (l .i) (omega arith) (high-digit (getD s (l .i) 0) (rw w at (c .before .if1 .left)) (rw w at (c .if2 .taken))))
+    let l = c .before .before .before .before .loop in
+    let s = c .before .before .before .before .before .before .args .name .now in
+    no-digit (allDigits (drop 1 s)) _
+    (sym (l .inv .3) ∙ stopped s (l .i) (omega arith) (high-digit (getD s (l .i) 0) (c .before .if1 .left) (c .if2 .taken)))
 
 mul-path : tie.Need-mul-path Inv-loop μ-loop
 mul-path c = let s = small c in omega arith
 
+wide-requires : tie.Need-wide-requires Inv-loop μ-loop
+wide-requires c κs = search needs
+
 add-path : tie.Need-add-path Inv-loop μ-loop
-add-path c = let s = small c in omega arith
+add-path c = let s = small (c .before) in omega (arith, c .wide .ensures)
 
 add-i : tie.Need-add-i Inv-loop μ-loop
 add-i c = search needs
@@ -71,10 +76,16 @@ loop-again : tie.Need-loop-again Inv-loop μ-loop
 loop-again c =
     let l = c .before .before .before .before .before .loop in
     let s = c .before .before .before .before .before .before .before .args .name .now in
-    let w = c .before .before .wide .ensures in
-    let d : isDigit (getD s (l .i) 0) ≡ _ = a-digit (getD s (l .i) 0) (rw w at (c .before .if1 .left)) (rw w at (c .if2 .left)) in
-    let r = ap (λ (x : ℕ). read (l .path * 9 + (x - 48)) (drop (l .i + 1) s)) w in
-    (omega arith, omega arith, next (l .path) (l .i) (c .before .before .wide .result) (l .inv .0) (l .inv .2) (omega arith), further s (l .i) (omega arith) d ∙ l .inv .3, r ∙ read-on s (l .i) (omega arith) (l .path) ∙ l .inv .4)
+    let b = getD s (l .i) 0 in
+    let d : isDigit b ≡ _ = a-digit b (c .before .before .if1 .left) (c .before .if2 .left) in
+    let n = next (l .path) (l .i) b (l .inv .0) (l .inv .2) (omega (arith, c .before .if2 .left)) in
+    let r = ap (λ (x : ℕ). read (l .path * 9 + x) (drop (l .i + 1) s)) (c .wide .ensures) in (
+      omega arith,
+      omega arith,
+      omega (arith, n, c .wide .ensures),
+      further s (l .i) (omega arith) d ∙ l .inv .3,
+      r ∙ read-on s (l .i) (omega arith) (l .path) ∙ l .inv .4,
+    )
 
 returns-3 : tie.Need-returns-3 Inv-loop μ-loop
 unfolding allDigits read
@@ -87,4 +98,4 @@ returns-3 c =
 pub read-path-spec : {M : Type 1} → statement M
 read-path-spec =
     tie.close
-    (tie.spec Inv-loop μ-loop loop-holds shared-slice-read-wide wide-requires returns returns-2 mul-path add-path add-i loop-less loop-again returns-3)
+    (tie.spec Inv-loop μ-loop loop-holds shared-slice-read-b returns returns-2 mul-path wide-requires add-path add-i loop-less loop-again returns-3)

@@ -1,41 +1,32 @@
 -- `nucleus::belt_z` meets its contract. Assumes nothing.
-use mathlib.Core.Path.{_≡_, ap, ap₂, _∙_}
-use mathlib.Core.Bool.{Bool, cond}
+use mathlib.Core.Path.{_≡_, ap₂, _∙_}
+use mathlib.Core.Bool.{true, false, cond}
 use mathlib.Core.Logic.{⊎-elim}
 use Prim.Native.Nat.{ℕ, _+_, _-_, _*_, _<_}
 use native.Mathlib.Omega.{arith}
 use lib.Dec.{eqb, ltb, lit<}
-use lib.IntN.{ℤ, pos, negℤ, subℕ}
+use lib.IntN.{pos, subℕ}
 use borrow.Author.Needs.{needs}
 use borrow.Author.Tests.{lt-ltb, le-ltb}
-use Rattle.logic.specs.Order.{lt-or}
-use Rattle.signed.specs.SignLaws.{back-as}
+use Rattle.logic.specs.Laws.Order.{lt-or}
+use Rattle.signed.specs.Laws.Sign.{back-as}
 use Rattle.nucleus.specs.Nucleus.{floorZ}
-use Rattle.nucleus.specs.FlooredLaws.{floor-plus, floor-minus, floor-signed}
+use Rattle.nucleus.specs.Internal.Caps.{sided}
+use Rattle.nucleus.specs.Internal.FlooredLaws.{floor-sided, floor-signed}
 use Rattle.nucleus.proofs.belt_z.Statement.{statement}
 use Rattle.nucleus.proofs.belt_z.Tie as tie
 
 -- the sign of m - b
-signed : (n b : ℕ) → n ≡ 14348907 - b + (b - 14348907) → floorZ (cond (ltb 14348907 b) (negℤ (pos (1000000000000000000 * (2 * n)))) (pos (1000000000000000000 * (2 * n)))) 43046721 ≡ floorZ (subℕ 28697814000000000000000000 (2000000000000000000 * b)) 43046721
+signed :
+    (n b : ℕ) → n ≡ 14348907 - b + (b - 14348907) →
+    floorZ (sided (ltb 14348907 b) (pos (1000000000000000000 * (2 * n)))) 43046721 ≡
+    floorZ (subℕ 28697814000000000000000000 (2000000000000000000 * b)) 43046721
 signed n b e =
-    ⊎-elim (λ h. rw (lt-ltb 14348907 b h) (floor-minus (1000000000000000000 * (2 * n)) 28697814000000000000000000 (2000000000000000000 * b) 43046721 (omega arith)))
-    (λ h. rw (le-ltb 14348907 b h) (floor-plus (1000000000000000000 * (2 * n)) 28697814000000000000000000 (2000000000000000000 * b) 43046721 (omega arith)))
+    let x : ℕ = 1000000000000000000 * (2 * n) in
+    ⊎-elim
+    (λ h. rw (lt-ltb 14348907 b h) (floor-sided true x (2000000000000000000 * b) 28697814000000000000000000 43046721 (omega arith)))
+    (λ h. rw (le-ltb 14348907 b h) (floor-sided false x 28697814000000000000000000 (2000000000000000000 * b) 43046721 (omega arith)))
     (lt-or 14348907 b)
-
-apart-requires : tie.Need-apart-requires
-apart-requires c κs = search needs
-
-mul-scaled : tie.Need-mul-scaled
-mul-scaled c = search needs
-
-mul-scaled-2 : tie.Need-mul-scaled-2
-mul-scaled-2 c = search needs
-
-scaled-requires : tie.Need-scaled-requires
-scaled-requires c κs = search needs
-
-floored-requires : tie.Need-floored-requires
-floored-requires c κs = search needs
 
 returns : tie.Need-returns
 returns c =
@@ -51,4 +42,4 @@ returns c =
 pub belt-z-spec : {M : Type 1} → statement M
 belt-z-spec =
     tie.close
-    (tie.spec apart-requires mul-scaled mul-scaled-2 scaled-requires floored-requires returns)
+    (tie.spec (λ c κs. search needs) (λ c. search needs) (λ c. search needs) (λ c κs. search needs) (λ c κs. search needs) returns)

@@ -1,34 +1,22 @@
 -- `nucleus::cap_z` meets its contract. Assumes nothing.
-use mathlib.Core.Path.{_≡_, ap₂, _∙_}
-use mathlib.Core.Bool.{Bool, true, false, cond}
+use mathlib.Core.Path.{ap₂, _∙_}
+use mathlib.Core.Bool.{cond}
 use Prim.Native.Nat.{ℕ, _+_, _-_, _*_, _≤_, _<_}
 use native.Mathlib.Nat.{mul-pos}
 use native.Mathlib.Omega.{arith}
 use lib.Dec.{eqb, lit<}
-use lib.IntN.{pos, negℤ, subℕ}
+use lib.IntN.{pos, subℕ}
 use borrow.Author.Needs.{needs}
-use Rattle.signed.specs.SignLaws.{back-as}
-use Rattle.locate.specs.PartLaws.{part-lt}
-use Rattle.nucleus.specs.Nucleus.{floorZ, northZ, southZ}
-use Rattle.nucleus.specs.FlooredLaws.{floor-signed}
-use Rattle.nucleus.specs.CapLaws.{north-z, south-z}
+use Rattle.signed.specs.Laws.Sign.{back-as}
+use Rattle.locate.specs.Laws.Part.{part-lt}
+use Rattle.nucleus.specs.Internal.FlooredLaws.{floor-signed}
+use Rattle.nucleus.specs.Internal.CapLaws.{z-is}
 use Rattle.nucleus.proofs.Laws.{height-le}
 use Rattle.nucleus.proofs.cap_z.Statement.{statement}
 use Rattle.nucleus.proofs.cap_z.Tie as tie
 
 square : (s : tie.Start) → s .args .h * s .args .h ≤ 205891132094649
 square s = height-le 14348907 (s .args .h) (s .pre .1)
-
--- by the sign
-sided : (h : ℕ) → h < 14348907 → (b : Bool) → floorZ (cond b (negℤ (pos (1000000000000000000 * (617673396283947 - h * h)))) (pos (1000000000000000000 * (617673396283947 - h * h)))) 617673396283947 ≡ cond b (southZ 14348907 h) (northZ 14348907 h)
-sided h l true = south-z 14348907 h l
-sided h l false = north-z 14348907 h l
-
-mul-d : tie.Need-mul-d
-mul-d c = search needs
-
-mul-d-2 : tie.Need-mul-d-2
-mul-d-2 c = search needs
 
 mul-scaled : tie.Need-mul-scaled
 mul-scaled c = omega (arith, square c)
@@ -55,9 +43,9 @@ returns c =
     (c .floored .ensures
     ∙ ap₂ (λ (w r : ℕ). cond (a .south) (subℕ 0 (w + cond (eqb r 0) 0 1)) (pos w)) (q .whole) (q .rest)
     ∙ floor-signed n 617673396283947 (lit< tt) (a .south)
-    ∙ sided (a .h) (c .before .before .pre .1) (a .south))
+    ∙ z-is (a .south) 14348907 (a .h) (c .before .before .pre .1))
 
 pub cap-z-spec : {M : Type 1} → statement M
 cap-z-spec =
     tie.close
-    (tie.spec mul-d mul-d-2 mul-scaled sub-scaled scaled-requires floored-requires returns)
+    (tie.spec (λ c. search needs) (λ c. search needs) mul-scaled sub-scaled scaled-requires floored-requires returns)

@@ -6,7 +6,7 @@ use native.Mathlib.Omega.{arith}
 use lib.Dec.{eqb, lit<}
 use lib.IntN.{pos, subℕ}
 use borrow.Author.Needs.{needs}
-use Rattle.signed.specs.SignLaws.{back-as, pos-sub}
+use Rattle.signed.specs.Laws.Sign.{back-as, pos-sub}
 use Rattle.nucleus.proofs.floored.Statement.{statement}
 use Rattle.nucleus.proofs.floored.Tie as tie
 
@@ -17,18 +17,6 @@ signed false w m = sym (pos-sub w)
 either : {n : ℕ} (b : Bool) (x y : ℕ) → x < n → y < n → cond b x y < n
 either true x y h l = h
 either false x y h l = l
-
-more-of-requires : tie.Need-more-of-requires
-more-of-requires c κs = search needs
-
-chosen-requires : tie.Need-chosen-requires
-chosen-requires c κs = search needs
-
-add-chosen : tie.Need-add-chosen
-add-chosen c = search needs
-
-chosen-requires-2 : tie.Need-chosen-requires-2
-chosen-requires-2 c κs = search needs
 
 difference-requires : tie.Need-difference-requires
 difference-requires c κs =
@@ -53,10 +41,4 @@ returns c =
 pub floored-spec : {M : Type 1} → statement M
 floored-spec =
     tie.close
-    (tie.spec
-    more-of-requires
-    chosen-requires
-    add-chosen
-    chosen-requires-2
-    difference-requires
-    returns)
+    (tie.spec (λ c κs. search needs) (λ c κs. search needs) (λ c. search needs) (λ c κs. search needs) difference-requires returns)

@@ -1,6 +1,6 @@
 -- `nucleus::ground_nucleus` meets its contract, by the face. Assumes nothing.
 use mathlib.Core.Path.{_≡_, sym, ap, ap₂, _∙_}
-use mathlib.Core.Bool.{Bool, true, false, cond}
+use mathlib.Core.Bool.{true, false}
 use mathlib.Core.Logic.{_⊎_, inl, inr, ⊎-elim}
 use Prim.Native.Nat.{ℕ, _+_, _-_, _*_, _≤_, _<_}
 use native.Mathlib.Nat.{mul-pos}
@@ -9,32 +9,21 @@ use borrow.Author.Needs.{needs}
 use lib.Dec.{ltb}
 use lib.IntN.{subℕ}
 use borrow.Author.Tests.{lt-ltb, le-ltb}
-use Rattle.ternary.specs.Powers.{power-le, power-pos}
-use Rattle.signed.specs.SignLaws.{back-as}
+use Rattle.ternary.specs.Laws.Powers.{power-le, power-pos}
+use Rattle.signed.specs.Laws.Sign.{back-as}
 use Rattle.cell.specs.declared.Cell.{Cell}
 use Rattle.cell.specs.declared.Arrangement.{Arrangement}
-use Rattle.cell.specs.Cell.{IsCell, IsArrangement}
+use Rattle.cell.specs.Cell.{IsCell}
 use Rattle.cell.specs.Neighbour.{rows}
-use Rattle.cell.specs.CellLaws.{row-small, column-small}
+use Rattle.cell.specs.Laws.Cell.{row-small, column-small}
 use Rattle.locate.specs.Fix.{quarter}
-use Rattle.nucleus.specs.declared.Fix.{Fix}
-use Rattle.nucleus.specs.Nucleus.{fix, beltLongitude, beltZ, northNucleus, southNucleus, groundNucleus}
-use Rattle.nucleus.specs.TriangleLaws.{middle, Inside}
-use Rattle.nucleus.specs.PlaceLaws.{on-north, on-belt, on-south}
+use Rattle.nucleus.specs.Nucleus.{fix, beltLongitude, beltZ, groundNucleus}
+use Rattle.nucleus.specs.Internal.Caps.{firstIn, capNucleus}
+use Rattle.nucleus.specs.Internal.Triangle.{middle, InFace}
+use Rattle.nucleus.specs.Internal.PlaceLaws.{first-small, on-cap, on-belt}
 use Rattle.nucleus.proofs.Laws.{up-times, finer-along, finer-z, finer-lt}
 use Rattle.nucleus.proofs.ground_nucleus.Statement.{statement}
 use Rattle.nucleus.proofs.ground_nucleus.Tie as tie
-
--- what `cap_nucleus` answers
-abbrev onCap : (south : Bool) (first m a b : ℕ) → Fix
-onCap south first m a b = cond south (southNucleus first m (middle m a b)) (northNucleus first m (middle m a b))
-
-first-le : (a : Arrangement) → IsArrangement a → (b : Bool) → cond b (a .south) (a .north) ≤ 3
-first-le a v true = omega (arith, v)
-first-le a v false = omega (arith, v)
-
-power-requires : tie.Need-power-requires
-power-requires c κs = search needs
 
 sub-power : tie.Need-sub-power
 sub-power c = omega (arith, c .before .before .pre .1 .fine)
@@ -77,7 +66,7 @@ module _ (c : tie.After-power2) where
   side : m ≡ rows cell
   side = c .before .before .power .ensures
 
-  inside : Inside m a b
+  inside : InFace m a b
   inside =
       let e = side in
       let v = start .pre .1 in
@@ -100,9 +89,6 @@ module _ (c : tie.After-power2) where
 
   down-lt : up * b < 28697814
   down-lt = finer-lt up m up-pos m-pos finest b (inside .bottom)
-
-sub-longitude-at : tie.Need-sub-longitude-at
-sub-longitude-at c = search needs
 
 mul-longitude-at : tie.Need-mul-longitude-at
 mul-longitude-at c = let w = c .before .before .before .before in omega (arith, along-lt w, down-lt w)
@@ -132,20 +118,19 @@ returns c =
     ∙ ap (λ (x : ℕ). fix (beltLongitude x f (s .cell .column)) (beltZ x (s .cell .row))) (side w)
     ∙ sym (on-belt (s .arrangement) (s .cell) f (omega arith) (omega arith))
 
-first-of-requires : tie.Need-first-of-requires
-first-of-requires c κs = search needs
-
 cap-nucleus-requires : tie.Need-cap-nucleus-requires
 cap-nucleus-requires c κs =
     let w = c .before .before .before .before in
     let v = start w .pre .0 in
-    (rw (c .first-of .ensures) (first-le (start w .args .arrangement) v (ltb 4 (cell w .face))), (inside w, (up-pos w, finest w)))
+    (rw (c .first-of .ensures) (first-small v (ltb 4 (cell w .face))), (inside w, (up-pos w, finest w)))
 
 -- the nucleus of either cap
-capped : (a : Arrangement) (c : Cell) → IsCell c → (c .face ≤ 0) ⊎ (5 ≤ c .face) → onCap (ltb 4 (c .face)) (cond (ltb 4 (c .face)) (a .south) (a .north)) (rows c) (2 * c .column + 1) (2 * c .row + 1) ≡ groundNucleus a c
+capped :
+    (a : Arrangement) (c : Cell) → IsCell c → (c .face ≤ 0) ⊎ (5 ≤ c .face) →
+    let south = ltb 4 (c .face) in capNucleus south (firstIn south a) (rows c) (middle (rows c) (2 * c .column + 1) (2 * c .row + 1)) ≡ groundNucleus a c
 capped a c v f =
-    ⊎-elim (λ h. rw (le-ltb 4 (c .face) (omega arith)) (sym (on-north a c (omega arith))))
-    (λ h. rw (lt-ltb 4 (c .face) h) (sym (on-south a c (omega (arith, v .faced))))) f
+    ⊎-elim (λ h. rw (le-ltb 4 (c .face) (omega arith)) (sym (on-cap a c false (omega arith))))
+    (λ h. rw (lt-ltb 4 (c .face) h) (sym (on-cap a c true (omega (arith, v .faced))))) f
 
 returns-2 : tie.Need-returns-2
 returns-2 c =
@@ -153,26 +138,26 @@ returns-2 c =
     let s = start w in
     let south = ltb 4 (cell w .face) in
     c .cap-nucleus .ensures
-    ∙ ap₂ (λ (n x : ℕ). onCap south n x (a w) (b w)) (c .before .first-of .ensures) (side w)
+    ∙ ap₂ (λ (n x : ℕ). capNucleus south n x (middle x (a w) (b w))) (c .before .first-of .ensures) (side w)
     ∙ capped (s .args .arrangement) (cell w) (s .pre .1) (⊎-elim (λ k. inr (omega arith)) (λ k. inl (omega arith)) (c .before .before .if1 .came))
 
 pub ground-nucleus-spec : {M : Type 1} → statement M
 ground-nucleus-spec =
     tie.close
     (tie.spec
-    power-requires
+    (λ c κs. search needs)
     sub-power
     power-requires-2
     mul-a
     add-a
     mul-b
     add-b
-    sub-longitude-at
+    (λ c. search needs)
     mul-longitude-at
     longitude-at-requires
     mul-belt-z
     belt-z-requires
     returns
-    first-of-requires
+    (λ c κs. search needs)
     cap-nucleus-requires
     returns-2)

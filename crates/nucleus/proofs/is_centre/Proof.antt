@@ -1,7 +1,7 @@
 -- `nucleus::is_centre` meets its contract. Assumes nothing.
 use mathlib.Core.Path.{sym, _∙_}
 use borrow.Author.Tests.{eq-eqb, ne-eqb}
-use Rattle.nucleus.specs.StartLaws.{centred-is}
+use Rattle.nucleus.specs.Internal.StartLaws.{centred-is}
 use Rattle.nucleus.proofs.is_centre.Statement.{statement}
 use Rattle.nucleus.proofs.is_centre.Tie as tie
 

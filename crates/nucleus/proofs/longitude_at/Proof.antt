@@ -3,18 +3,9 @@ use Prim.Native.Nat.{_*_, _/_, _<_}
 use native.Mathlib.Nat.{div-lt-iff-lt-mul}
 use native.Mathlib.Omega.{arith}
 use borrow.Author.Needs.{needs}
-use Rattle.signed.specs.SignLaws.{back-as}
+use Rattle.signed.specs.Laws.Sign.{back-as}
 use Rattle.nucleus.proofs.longitude_at.Statement.{statement}
 use Rattle.nucleus.proofs.longitude_at.Tie as tie
-
-mul-east : tie.Need-mul-east
-mul-east c = search needs
-
-mul-east-2 : tie.Need-mul-east-2
-mul-east-2 c = search needs
-
-div-east : tie.Need-div-east
-div-east c = search needs
 
 -- it stays in the face
 within : (c : tie.Start) → 450000000 * c .args .along / c .args .height < 900000000
@@ -30,4 +21,4 @@ returns : tie.Need-returns
 returns c = back-as (c .difference .ok) (c .difference .ensures)
 
 pub longitude-at-spec : {M : Type 1} → statement M
-longitude-at-spec = tie.close (tie.spec mul-east mul-east-2 div-east add-east difference-requires returns)
+longitude-at-spec = tie.close (tie.spec (λ c. search needs) (λ c. search needs) (λ c. search needs) add-east difference-requires returns)

@@ -1,21 +1,14 @@
 -- `nucleus::pole_z` meets its contract. Assumes nothing.
-use native.Mathlib.Omega.{arith}
 use borrow.Author.Needs.{needs}
-use Rattle.signed.specs.SignLaws.{back-as}
+use Rattle.signed.specs.Laws.Sign.{back-as}
 use Rattle.nucleus.proofs.pole_z.Statement.{statement}
 use Rattle.nucleus.proofs.pole_z.Tie as tie
 
-difference-requires : tie.Need-difference-requires
-difference-requires c κs = search needs
-
 returns : tie.Need-returns
 returns c = rw (c .before .if1 .taken) (back-as (c .difference .ok) (c .difference .ensures))
-
-as-signed-requires : tie.Need-as-signed-requires
-as-signed-requires c κs = search needs
 
 returns-2 : tie.Need-returns-2
 returns-2 c = rw (c .before .if1 .left) (back-as (c .as-signed .ok) (c .as-signed .ensures))
 
 pub pole-z-spec : {M : Type 1} → statement M
-pole-z-spec = tie.close (tie.spec difference-requires returns as-signed-requires returns-2)
+pole-z-spec = tie.close (tie.spec (λ c κs. search needs) returns (λ c κs. search needs) returns-2)

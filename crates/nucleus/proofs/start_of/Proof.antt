@@ -3,18 +3,9 @@ use mathlib.Core.Logic.{⊎-elim}
 use Prim.Native.Nat.{_+_, _*_, _≤_, _<_}
 use native.Mathlib.Omega.{arith}
 use borrow.Author.Needs.{needs}
-use Rattle.nucleus.specs.TriangleLaws.{before-centre, start-0, start-1, start-2, start-3}
+use Rattle.nucleus.specs.Internal.TriangleLaws.{before-centre, start-0, start-1, start-2, start-3}
 use Rattle.nucleus.proofs.start_of.Statement.{statement}
 use Rattle.nucleus.proofs.start_of.Tie as tie
-
-add-sum : tie.Need-add-sum
-add-sum c = search needs
-
-mul-side : tie.Need-mul-side
-mul-side c = search needs
-
-sub-t8 : tie.Need-sub-t8
-sub-t8 c = search needs
 
 returns : tie.Need-returns
 returns c =
@@ -36,17 +27,11 @@ returns-2 c =
     let l : a .b ≤ a .a = ⊎-elim (λ w. omega arith) (λ w. omega arith) (c .before .if1 .came) in
     start-1 (a .m) (a .a) (a .b) (p .left) (p .right) (p .top) (p .bottom) (omega arith) l
 
-sub-t12 : tie.Need-sub-t12
-sub-t12 c = search needs
-
 returns-3 : tie.Need-returns-3
 returns-3 c =
     let a = c .before .before .before .args in
     let p = c .before .before .before .pre .0 in
     start-2 (a .m) (a .a) (a .b) (p .left) (p .right) (p .top) (p .bottom) (omega arith) (omega arith)
-
-sub-t14 : tie.Need-sub-t14
-sub-t14 c = search needs
 
 returns-4 : tie.Need-returns-4
 returns-4 c =
@@ -62,14 +47,14 @@ pub start-of-spec : {M : Type 1} → statement M
 start-of-spec =
     tie.close
     (tie.spec
-    add-sum
-    mul-side
-    sub-t8
+    (λ c. search needs)
+    (λ c. search needs)
+    (λ c. search needs)
     returns
     sub-t10
     sub-t11
     returns-2
-    sub-t12
+    (λ c. search needs)
     returns-3
-    sub-t14
+    (λ c. search needs)
     returns-4)

@@ -5,7 +5,7 @@ use Prim.Native.Nat.{ℕ}
 use lib.Dec.{eqb}
 use borrow.Author.Needs.{needs}
 use borrow.Author.Tests.{not-true, not-false}
-use Rattle.place.specs.Stack.{mayOpen}
+use Rattle.place.specs.Internal.Stack.{mayOpen}
 use Rattle.place.proofs.may_open.Statement.{statement}
 use Rattle.place.proofs.may_open.Tie as tie
 

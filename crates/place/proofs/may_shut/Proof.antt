@@ -1,6 +1,6 @@
 -- `may_shut` meets its contract: each return is the case that the tests before it pick. Assumes nothing.
 use borrow.Author.Tests.{eq-eqb, ne-eqb}
-use Rattle.place.specs.Stack.{mayShut}
+use Rattle.place.specs.Internal.Stack.{mayShut}
 use Rattle.place.proofs.may_shut.Statement.{statement}
 use Rattle.place.proofs.may_shut.Tie as tie
 

@@ -3,7 +3,7 @@ use mathlib.Core.Path.{_≡_, _∙_, ap}
 use native.Mathlib.Omega.{arith}
 use borrow.Author.Needs.{needs}
 use Rattle.reading.specs.Reading.{first, many}
-use Rattle.place.specs.Stack.{hereOf}
+use Rattle.place.specs.Internal.Stack.{hereOf}
 use Rattle.place.proofs.Laws.{base-fits, many-fits, stand-low, stand-high, stand-other, stand-ninth}
 use Rattle.place.proofs.may_stand.Statement.{statement}
 use Rattle.place.proofs.may_stand.Tie as tie
@@ -43,7 +43,8 @@ returns-2 c =
 returns-3 : tie.Need-returns-3
 returns-3 c =
     let a = c .before .before .before .before .before .before .args in
-    stand-other (a .level) (a .depth) (a .k) (a .low) (a .wholes) (a .byte) (base (c .before .before .before .before)) (count (c .before .before)) (c .before .before .before .if1 .left) (c .before .if2 .left) (c .if3 .taken)
+    stand-other (a .level) (a .depth) (a .k) (a .low) (a .wholes) (a .byte) (base (c .before .before .before .before)) (count (c .before .before))
+    (c .before .before .before .if1 .left) (c .before .if2 .left) (c .if3 .taken)
 
 sub-under : tie.Need-sub-under
 sub-under c = omega arith
@@ -54,7 +55,8 @@ under-requires c κs = search needs
 returns-4 : tie.Need-returns-4
 returns-4 c =
     let a = c .before .before .before .before .before .before .before .args in
-    stand-ninth (a .level) (a .depth) (a .k) (a .low) (a .wholes) (a .byte) (base (c .before .before .before .before .before)) (count (c .before .before .before)) (c .before .before .before .before .if1 .left) (c .before .before .if2 .left) (c .before .if3 .left) (c .under .ensures)
+    stand-ninth (a .level) (a .depth) (a .k) (a .low) (a .wholes) (a .byte) (base (c .before .before .before .before .before)) (count (c .before .before .before))
+    (c .before .before .before .before .if1 .left) (c .before .before .if2 .left) (c .before .if3 .left) (c .under .ensures)
 
 pub may-stand-spec : {M : Type 1} → statement M
 may-stand-spec = tie.close (tie.spec here-requires first-byte-requires add-if1 returns how-many-requires add-if2 returns-2 returns-3 sub-under under-requires returns-4)

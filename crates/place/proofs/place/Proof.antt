@@ -6,8 +6,8 @@ use native.Mathlib.Omega.{arith}
 use lib.ListN.{length, getD}
 use borrow.Author.Needs.{needs}
 use borrow.Author.Tests.{not-true, not-false}
-use Rattle.reading.specs.ReadingLaws.{many-most}
-use Rattle.place.specs.Stack.{hereOf, mayOpen, mayShut, mayStand}
+use Rattle.reading.specs.Laws.Reading.{many-most}
+use Rattle.place.specs.Internal.Stack.{hereOf, mayOpen, mayShut, mayStand}
 use Rattle.place.proofs.Steps.{open-named, open-deeper, shut-inside, stand-from, stand-below}
 use Rattle.place.proofs.Laws.{Inv, start-inv, low-most, whole-most, named-some, at-end, stop-open, stop-shut, stop-stand, go-open, go-shut, go-stand}
 use Rattle.place.proofs.place.Statement.{statement}
@@ -20,13 +20,21 @@ abbrev μ-scan : tie.MeasureT-scan
 μ-scan text from level depth lo₀ whole₀ k₀ named₀ i₀ lo whole k named i = length text - i
 
 -- what was asked may come
-opened : (c : tie.Else3 Inv-scan μ-scan) → let v = c .before .before .before .before .before .scan in let a = c .before .before .before .before .before .before .before .args in mayOpen (a .level) (a .depth) (v .k) (getD (v .lo) (v .k) 0) (v .named) ≡ true
+opened :
+    (c : tie.Else3 Inv-scan μ-scan) →
+    let v = c .before .before .before .before .before .scan in
+    let a = c .before .before .before .before .before .before .before .args in
+    mayOpen (a .level) (a .depth) (v .k) (getD (v .lo) (v .k) 0) (v .named) ≡ true
 opened c = sym (c .before .may-open .ensures) ∙ not-false (c .before .may-open .result) (c .if3 .left)
 
 shut : (c : tie.Else5 Inv-scan μ-scan) → let v = c .before .before .before .before .before .before .scan in mayShut (v .k) (getD (v .lo) (v .k) 0) (getD (v .whole) (v .k) 0) ≡ true
 shut c = sym (c .before .may-shut .ensures) ∙ not-false (c .before .may-shut .result) (c .if5 .left)
 
-stood : (c : tie.Else6 Inv-scan μ-scan) → let v = c .before .before .before .before .before .before .scan in let a = c .before .before .before .before .before .before .before .before .args in mayStand (a .level) (a .depth) (v .k) (getD (v .lo) (v .k) 0) (getD (v .whole) (v .k) 0) (getD (a .text .now) (v .i) 0) ≡ true
+stood :
+    (c : tie.Else6 Inv-scan μ-scan) →
+    let v = c .before .before .before .before .before .before .scan in
+    let a = c .before .before .before .before .before .before .before .before .args in
+    mayStand (a .level) (a .depth) (v .k) (getD (v .lo) (v .k) 0) (getD (v .whole) (v .k) 0) (getD (a .text .now) (v .i) 0) ≡ true
 stood c = sym (c .before .may-stand .ensures) ∙ not-false (c .before .may-stand .result) (c .if6 .left)
 
 scan-holds : tie.Need-scan-holds Inv-scan μ-scan
@@ -102,7 +110,10 @@ number-of-requires : tie.Need-number-of-requires Inv-scan μ-scan
 number-of-requires c κs = omega (arith, stand-from _ _ _ _ _ _ (stood c))
 
 add-lo : tie.Need-add-lo Inv-scan μ-scan
-add-lo c = omega (arith, c .number-of .ensures, stand-from _ _ _ _ _ _ (stood (c .before)), stand-below _ _ _ _ _ _ (stood (c .before)), many-most (hereOf (c .before .before .before .before .before .before .before .before .before .args .level) (c .before .before .before .before .before .before .before .scan .k)))
+add-lo c =
+    let l = c .before .before .before .before .before .before .before in
+    let s = stood (c .before) in
+    omega (arith, c .number-of .ensures, stand-from _ _ _ _ _ _ s, stand-below _ _ _ _ _ _ s, many-most (hereOf (l .before .before .args .level) (l .scan .k)))
 
 array-write-lo-2 : tie.Need-array-write-lo-2 Inv-scan μ-scan
 array-write-lo-2 c = omega arith
@@ -123,19 +134,27 @@ scan-less-3 : tie.Need-scan-less-3 Inv-scan μ-scan
 scan-less-3 c = omega arith
 
 scan-again-3 : tie.Need-scan-again-3 Inv-scan μ-scan
-scan-again-3 c = go-stand (c .before .before .before .before .before .before .before .scan .inv) (omega arith) (omega arith) (c .before .before .before .before .if2 .left) (c .before .before .before .if4 .left) (stood (c .before)) (c .number-of .ensures)
+scan-again-3 c =
+    go-stand (c .before .before .before .before .before .before .before .scan .inv) (omega arith) (omega arith) (c .before .before .before .before .if2 .left)
+    (c .before .before .before .if4 .left) (stood (c .before)) (c .number-of .ensures)
 
 returns : tie.Need-returns Inv-scan μ-scan
 returns c = at-end (c .before .scan .inv) (c .if1 .taken)
 
 returns-2 : tie.Need-returns-2 Inv-scan μ-scan
-returns-2 c = stop-open (c .before .before .before .before .before .scan .inv) (omega arith) (c .before .before .if2 .taken) (sym (c .before .may-open .ensures) ∙ not-true (c .before .may-open .result) (c .if3 .taken))
+returns-2 c =
+    stop-open (c .before .before .before .before .before .scan .inv) (omega arith) (c .before .before .if2 .taken)
+    (sym (c .before .may-open .ensures) ∙ not-true (c .before .may-open .result) (c .if3 .taken))
 
 returns-3 : tie.Need-returns-3 Inv-scan μ-scan
-returns-3 c = stop-shut (c .before .before .before .before .before .before .scan .inv) (omega arith) (c .before .before .if4 .taken) (sym (c .before .may-shut .ensures) ∙ not-true (c .before .may-shut .result) (c .if5 .taken))
+returns-3 c =
+    stop-shut (c .before .before .before .before .before .before .scan .inv) (omega arith) (c .before .before .if4 .taken)
+    (sym (c .before .may-shut .ensures) ∙ not-true (c .before .may-shut .result) (c .if5 .taken))
 
 returns-4 : tie.Need-returns-4 Inv-scan μ-scan
-returns-4 c = stop-stand (c .before .before .before .before .before .before .scan .inv) (omega arith) (c .before .before .before .if2 .left) (c .before .before .if4 .left) (sym (c .before .may-stand .ensures) ∙ not-true (c .before .may-stand .result) (c .if6 .taken))
+returns-4 c =
+    stop-stand (c .before .before .before .before .before .before .scan .inv) (omega arith) (c .before .before .before .if2 .left) (c .before .before .if4 .left)
+    (sym (c .before .may-stand .ensures) ∙ not-true (c .before .may-stand .result) (c .if6 .taken))
 
 pub place-spec : {M : Type 1} → statement M
 place-spec =

@@ -3,7 +3,7 @@ use Prim.Native.Nat.{_/_}
 use native.Mathlib.Omega.{arith}
 use borrow.Author.Needs.{needs}
 use Rattle.plane.specs.Plane.{cellAt}
-use Rattle.plane.specs.SideLaws.{side-pos}
+use Rattle.plane.specs.Internal.SideLaws.{side-pos}
 use Rattle.plane.proofs.cell_at.Statement.{statement}
 use Rattle.plane.proofs.cell_at.Tie as tie
 

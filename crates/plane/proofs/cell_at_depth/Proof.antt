@@ -4,7 +4,7 @@ use native.Mathlib.Omega.{arith}
 use borrow.Author.Needs.{needs}
 use borrow.Author.Tests.{lt-ltb, le-ltb, le-leb, lt-leb}
 use Rattle.plane.specs.Plane.{faceSide}
-use Rattle.plane.specs.Depth.{foundAt}
+use Rattle.plane.specs.Internal.Depth.{foundAt}
 use Rattle.plane.proofs.cell_at_depth.Statement.{statement}
 use Rattle.plane.proofs.cell_at_depth.Tie as tie
 

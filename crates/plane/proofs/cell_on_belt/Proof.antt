@@ -7,7 +7,7 @@ use borrow.Author.Tests.{lt-ltb, le-ltb}
 use Rattle.cell.specs.Cell.{found}
 use Rattle.cell.specs.declared.Found.the-variants.{At}
 use Rattle.plane.specs.Plane.{faceSide}
-use Rattle.plane.specs.Depth.{foundOnBelt}
+use Rattle.plane.specs.Internal.Depth.{foundOnBelt}
 use Rattle.plane.proofs.cell_on_belt.Statement.{statement}
 use Rattle.plane.proofs.cell_on_belt.Tie as tie
 

@@ -8,7 +8,7 @@ use borrow.Author.Tests.{lt-ltb, le-ltb}
 use Rattle.cell.specs.Cell.{found}
 use Rattle.cell.specs.declared.Found.the-variants.{At}
 use Rattle.plane.specs.Plane.{faceSide}
-use Rattle.plane.specs.Depth.{foundOnCap}
+use Rattle.plane.specs.Internal.Depth.{foundOnCap}
 use Rattle.plane.proofs.cell_on_cap.Statement.{statement}
 use Rattle.plane.proofs.cell_on_cap.Tie as tie
 

@@ -7,9 +7,9 @@ use borrow.Author.Needs.{needs}
 use lib.IntN.{ℤ, pos, negsuc, natAbs}
 use lib.Signed.{natAbs-le}
 use Rattle.signed.specs.Sign.{negative}
-use Rattle.signed.specs.SignLaws.{back}
+use Rattle.signed.specs.Laws.Sign.{back}
 use Rattle.plane.specs.Plane.{threeHalves}
-use Rattle.plane.specs.Depth.{depthBelow}
+use Rattle.plane.specs.Internal.Depth.{depthBelow}
 use Rattle.plane.proofs.depth_below.Statement.{statement}
 use Rattle.plane.proofs.depth_below.Tie as tie
 

@@ -1,7 +1,7 @@
 -- `plane::depth_in` meets its contract. Assumes nothing.
 use native.Mathlib.Omega.{arith}
 use borrow.Author.Needs.{needs}
-use Rattle.plane.specs.SideLaws.{face-depth-small}
+use Rattle.plane.specs.Internal.SideLaws.{face-depth-small}
 use Rattle.plane.proofs.depth_in.Statement.{statement}
 use Rattle.plane.proofs.depth_in.Tie as tie
 

@@ -4,7 +4,7 @@ use Prim.Native.Nat.{ℕ, _+_, _*_}
 use native.Mathlib.Omega.{arith}
 use borrow.Author.Needs.{needs}
 use Rattle.plane.specs.Plane.{sideOf}
-use Rattle.plane.specs.SideLaws.{within}
+use Rattle.plane.specs.Internal.SideLaws.{within}
 use Rattle.plane.proofs.edge_at.Statement.{statement}
 use Rattle.plane.proofs.edge_at.Tie as tie
 

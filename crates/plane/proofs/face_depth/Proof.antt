@@ -1,6 +1,6 @@
 -- `plane::face_depth` meets its contract: each return is the case that the tests before it pick. Assumes nothing.
 use borrow.Author.Tests.{lt-ltb, le-ltb}
-use Rattle.plane.specs.Depth.{faceDepth}
+use Rattle.plane.specs.Internal.Depth.{faceDepth}
 use Rattle.plane.proofs.face_depth.Statement.{statement}
 use Rattle.plane.proofs.face_depth.Tie as tie
 

@@ -1,7 +1,7 @@
 -- `plane::left_in` meets its contract. Assumes nothing.
 use native.Mathlib.Omega.{arith}
 use borrow.Author.Needs.{needs}
-use Rattle.plane.specs.SideLaws.{face-left-small}
+use Rattle.plane.specs.Internal.SideLaws.{face-left-small}
 use Rattle.plane.proofs.left_in.Statement.{statement}
 use Rattle.plane.proofs.left_in.Tie as tie
 

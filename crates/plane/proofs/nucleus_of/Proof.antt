@@ -4,10 +4,10 @@ use Prim.Native.Nat.{_+_}
 use native.Mathlib.Omega.{arith}
 use borrow.Author.Needs.{needs}
 use lib.IntN.{pos, subℕ}
-use Rattle.signed.specs.SignLaws.{back-as}
+use Rattle.signed.specs.Laws.Sign.{back-as}
 use Rattle.plane.specs.Plane.{threeHalves, nucleusOf}
-use Rattle.plane.specs.SideLaws.{left-small, depth-small}
-use Rattle.plane.specs.DepthLaws.{nucleus-x, nucleus-y}
+use Rattle.plane.specs.Internal.SideLaws.{left-small, depth-small}
+use Rattle.plane.specs.Internal.DepthLaws.{nucleus-x, nucleus-y}
 use Rattle.plane.proofs.nucleus_of.Statement.{statement}
 use Rattle.plane.proofs.nucleus_of.Tie as tie
 

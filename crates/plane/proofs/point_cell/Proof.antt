@@ -10,13 +10,13 @@ use Rattle.logic.specs.Refusal.{refuse, _otherwise_}
 use Rattle.cell.specs.declared.Arrangement.{Arrangement}
 use Rattle.cell.specs.declared.Found.the-variants.{Refused}
 use Rattle.cell.specs.Cell.{IsArrangement, found}
-use Rattle.cell.specs.CellLaws.{is-arrangement}
-use Rattle.cell.specs.FoundLaws.{refused, then}
+use Rattle.cell.specs.Laws.Cell.{is-arrangement}
+use Rattle.cell.specs.Laws.Found.{refused, then}
 use Rattle.signed.specs.Sign.{negative}
-use Rattle.signed.specs.SignLaws.{back}
+use Rattle.signed.specs.Laws.Sign.{back}
 use Rattle.plane.specs.Plane.{inImage, pointCell, pointRefusal}
-use Rattle.plane.specs.Depth.{depthBelow, foundAt}
-use Rattle.plane.specs.ImageLaws.{image-west, refusal-is, found-is}
+use Rattle.plane.specs.Internal.Depth.{depthBelow, foundAt}
+use Rattle.plane.specs.Internal.ImageLaws.{image-west, refusal-is, found-is}
 use Rattle.plane.proofs.point_cell.Statement.{statement}
 use Rattle.plane.proofs.point_cell.Tie as tie
 
@@ -76,7 +76,8 @@ returns-4 c =
     let e = f .before .before in
     let s = e .before .before .before in
     c .cell-at-depth .ensures
-    ∙ ap₂ (foundAt (s .args .arrangement) (s .args .resolution)) (c .before .before .magnitude .ensures ∙ ap natAbs (back (s .fits .x))) (c .before .depth-below .ensures ∙ ap depthBelow (back (s .fits .y)))
+    ∙ ap₂ (foundAt (s .args .arrangement) (s .args .resolution)) (c .before .before .magnitude .ensures ∙ ap natAbs (back (s .fits .x)))
+    (c .before .depth-below .ensures ∙ ap depthBelow (back (s .fits .y)))
     ∙ east (s .args .arrangement) (s .args .resolution) (s .args .x) (s .args .y) (sym (sign-is (f .before)) ∙ f .if3 .left)
     ∙ decides (s .args .x) (s .args .y) (arranged (e .before)) (omega arith)
 

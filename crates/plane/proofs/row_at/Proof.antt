@@ -4,8 +4,8 @@ use Prim.Native.Nat.{ℕ, _-_, _/_}
 use native.Mathlib.Omega.{arith}
 use borrow.Author.Needs.{needs}
 use borrow.Author.Tests.{eq-eqb, ne-eqb}
-use Rattle.ternary.specs.Powers.{power-pos}
-use Rattle.plane.specs.SideLaws.{side-pos}
+use Rattle.ternary.specs.Laws.Powers.{power-pos}
+use Rattle.plane.specs.Internal.SideLaws.{side-pos}
 use Rattle.plane.proofs.row_at.Statement.{statement}
 use Rattle.plane.proofs.row_at.Tie as tie
 

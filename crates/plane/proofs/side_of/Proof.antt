@@ -3,7 +3,7 @@ use mathlib.Core.Path.{ap}
 use Prim.Native.Nat.{ℕ, _*_, _-_}
 use native.Mathlib.Omega.{arith}
 use borrow.Author.Needs.{needs}
-use Rattle.ternary.specs.Powers.{power-le}
+use Rattle.ternary.specs.Laws.Powers.{power-le}
 use Rattle.plane.proofs.side_of.Statement.{statement}
 use Rattle.plane.proofs.side_of.Tie as tie
 

@@ -3,10 +3,10 @@ use mathlib.Core.Path.{sym, ap, _∙_}
 use native.Mathlib.Omega.{arith}
 use borrow.Author.Needs.{needs}
 use lib.IntN.{pos, subℕ}
-use Rattle.signed.specs.SignLaws.{back-as}
+use Rattle.signed.specs.Laws.Sign.{back-as}
 use Rattle.plane.specs.Plane.{threeHalves, squareOf}
-use Rattle.plane.specs.SideLaws.{left-small, depth-small}
-use Rattle.plane.specs.DepthLaws.{left-is, top-is}
+use Rattle.plane.specs.Internal.SideLaws.{left-small, depth-small}
+use Rattle.plane.specs.Internal.DepthLaws.{left-is, top-is}
 use Rattle.plane.proofs.square_of.Statement.{statement}
 use Rattle.plane.proofs.square_of.Tie as tie
 

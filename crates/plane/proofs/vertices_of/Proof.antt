@@ -5,10 +5,10 @@ use Prim.Native.Nat.{_+_}
 use native.Mathlib.Omega.{arith}
 use borrow.Author.Needs.{needs}
 use lib.IntN.{pos, subℕ}
-use Rattle.signed.specs.SignLaws.{back-as}
+use Rattle.signed.specs.Laws.Sign.{back-as}
 use Rattle.plane.specs.Plane.{threeHalves, verticesOf}
-use Rattle.plane.specs.SideLaws.{left-small, depth-small}
-use Rattle.plane.specs.DepthLaws.{left-is, right-is, top-is, bottom-is}
+use Rattle.plane.specs.Internal.SideLaws.{left-small, depth-small}
+use Rattle.plane.specs.Internal.DepthLaws.{left-is, right-is, top-is, bottom-is}
 use Rattle.plane.proofs.vertices_of.Statement.{statement}
 use Rattle.plane.proofs.vertices_of.Tie as tie
 

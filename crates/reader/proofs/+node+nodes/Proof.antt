@@ -2,7 +2,7 @@
 -- and the node reader the list reader past a `(`. The loop's invariant is Runs, of Readers. Assumes nothing.
 use mathlib.Core.Path.{_≡_, sym, ap, _∙_}
 use mathlib.Core.Logic.{⊎-elim}
-use Prim.Native.Nat.{ℕ, _+_, _-_, _<_}
+use Prim.Native.Nat.{_<_, ℕ, _+_, _-_}
 use native.Mathlib.Omega.{arith}
 use lib.ListN.{length, getD}
 use borrow.Author.Needs.{needs}
@@ -10,7 +10,7 @@ use borrow.Author.Tests.{eqb-true, eqb-false, not-true, not-false}
 use borrow.Fn.Kinds.{In}
 use borrow.Fn.PlainCycle.{Measures, is, falls, and}
 use Rattle.reading.specs.Reading.{first, room}
-use Rattle.reading.specs.ReadingLaws.{many-most}
+use Rattle.reading.specs.Laws.Reading.{many-most}
 use Rattle.reader.proofs.Readers as rd
 use Rattle.reader.proofs.Readers.{Opens, Runs}
 use Rattle.reader.proofs.node.Reads as node
@@ -91,16 +91,22 @@ node-returns-3 : (t : ℕ) → node-lts.Need-returns-3 (for-node t) (node-at t) 
 node-returns-3 t c = rd.node-empty (opens t (c .before .before .before .before .before)) (c .before .before .before .before .nodes .ensures) (c .before .before .next .given .1) (c .if2 .taken)
 
 node-returns-4 : (t : ℕ) → node-lts.Need-returns-4 (for-node t) (node-at t) node.Post
-node-returns-4 t c = rd.node-short (opens t (c .before .before .before .before .before .before)) (c .before .before .before .before .before .nodes .ensures) (c .before .before .before .next .given .1) (c .if3 .taken)
+node-returns-4 t c =
+    rd.node-short (opens t (c .before .before .before .before .before .before)) (c .before .before .before .before .before .nodes .ensures)
+    (c .before .before .before .next .given .1) (c .if3 .taken)
 
 node-returns-5 : (t : ℕ) → node-lts.Need-returns-5 (for-node t) (node-at t) node.Post
-node-returns-5 t c = rd.node-nine (opens t (c .before .before .before .before .before .before .before)) (c .before .before .before .before .before .before .nodes .ensures) (c .before .before .before .before .next .given .1) (c .before .before .if2 .left) (c .if4 .taken)
+node-returns-5 t c =
+    rd.node-nine (opens t (c .before .before .before .before .before .before .before)) (c .before .before .before .before .before .before .nodes .ensures)
+    (c .before .before .before .before .next .given .1) (c .before .before .if2 .left) (c .if4 .taken)
 
 node-add-t15 : (t : ℕ) → node-lts.Need-add-t15 (for-node t) (node-at t) node.Post
 node-add-t15 t c = omega (arith, rd.nodes-known (c .before .before .before .before .before .before .nodes .ensures) (c .before .before .before .before .next .given .1))
 
 node-returns-6 : (t : ℕ) → node-lts.Need-returns-6 (for-node t) (node-at t) node.Post
-node-returns-6 t c = rd.node-read (opens t (c .before .before .before .before .before .before .before)) (c .before .before .before .before .before .before .nodes .ensures) (c .before .before .before .before .next .given .1) (c .before .before .if2 .left) (c .before .if3 .left) (c .if4 .left)
+node-returns-6 t c =
+    rd.node-read (opens t (c .before .before .before .before .before .before .before)) (c .before .before .before .before .before .before .nodes .ensures)
+    (c .before .before .before .before .next .given .1) (c .before .before .if2 .left) (c .before .if3 .left) (c .if4 .left)
 
 abbrev Inv : nodes-lts.InvT-loop
 Inv text start level room size length base above at₀ low₀ cells₀ sum₀ wholes₀ at low cells sum wholes = Runs text start level room size at low cells sum wholes
@@ -164,10 +170,12 @@ nodes-returns : (t : ℕ) → nodes-lts.Need-returns (for-nodes t) (nodes-at t) 
 nodes-returns t c = rd.runs-low (c .before .before .before .before .loop .inv) (c .before .before .before .loop-test .taken) (c .before .if1 .left) (c .if2 .taken)
 
 nodes-returns-2 : (t : ℕ) → nodes-lts.Need-returns-2 (for-nodes t) (nodes-at t) nodes.Post Inv μ
-nodes-returns-2 t c = rd.runs-high (c .before .before .before .before .before .loop .inv) (c .before .before .before .before .loop-test .taken) (c .before .before .if1 .left) (omega arith) (omega arith)
+nodes-returns-2 t c =
+    rd.runs-high (c .before .before .before .before .before .loop .inv) (c .before .before .before .before .loop-test .taken) (c .before .before .if1 .left) (omega arith)
+    (omega arith)
 
 nodes-add-low : (t : ℕ) → nodes-lts.Need-add-low (for-nodes t) (nodes-at t) nodes.Post Inv μ
-nodes-add-low t c = omega (arith, rd.first-most (c .before .before .before .before .before .before .before .before .before .args .level), many-most (c .before .before .before .before .before .before .before .before .before .args .level))
+nodes-add-low t c = let l = c .before .before .before .before .before .before .before .before .before .args .level in omega (arith, rd.first-most l, many-most l)
 
 nodes-add-at : (t : ℕ) → nodes-lts.Need-add-at (for-nodes t) (nodes-at t) nodes.Post Inv μ
 nodes-add-at t c = omega arith
@@ -193,8 +201,9 @@ nodes-room-below-requires t c κs = search needs
 nodes-node-requires : (t : ℕ) → nodes-lts.Need-node-requires (for-nodes t) (nodes-at t) nodes.Post Inv μ
 nodes-node-requires t c κs =
     let e = bracket t (c .before) in
-    let i = rd.inside (c .before .before .before .before .before .before .before .before .before .before .before .before .args .text .now) (c .before .before .before .before .before .before .before .before .loop .at + 1) e in
-    (omega (arith, i, c .before .before .before .before .before .before .before .before .loop .inv .from), (i, e))
+    let l = c .before .before .before .before .before .before .before .before in
+    let i = rd.inside (l .before .before .before .before .args .text .now) (l .loop .at + 1) e in
+    (omega (arith, i, l .loop .inv .from), (i, e))
 
 nodes-enum-known-next : (t : ℕ) → nodes-lts.Need-enum-known-next (for-nodes t) (nodes-at t) nodes.Post Inv μ
 nodes-enum-known-next t c = search needs
@@ -204,7 +213,10 @@ nodes-enum-told t c = search needs
 
 nodes-returns-3 : (t : ℕ) → nodes-lts.Need-returns-3 (for-nodes t) (nodes-at t) nodes.Post Inv μ
 nodes-returns-3 t c =
-    rd.runs-wrong (c .before .before .before .before .before .before .before .before .before .before .before .loop .inv) (c .before .before .before .before .before .before .before .before .before .before .loop-test .taken) (c .before .before .before .before .before .before .before .before .if1 .left) (omega arith) (omega arith) (below t (c .before .before .before)) (c .before .before .node .ensures) (c .enum-told .given .1)
+    rd.runs-wrong (c .before .before .before .before .before .before .before .before .before .before .before .loop .inv)
+    (c .before .before .before .before .before .before .before .before .before .before .loop-test .taken)
+    (c .before .before .before .before .before .before .before .before .if1 .left) (omega arith) (omega arith) (below t (c .before .before .before))
+    (c .before .before .node .ensures) (c .enum-told .given .1)
 
 nodes-add-cells : (t : ℕ) → nodes-lts.Need-add-cells (for-nodes t) (nodes-at t) nodes.Post Inv μ
 nodes-add-cells t c = let v = listed-on t c in omega (arith, v .few, v .to)

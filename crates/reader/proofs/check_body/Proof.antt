@@ -45,42 +45,44 @@ returns-2 : tie.Need-returns-2
 returns-2 c =
     let a = c .before .before .before .before .before .before .before .before in
     c .refused2 .ensures ∙ ap (λ (x : ℕ). Refused 9 x) (c .before .place2 .ensures)
-    ∙ body-more (a .args .text .now) (a .pre .0) (a .pre .1) (c .before .before .before .before .before .before .nodes .ensures) (c .before .before .before .before .next .given .1) (c .before .before .if1 .taken)
+    ∙ body-more (a .args .text .now) (a .pre .0) (a .pre .1) (c .before .before .before .before .before .before .nodes .ensures) (c .before .before .before .before .next .given .1)
+    (c .before .before .if1 .taken)
 
-shared-slice-read-t16 : tie.Need-shared-slice-read-t16
-shared-slice-read-t16 c =
+shared-slice-read-north : tie.Need-shared-slice-read-north
+shared-slice-read-north c =
     let a = c .before .before .before .before .before .before .before in
     omega (arith, seven (a .args .text .now) (a .pre .0) (a .pre .1))
 
-sub-t17 : tie.Need-sub-t17
-sub-t17 c =
+sub-north : tie.Need-sub-north
+sub-north c =
     let a = c .before .before .before .before .before .before .before in
     omega (arith, turn-north (a .args .text .now) (a .pre .0) (a .pre .1), turn-south (a .args .text .now) (a .pre .0) (a .pre .1))
 
-cast-t18 : tie.Need-cast-t18
-cast-t18 c =
+cast-north : tie.Need-cast-north
+cast-north c =
     let a = c .before .before .before .before .before .before .before in
     omega (arith, turn-north (a .args .text .now) (a .pre .0) (a .pre .1), turn-south (a .args .text .now) (a .pre .0) (a .pre .1))
 
-shared-slice-read-t20 : tie.Need-shared-slice-read-t20
-shared-slice-read-t20 c =
+shared-slice-read-south : tie.Need-shared-slice-read-south
+shared-slice-read-south c =
     let a = c .before .before .before .before .before .before .before .before in
     omega (arith, seven (a .args .text .now) (a .pre .0) (a .pre .1))
 
-sub-t21 : tie.Need-sub-t21
-sub-t21 c =
+sub-south : tie.Need-sub-south
+sub-south c =
     let a = c .before .before .before .before .before .before .before .before in
     omega (arith, turn-north (a .args .text .now) (a .pre .0) (a .pre .1), turn-south (a .args .text .now) (a .pre .0) (a .pre .1))
 
-cast-t22 : tie.Need-cast-t22
-cast-t22 c =
+cast-south : tie.Need-cast-south
+cast-south c =
     let a = c .before .before .before .before .before .before .before .before in
     omega (arith, turn-north (a .args .text .now) (a .pre .0) (a .pre .1), turn-south (a .args .text .now) (a .pre .0) (a .pre .1))
 
 returns-3 : tie.Need-returns-3
 returns-3 c =
     let a = c .before .before .before .before .before .before .before .before in
-    body-all (a .args .text .now) (a .pre .0) (a .pre .1) (c .before .before .before .before .before .before .nodes .ensures) (c .before .before .before .before .next .given .1) (c .before .before .if1 .left)
+    body-all (a .args .text .now) (a .pre .0) (a .pre .1) (c .before .before .before .before .before .before .nodes .ensures) (c .before .before .before .before .next .given .1)
+    (c .before .before .if1 .left)
 
 pub check-body-spec : {M : Type 1} → statement M
 check-body-spec =
@@ -95,10 +97,10 @@ check-body-spec =
     place-requires-2
     refused-requires-2
     returns-2
-    shared-slice-read-t16
-    sub-t17
-    cast-t18
-    shared-slice-read-t20
-    sub-t21
-    cast-t22
+    shared-slice-read-north
+    sub-north
+    cast-north
+    shared-slice-read-south
+    sub-south
+    cast-south
     returns-3)

@@ -33,7 +33,9 @@ shared-slice-read-if3 : tie.Need-shared-slice-read-if3 Inv-loop μ-loop
 shared-slice-read-if3 c = omega (arith, c .before .before .before .before .before .loop .inv .within)
 
 returns-3 : tie.Need-returns-3 Inv-loop μ-loop
-returns-3 c = st.high (c .before .before .before .before .before .before .loop .inv) (omega arith) (omega (arith, c .before .before .before .before .before .before .loop .inv .within)) (c .before .before .if2 .left) (c .if3 .taken)
+returns-3 c =
+    st.high (c .before .before .before .before .before .before .loop .inv) (omega arith) (omega (arith, c .before .before .before .before .before .before .loop .inv .within))
+    (c .before .before .if2 .left) (c .if3 .taken)
 
 add-i : tie.Need-add-i Inv-loop μ-loop
 add-i c = omega arith
@@ -42,7 +44,9 @@ loop-less : tie.Need-loop-less Inv-loop μ-loop
 loop-less c = omega arith
 
 loop-again : tie.Need-loop-again Inv-loop μ-loop
-loop-again c = st.more (c .before .before .before .before .before .before .loop .inv) (omega arith) (omega (arith, c .before .before .before .before .before .before .loop .inv .within)) (c .before .before .if2 .left) (c .if3 .left)
+loop-again c =
+    st.more (c .before .before .before .before .before .before .loop .inv) (omega arith) (omega (arith, c .before .before .before .before .before .before .loop .inv .within))
+    (c .before .before .if2 .left) (c .if3 .left)
 
 returns-4 : tie.Need-returns-4 Inv-loop μ-loop
 returns-4 c = st.all (c .before .loop .inv) (c .loop-test .left)

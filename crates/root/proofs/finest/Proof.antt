@@ -1,20 +1,20 @@
 -- `root::finest` meets its contract: the floor is the lower end's whole part or the next. Assumes nothing.
 use mathlib.Core.Path.{_≡_, sym, ap, _∙_}
 use Prim.Native.Nat.{ℕ, _+_, _*_, _/_, _<_}
-use native.Mathlib.Nat.{le-refl, mul-le-mul-left}
+use native.Mathlib.Nat.{le-refl}
 use native.Mathlib.Omega.{arith}
 use lib.Dec.{lit<}
 use borrow.Author.Needs.{needs}
 use Rattle.root.specs.Floor.{atMost, rootFloor, axisOf}
-use Rattle.root.specs.Bracket.{lowPart}
-use Rattle.root.specs.FloorLaws.{floor-below}
+use Rattle.root.specs.Internal.Bracket.{lowPart}
+use Rattle.root.specs.Laws.Floor.{floor-below}
 use Rattle.root.proofs.Between.{Given, low, root-fits, low-fits, low-lt, size-fits, roomy, upper, lower}
 use Rattle.root.proofs.finest.Statement.{statement}
 use Rattle.root.proofs.finest.Tie as tie
 
 -- what is known at the entry
 module _ (s : tie.Start) where
-  given : Given 14348907 (s .args .t) (s .args .root) (s .args .p)
+  given : Given 14348907 (s .args .radicand) (s .args .root) (s .args .p)
   given =
       record {
         positive = lit< tt;
@@ -26,8 +26,8 @@ module _ (s : tie.Start) where
       }
 
   -- the floor is what the contract asks
-  done : {w : ℕ} → w ≡ rootFloor 14348907 (s .args .t) (axisOf (s .args .p)) → (w ≡ rootFloor 14348907 (s .args .t) (axisOf (s .args .p))) × (w < 14348907)
-  done e = (e, rw e (floor-below 14348907 (s .args .t) (axisOf (s .args .p)) (lit< tt) (size-fits given) (s .pre .0)))
+  done : {w : ℕ} → w ≡ rootFloor 14348907 (s .args .radicand) (axisOf (s .args .p)) → (w ≡ rootFloor 14348907 (s .args .radicand) (axisOf (s .args .p))) × (w < 14348907)
+  done e = (e, rw e (floor-below 14348907 (s .args .radicand) (axisOf (s .args .p)) (lit< tt) (size-fits given) (s .pre .0)))
 
 -- the lower end, parted
 module _ (c : tie.After-part-of) where
@@ -79,7 +79,7 @@ module _ (c : tie.After-reaches) where
   abbrev tested : tie.After-part-of
   tested = c .before .before
 
-  said : atMost 14348907 (start tested .args .t) (axisOf (start tested .args .p)) (whole tested + rest tested / 1800000000000000000 + 1) ≡ c .reaches .result
+  said : atMost 14348907 (start tested .args .radicand) (axisOf (start tested .args .p)) (whole tested + rest tested / 1800000000000000000 + 1) ≡ c .reaches .result
   said = sym (c .reaches .ensures)
 
 returns-2 : tie.Need-returns-2

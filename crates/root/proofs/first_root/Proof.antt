@@ -9,11 +9,11 @@ use Rattle.root.proofs.first_root.Tie as tie
 
 -- the guess after one step
 module _ (c : tie.After-near-root) where
-  abbrev t : ℕ
-  t = c .before .args .t
+  abbrev radicand : ℕ
+  radicand = c .before .args .radicand
 
   abbrev b : ℕ
-  b = (c .near-root .result + t / c .near-root .result) / 2
+  b = (c .near-root .result + radicand / c .near-root .result) / 2
 
 near-root-requires : tie.Need-near-root-requires
 near-root-requires c κs = search needs
@@ -22,16 +22,16 @@ div-b : tie.Need-div-b
 div-b c = search needs
 
 add-b : tie.Need-add-b
-add-b c = omega (arith, div-le-self (t c) (c .near-root .result))
+add-b c = omega (arith, div-le-self (radicand c) (c .near-root .result))
 
 div-r : tie.Need-div-r
 div-r c = search needs
 
 add-r : tie.Need-add-r
-add-r c = omega (arith, div-le-self (t c) (c .near-root .result), div-le-self (t c) (b c))
+add-r c = omega (arith, div-le-self (radicand c) (c .near-root .result), div-le-self (radicand c) (b c))
 
 returns : tie.Need-returns
-returns c = (newton-above (t (c .before)) (b (c .before)) (omega arith), omega arith)
+returns c = (newton-above (radicand (c .before)) (b (c .before)) (omega arith), omega arith)
 
 returns-2 : tie.Need-returns-2
 returns-2 c = search needs

@@ -5,19 +5,20 @@ use native.Mathlib.Nat.{le-of-lt, mul-le-mul, mul-div-mul-right}
 use native.Mathlib.Omega.{arith}
 use borrow.Author.Needs.{needs}
 use lib.IntN.{ℤ, natAbs}
-use Rattle.ternary.specs.Powers.{power-le, power-pos, power-add}
+use Rattle.ternary.specs.Laws.Powers.{power-le, power-pos, power-add}
 use Rattle.root.specs.Floor.{rootFloor, axisOf}
-use Rattle.root.specs.FloorLaws.{floor-below, floor-part, axis-size}
+use Rattle.root.specs.Laws.Floor.{floor-below, floor-part, axis-size}
 use Rattle.root.proofs.floor.Statement.{statement}
 use Rattle.root.proofs.floor.Tie as tie
 
 -- the first digits of the floor at resolution 15
-coarser : (k t : ℕ) (p : ℤ) → k ≤ 15 → natAbs p ≤ 900000000 → t < 10 ^ 18 → rootFloor 14348907 t p * 3 ^ k / 14348907 ≡ rootFloor (3 ^ k) t p
-coarser k t p h hp ht =
+coarser : (k radicand : ℕ) (p : ℤ) → k ≤ 15 → natAbs p ≤ 900000000 → radicand < 10 ^ 18 → rootFloor 14348907 radicand p * 3 ^ k / 14348907 ≡ rootFloor (3 ^ k) radicand p
+coarser k radicand p h hp ht =
     let up : ℕ = 3 ^ (15 - k) in
     let f : 15 - k + k ≡ 15 = omega arith in
     let e : 14348907 ≡ up * 3 ^ k = ap (λ (x : ℕ). 3 ^ x) (sym f) ∙ power-add (15 - k) k in
-    ap (λ (x : ℕ). rootFloor x t p * 3 ^ k / x) e ∙ mul-div-mul-right (rootFloor (up * 3 ^ k) t p) up (power-pos k) ∙ floor-part up (3 ^ k) t p (power-pos (15 - k)) (power-pos k) hp ht
+    ap (λ (x : ℕ). rootFloor x radicand p * 3 ^ k / x) e ∙ mul-div-mul-right (rootFloor (up * 3 ^ k) radicand p) up (power-pos k) ∙ floor-part up (3 ^ k) radicand p
+    (power-pos (15 - k)) (power-pos k) hp ht
 
 finest-requires : tie.Need-finest-requires
 finest-requires c κs = search needs
@@ -33,11 +34,11 @@ returns : tie.Need-returns
 returns c =
     let f = c .before in
     let s = f .before in
-    let t = s .args .t in
+    let radicand = s .args .radicand in
     let p = axisOf (s .args .p) in
     let hp : natAbs p ≤ 900000000 = rw (axis-size (s .args .p)) (s .pre .3) in
-    let e = ap₂ (λ (w m : ℕ). w * m / 14348907) (f .finest .ensures .0) (s .pre .1) ∙ coarser (s .args .k) t p (s .pre .0) hp (s .pre .2) in
-    (e, rw e (floor-below (3 ^ s .args .k) t p (power-pos (s .args .k)) hp (s .pre .2)))
+    let e = ap₂ (λ (w m : ℕ). w * m / 14348907) (f .finest .ensures .0) (s .pre .1) ∙ coarser (s .args .k) radicand p (s .pre .0) hp (s .pre .2) in
+    (e, rw e (floor-below (3 ^ s .args .k) radicand p (power-pos (s .args .k)) hp (s .pre .2)))
 
 returns-2 : tie.Need-returns-2
 returns-2 c =
@@ -45,7 +46,7 @@ returns-2 c =
     let s = f .before in
     let e : 15 ≡ s .args .k = omega (arith, s .pre .0, c .if1 .left) in
     let w : ℕ = f .finest .result in
-    subst (λ (k : ℕ). (w ≡ rootFloor (3 ^ k) (s .args .t) (axisOf (s .args .p))) × (w < 3 ^ k)) e (f .finest .ensures)
+    subst (λ (k : ℕ). (w ≡ rootFloor (3 ^ k) (s .args .radicand) (axisOf (s .args .p))) × (w < 3 ^ k)) e (f .finest .ensures)
 
 pub floor-spec : {M : Type 1} → statement M
 floor-spec = tie.close (tie.spec finest-requires mul-result returns returns-2)

@@ -6,13 +6,13 @@ use Rattle.root.proofs.half_length.Statement.{statement}
 use Rattle.root.proofs.half_length.Tie as tie
 
 cast-result : tie.Need-cast-result
-cast-result c = omega (arith, leading-le 64 (c .args .t))
+cast-result c = omega (arith, leading-le 64 (c .args .radicand))
 
 sub-result : tie.Need-sub-result
-sub-result c = omega (arith, leading-le 64 (c .args .t))
+sub-result c = omega (arith, leading-le 64 (c .args .radicand))
 
 returns : tie.Need-returns
-returns c = half-length (c .args .t) (c .pre)
+returns c = half-length (c .args .radicand) (c .pre)
 
 pub half-length-spec : {M : Type 1} → statement M
 half-length-spec = tie.close (tie.spec cast-result sub-result returns)

@@ -2,7 +2,7 @@
 use mathlib.Core.Path.{sym, ap₂, _∙_}
 use native.Mathlib.Omega.{arith}
 use lib.Dec.{leb}
-use Rattle.root.specs.SquareLaws.{minus-over, minus-second}
+use Rattle.root.specs.Laws.Square.{minus-over, minus-second}
 use Rattle.root.proofs.Between.{product-small}
 use borrow.Author.Needs.{needs}
 use Rattle.root.proofs.minus_reaches.Statement.{statement}
@@ -30,7 +30,7 @@ returns-2 : tie.Need-returns-2
 returns-2 c =
     let a = c .before .before .before .before .args in
     c .at-most .ensures ∙ ap₂ leb (c .before .before .reach .ensures) (c .before .edge .ensures)
-    ∙ minus-second (a .m) (a .t) (a .g) (a .w) (c .before .before .before .if1 .left)
+    ∙ minus-second (a .m) (a .radicand) (a .g) (a .w) (c .before .before .before .if1 .left)
 
 pub minus-reaches-spec : {M : Type 1} → statement M
 minus-reaches-spec =

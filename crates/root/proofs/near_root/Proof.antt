@@ -5,8 +5,8 @@ use Rattle.root.proofs.Newton.{Sizes, sizes}
 use Rattle.root.proofs.near_root.Statement.{statement}
 use Rattle.root.proofs.near_root.Tie as tie
 
-known : (c : tie.After-half-length) → Sizes (c .before .args .t) (c .half-length .result)
-known c = sizes (c .before .args .t) (c .half-length .result) (c .half-length .ensures .0) (c .half-length .ensures .1)
+known : (c : tie.After-half-length) → Sizes (c .before .args .radicand) (c .half-length .result)
+known c = sizes (c .before .args .radicand) (c .half-length .result) (c .half-length .ensures .0) (c .half-length .ensures .1)
 
 half-length-requires : tie.Need-half-length-requires
 half-length-requires c κs = search needs

@@ -12,7 +12,7 @@ times-requires : tie.Need-times-requires
 times-requires c κs = search needs
 
 returns : tie.Need-returns
-returns c = c .times .ensures ∙ ap (λ (x : ℕ). x * c .before .before .args .t) (c .before .product .ensures)
+returns c = c .times .ensures ∙ ap (λ (x : ℕ). x * c .before .before .args .radicand) (c .before .product .ensures)
 
 pub reach-spec : {M : Type 1} → statement M
 reach-spec = tie.close (tie.spec product-requires times-requires returns)

@@ -1,12 +1,12 @@
 -- `shape::cap_shape` meets its contract: off the first diagonal no cell is the middle one. Assumes nothing.
-use mathlib.Core.Path.{_≡_, sym, ap, ap₂, _∙_}
-use mathlib.Core.Bool.{Bool, false, _&&_, _||_, cond}
+use mathlib.Core.Path.{_≡_, sym}
+use mathlib.Core.Bool.{false, _&&_}
 use Prim.Native.Nat.{ℕ, _+_, _*_}
 use native.Mathlib.Omega.{arith}
 use lib.Dec.{eqb}
 use borrow.Author.Needs.{needs}
 use borrow.Author.Tests.{eq-eqb, ne-eqb}
-use Rattle.logic.specs.Bools.{not-both}
+use Rattle.logic.specs.Laws.Bools.{not-both}
 use Rattle.shape.specs.Shape.{capShape}
 use Rattle.shape.proofs.cap_shape.Statement.{statement}
 use Rattle.shape.proofs.cap_shape.Tie as tie

@@ -1,11 +1,11 @@
 -- `shape::shape_of` meets its contract. Assumes nothing.
-use mathlib.Core.Path.{_≡_, sym, ap, _∙_}
+use mathlib.Core.Path.{ap, _∙_}
 use mathlib.Core.Logic.{⊎-elim}
 use Prim.Native.Nat.{ℕ}
 use native.Mathlib.Omega.{arith}
 use borrow.Author.Needs.{needs}
 use borrow.Author.Tests.{lt-ltb, le-ltb}
-use Rattle.ternary.specs.Powers.{power-le}
+use Rattle.ternary.specs.Laws.Powers.{power-le}
 use Rattle.shape.specs.Shape.{capShape, shapeOf}
 use Rattle.shape.proofs.shape_of.Statement.{statement}
 use Rattle.shape.proofs.shape_of.Tie as tie

@@ -6,7 +6,7 @@ use borrow.Author.Needs.{needs}
 use lib.IntN.{negℤ}
 use mir.Syntax.{w64}
 use mir.Facts.{toZ-pos}
-use Rattle.signed.specs.SignLaws.{sub-at, sub-neg}
+use Rattle.signed.specs.Laws.Sign.{sub-at, sub-neg}
 use Rattle.signed.proofs.Laws.{neg-fits, neg-back}
 use Rattle.signed.proofs.difference.Statement.{statement}
 use Rattle.signed.proofs.difference.Tie as tie

@@ -2,7 +2,7 @@
 use mathlib.Core.Path.{ap, _∙_}
 use lib.IntN.{ℤ, pos}
 use lib.Signed.{ltZ}
-use Rattle.signed.specs.SignLaws.{back, below-zero}
+use Rattle.signed.specs.Laws.Sign.{back, below-zero}
 use Rattle.signed.proofs.is_negative.Statement.{statement}
 use Rattle.signed.proofs.is_negative.Tie as tie
 

@@ -7,7 +7,7 @@ use lib.IntN.{ℤ, pos, negsuc, natAbs, _-ℤ_}
 use lib.Signed.{mag, ltZ}
 use mir.Syntax.{w64}
 use mir.Val.{toZ, ofZ}
-use Rattle.signed.specs.SignLaws.{back}
+use Rattle.signed.specs.Laws.Sign.{back}
 use Rattle.signed.proofs.Laws.{offset, offset-size, plain, pos-fits, unsigned-is, as-unsigned}
 use Rattle.signed.proofs.magnitude.Statement.{statement}
 use Rattle.signed.proofs.magnitude.Tie as tie

@@ -6,7 +6,7 @@ use borrow.Author.Needs.{needs}
 use lib.IntN.{natAbs}
 use lib.Signed.{natAbs-le}
 use Rattle.signed.specs.Sign.{negative}
-use Rattle.signed.specs.SignLaws.{back, sub-at, size-low, plain-plus, negative-plus}
+use Rattle.signed.specs.Laws.Sign.{back, sub-at, size-low, plain-plus, negative-plus}
 use Rattle.signed.proofs.shifted.Statement.{statement}
 use Rattle.signed.proofs.shifted.Tie as tie
 

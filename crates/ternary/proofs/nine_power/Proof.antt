@@ -1,30 +1,19 @@
--- `ternary::nine_power` meets its contract: each arm is the power of its key. Assumes nothing.
-use mathlib.Core.Path.{_≡_, sym, ap}
-use Prim.Native.Nat.{ℕ, _^_}
-use Rattle.ternary.proofs.Keys.{last-key}
+-- `ternary::nine_power` meets its contract: 9^e is the square of 3^e. Assumes nothing.
+use mathlib.Core.Path.{_≡_, sym, ap₂, _∙_}
+use Prim.Native.Nat.{_*_, _^_}
+use native.Mathlib.Omega.{arith}
+use borrow.Author.Needs.{needs}
+use Rattle.ternary.specs.Laws.Powers.{nine-square, nine-le}
 use Rattle.ternary.proofs.nine_power.Statement.{statement}
 use Rattle.ternary.proofs.nine_power.Tie as tie
 
-arm : {e k : ℕ} → e ≡ k → 9 ^ k ≡ 9 ^ e
-arm h = sym (ap (λ (x : ℕ). 9 ^ x) h)
+square : (c : tie.After-power) → c .power .result * c .power .result ≡ 9 ^ c .before .args .e
+square c = ap₂ _*_ (c .power .ensures) (c .power .ensures) ∙ sym (nine-square (c .before .args .e))
+
+returns : tie.Need-returns
+returns c = square c
 
 pub nine-power-spec : {M : Type 1} → statement M
 nine-power-spec =
     tie.close
-    (tie.spec
-    (λ c. arm (c .match .keys1))
-    (λ c. arm (c .match .keys2))
-    (λ c. arm (c .match .keys3))
-    (λ c. arm (c .match .keys4))
-    (λ c. arm (c .match .keys5))
-    (λ c. arm (c .match .keys6))
-    (λ c. arm (c .match .keys7))
-    (λ c. arm (c .match .keys8))
-    (λ c. arm (c .match .keys9))
-    (λ c. arm (c .match .keys10))
-    (λ c. arm (c .match .keys11))
-    (λ c. arm (c .match .keys12))
-    (λ c. arm (c .match .keys13))
-    (λ c. arm (c .match .keys14))
-    (λ c. arm (c .match .keys15))
-    (λ c. arm (last-key 15 (c .before .pre) (c .match .rest))))
+    (tie.spec (λ c κs. search needs) (λ c. omega (arith, square c, nine-le {i = c .before .args .e} {j = 15} (c .before .pre))) returns)

@@ -4,11 +4,8 @@ use Rattle.ternary.proofs.Both.{both-apart}
 use Rattle.ternary.proofs.unwoven.Statement.{statement}
 use Rattle.ternary.proofs.unwoven.Tie as tie
 
-sixteen-digits-requires : tie.Need-sixteen-digits-requires
-sixteen-digits-requires c κs = search needs
-
 returns : tie.Need-returns
 returns c = both-apart (c .before .args .path) (c .sixteen-digits .ensures)
 
 pub unwoven-spec : {M : Type 1} → statement M
-unwoven-spec = tie.close (tie.spec sixteen-digits-requires returns)
+unwoven-spec = tie.close (tie.spec (λ c κs. search needs) returns)

@@ -1,7 +1,7 @@
 -- `walk::whole_at` meets its contract: the byte, and the one behind it, decide. Assumes nothing.
-use mathlib.Core.Path.{_≡_, refl, sym, ap, _∙_}
-use mathlib.Core.Bool.{Bool, true, false, not, cond}
-use mathlib.Core.List.{List, []}
+use mathlib.Core.Path.{_≡_, sym, ap, _∙_}
+use mathlib.Core.Bool.{true, false, not, cond}
+use mathlib.Core.List.{List}
 use Prim.Native.Nat.{ℕ, _+_, _<_, _≤_}
 use native.Mathlib.Omega.{arith}
 use lib.ListN.{length, drop, getD, drop-of-length-le}
@@ -9,7 +9,7 @@ use lib.Dec.{eqb}
 use borrow.Author.Tests.{eq-eqb, ne-eqb}
 use borrow.Author.Needs.{needs}
 use Rattle.walk.specs.Walk.{opens, wholeAt}
-use Rattle.walk.specs.WalkLaws.{byte-at}
+use Rattle.walk.specs.Laws.Walk.{byte-at}
 use Rattle.walk.proofs.whole_at.Statement.{statement}
 use Rattle.walk.proofs.whole_at.Tie as tie
 

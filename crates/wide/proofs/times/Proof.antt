@@ -32,7 +32,8 @@ add-t6 c =
 returns : tie.Need-returns
 returns c =
     let a = c .before .before .before .before .before .args in
-    columns (2 ^ 64) _ _ _ _ _ _ (a .a .high) (a .a .low) (a .b) (c .before .before .before .before .product .ensures) (c .before .before .before .product2 .ensures) (c .before .before .sum .ensures .0)
+    columns (2 ^ 64) _ _ _ _ _ _ (a .a .high) (a .a .low) (a .b) (c .before .before .before .before .product .ensures) (c .before .before .before .product2 .ensures)
+    (c .before .before .sum .ensures .0)
 
 pub times-spec : {M : Type 1} → statement M
 times-spec = tie.close (tie.spec product-requires product-requires-2 sum-requires add-t6 returns)

@@ -12,12 +12,14 @@ use Rattle.wide.proofs.words_at_most.Tie as tie
 returns : tie.Need-returns
 returns c =
     let a = c .before .args in
-    sym (le-leb _ _ (le-of-lt (higher (2 ^ 64) (a .a2 * 2 ^ 64 + a .a1) (a .b2 * 2 ^ 64 + a .b1) (a .a0) (a .b0) (higher (2 ^ 64) (a .a2) (a .b2) (a .a1) (a .b1) (c .if1 .taken) (c .before .fits .a1 .fits)) (c .before .fits .a0 .fits))))
+    sym (le-leb _ _ (le-of-lt (higher (2 ^ 64) (a .a2 * 2 ^ 64 + a .a1) (a .b2 * 2 ^ 64 + a .b1) (a .a0) (a .b0) (higher (2 ^ 64) (a .a2) (a .b2) (a .a1) (a .b1) (c .if1 .taken)
+    (c .before .fits .a1 .fits)) (c .before .fits .a0 .fits))))
 
 returns-2 : tie.Need-returns-2
 returns-2 c =
     let a = c .before .before .args in
-    sym (lt-leb _ _ (higher (2 ^ 64) (a .b2 * 2 ^ 64 + a .b1) (a .a2 * 2 ^ 64 + a .a1) (a .b0) (a .a0) (higher (2 ^ 64) (a .b2) (a .a2) (a .b1) (a .a1) (c .if2 .taken) (c .before .before .fits .b1 .fits)) (c .before .before .fits .b0 .fits)))
+    sym (lt-leb _ _ (higher (2 ^ 64) (a .b2 * 2 ^ 64 + a .b1) (a .a2 * 2 ^ 64 + a .a1) (a .b0) (a .a0) (higher (2 ^ 64) (a .b2) (a .a2) (a .b1) (a .a1) (c .if2 .taken)
+    (c .before .before .fits .b1 .fits)) (c .before .before .fits .b0 .fits)))
 
 returns-3 : tie.Need-returns-3
 returns-3 c =

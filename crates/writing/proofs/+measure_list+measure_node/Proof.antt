@@ -1,8 +1,10 @@
 -- The proof of the cycle of calls {measure_list, measure_node}. The measures are twice the size, and one more for the list. What each hands back, and how far
 -- the list has come, is said by the laws of MeasureSteps. Assumes nothing.
+use mathlib.Core.Path.{sym, _∙_}
+use native.Mathlib.Nat.{mul-left-comm}
 use native.Mathlib.Omega.{arith}
 use borrow.Author.Needs.{needs}
-use Prim.Native.Nat.{ℕ, _+_, _-_, _*_, _<_}
+use Prim.Native.Nat.{ℕ, _+_, _*_, _<_}
 use mathlib.Core.Logic.{⊎-elim}
 use Rattle.writing.proofs.MeasureSteps as ms
 use borrow.Fn.Kinds.{In}
@@ -13,7 +15,8 @@ use Rattle.writing.proofs.+measure_list+measure_node.Lts-measure_list a
 use Rattle.writing.proofs.measure_node.Reads as measure-node
 use Rattle.writing.proofs.measure_node.Kinds as measure-node-kinds
 use Rattle.writing.proofs.+measure_list+measure_node.Lts-measure_node as measure-node-lts
-use Rattle.writing.proofs.finest_at.Reads as finest-at-reads
+use Rattle.writing.proofs.start_at.Reads as start-at-reads
+use Rattle.code.proofs.size_in.Reads as size-in-reads
 use Rattle.writing.proofs.+measure_list+measure_node.{statement}
 use Rattle.writing.proofs.+measure_list+measure_node.Tie.{close}
 
@@ -49,48 +52,55 @@ measure-node-below t =
 
 -- what the callees of each are said to do
 abbrev for-list : ℕ → measure-list-lts.Claims
-for-list t = (finest-at-reads.Asked, finest-at-reads.Learnt, measure-node-below t, measure-node.Post)
+for-list t = (start-at-reads.Asked, start-at-reads.Learnt, measure-node-below t, measure-node.Post)
 
 abbrev for-node : ℕ → measure-node-lts.Claims
-for-node t = (measure-list-below t, measure-list.Post)
+for-node t = (size-in-reads.Asked, size-in-reads.Learnt, measure-list-below t, measure-list.Post)
 
 abbrev measure-list-Inv-loop : measure-list-lts.InvT-loop
-measure-list-Inv-loop codes at left cell size next₀ first₀ child₀ bytes₀ wholes₀ more₀ next first child bytes wholes more =
-    ms.Measuring codes at left cell size next first child bytes wholes more
+measure-list-Inv-loop codes at left start size next₀ first₀ child₀ bytes₀ wholes₀ more₀ next first child bytes wholes more =
+    ms.Measuring codes at left start size next first child bytes wholes more
 
 abbrev measure-list-μ-loop : measure-list-lts.MeasureT-loop
-measure-list-μ-loop codes at left cell size next₀ first₀ child₀ bytes₀ wholes₀ more₀ next first child bytes wholes more =
+measure-list-μ-loop codes at left start size next₀ first₀ child₀ bytes₀ wholes₀ more₀ next first child bytes wholes more =
     more
 
-measure-list-finest-at-requires : (t : ℕ) → measure-list-lts.Need-finest-at-requires (for-list t) (measure-list-at t) measure-list.Post measure-list-Inv-loop measure-list-μ-loop
-measure-list-finest-at-requires t c κs = search needs
+measure-list-start-at-requires : (t : ℕ) → measure-list-lts.Need-start-at-requires (for-list t) (measure-list-at t) measure-list.Post measure-list-Inv-loop measure-list-μ-loop
+measure-list-start-at-requires t c κs = search needs
 
 measure-list-loop-holds : (t : ℕ) → measure-list-lts.Need-loop-holds (for-list t) (measure-list-at t) measure-list.Post measure-list-Inv-loop measure-list-μ-loop
-measure-list-loop-holds t c = ms.l-starts (omega arith) (omega arith) (c .finest-at .ensures)
+measure-list-loop-holds t c = ms.l-starts (omega arith) (omega arith) (c .start-at .ensures)
 
-measure-list-add-if1 : (t : ℕ) → measure-list-lts.Need-add-if1 (for-list t) (measure-list-at t) measure-list.Post measure-list-Inv-loop measure-list-μ-loop
-measure-list-add-if1 t c = search needs
+measure-list-add-end : (t : ℕ) → measure-list-lts.Need-add-end (for-list t) (measure-list-at t) measure-list.Post measure-list-Inv-loop measure-list-μ-loop
+measure-list-add-end t c =
+    let l = c .before .loop in
+    omega (arith, l .inv .cells, ms.one-less (l .more) (c .before .before .before .before .args .size) (λ e. omega arith))
 
 measure-list-measure-node-requires : (t : ℕ) → measure-list-lts.Need-measure-node-requires (for-list t) (measure-list-at t) measure-list.Post measure-list-Inv-loop measure-list-μ-loop
 measure-list-measure-node-requires t c κs =
-    let v = c .before .before .loop .inv in
-    let h = ms.hand-inside (c .before .before .loop .more) (c .before .before .loop .child) (c .before .before .before .before .before .args .size) (v .hand) (omega arith) (v .cells) (c .if1 .taken) in
-    (omega arith, (h .0, omega arith, omega arith, omega (arith, v .cells, ms.one-less (c .before .before .loop .more) (16 * c .before .before .before .before .before .args .size) (λ e. omega arith))))
+    let l = c .before .before .loop in
+    let z : ℕ = c .before .before .before .before .before .args .size in
+    let k = ms.one-less (l .more) z (λ e. omega arith) in
+    let h = ms.hand-inside (l .child) z (l .inv .hand) (omega (arith, l .inv .cells)) (c .if1 .taken) in
+    (omega arith, (c .before .before .before .before .before .pre .1 .0, h .0, omega arith, omega (arith, l .inv .cells)))
 
 measure-list-add-bytes : (t : ℕ) → measure-list-lts.Need-add-bytes (for-list t) (measure-list-at t) measure-list.Post measure-list-Inv-loop measure-list-μ-loop
-measure-list-add-bytes t c = search needs
+measure-list-add-bytes t c =
+    let l = c .before .before .before .before .loop in
+    let a = c .before .before .before .before .before .before .before .args in
+    omega (
+      arith,
+      l .inv .short,
+      ms.one-less (l .more) (2 * a .size) (λ e. omega arith),
+      mul-left-comm (a .left) 2 (a .size),
+      c .before .measure-node .ensures .short,
+    )
 
 measure-list-add-wholes : (t : ℕ) → measure-list-lts.Need-add-wholes (for-list t) (measure-list-at t) measure-list.Post measure-list-Inv-loop measure-list-μ-loop
 measure-list-add-wholes t c = search needs
 
-measure-list-finest-at-requires-2 : (t : ℕ) → measure-list-lts.Need-finest-at-requires-2 (for-list t) (measure-list-at t) measure-list.Post measure-list-Inv-loop measure-list-μ-loop
-measure-list-finest-at-requires-2 t c κs = search needs
-
-measure-list-mul-child : (t : ℕ) → measure-list-lts.Need-mul-child (for-list t) (measure-list-at t) measure-list.Post measure-list-Inv-loop measure-list-μ-loop
-measure-list-mul-child t c = search needs
-
-measure-list-add-child : (t : ℕ) → measure-list-lts.Need-add-child (for-list t) (measure-list-at t) measure-list.Post measure-list-Inv-loop measure-list-μ-loop
-measure-list-add-child t c = search needs
+measure-list-start-at-requires-2 : (t : ℕ) → measure-list-lts.Need-start-at-requires-2 (for-list t) (measure-list-at t) measure-list.Post measure-list-Inv-loop measure-list-μ-loop
+measure-list-start-at-requires-2 t c κs = search needs
 
 measure-list-sub-more : (t : ℕ) → measure-list-lts.Need-sub-more (for-list t) (measure-list-at t) measure-list.Post measure-list-Inv-loop measure-list-μ-loop
 measure-list-sub-more t c = search needs
@@ -101,8 +111,8 @@ measure-list-loop-less t c = search needs
 measure-list-loop-again : (t : ℕ) → measure-list-lts.Need-loop-again (for-list t) (measure-list-at t) measure-list.Post measure-list-Inv-loop measure-list-μ-loop
 measure-list-loop-again t c =
     let v = c .before .before .loop .inv in
-    ⊎-elim (λ x. ms.l-takes (omega arith) (omega arith) v (λ e. omega arith) (x .0 .taken) (x .1 .ensures) (x .4 .ensures) (x .5) (x .6) (x .7) (x .8))
-    (λ x. ms.l-skips (omega arith) (omega arith) v (λ e. omega arith) (λ l. omega (arith, x .0 .left)) (x .1) (x .2) (x .3) (x .4))
+    ⊎-elim (λ x. ms.l-takes (omega arith) v (λ e. omega arith) (x .0 .taken) (x .1 .ensures) (x .4 .ensures) (x .5) (x .6) (x .7) (x .8))
+    (λ x. ms.l-skips (omega arith) v (λ e. omega arith) (λ l. omega (arith, x .0 .left)) (x .1) (x .2) (x .3) (x .4))
     (c .if1 .came)
 
 measure-list-returns : (t : ℕ) → measure-list-lts.Need-returns (for-list t) (measure-list-at t) measure-list.Post measure-list-Inv-loop measure-list-μ-loop
@@ -114,32 +124,37 @@ measure-node-add-t7 t c = search needs
 measure-node-returns : (t : ℕ) → measure-node-lts.Need-returns (for-node t) (measure-node-at t) measure-node.Post
 measure-node-returns t c = ms.n-finest (omega arith) (omega arith) (c .if1 .taken)
 
-measure-node-mul-if2 : (t : ℕ) → measure-node-lts.Need-mul-if2 (for-node t) (measure-node-at t) measure-node.Post
-measure-node-mul-if2 t c = search needs
+measure-node-mul-size-in : (t : ℕ) → measure-node-lts.Need-mul-size-in (for-node t) (measure-node-at t) measure-node.Post
+measure-node-mul-size-in t c = search needs
 
-measure-node-shared-slice-read-if2 : (t : ℕ) → measure-node-lts.Need-shared-slice-read-if2 (for-node t) (measure-node-at t) measure-node.Post
-measure-node-shared-slice-read-if2 t c = search needs
+measure-node-shared-slice-read-size-in : (t : ℕ) → measure-node-lts.Need-shared-slice-read-size-in (for-node t) (measure-node-at t) measure-node.Post
+measure-node-shared-slice-read-size-in t c = search needs
 
-measure-node-add-t11 : (t : ℕ) → measure-node-lts.Need-add-t11 (for-node t) (measure-node-at t) measure-node.Post
-measure-node-add-t11 t c = search needs
-
-measure-node-returns-2 : (t : ℕ) → measure-node-lts.Need-returns-2 (for-node t) (measure-node-at t) measure-node.Post
-measure-node-returns-2 t c = ms.n-exact (omega arith) (omega arith) (c .if2 .taken)
-
-measure-node-add-measure-list : (t : ℕ) → measure-node-lts.Need-add-measure-list (for-node t) (measure-node-at t) measure-node.Post
-measure-node-add-measure-list t c = search needs
-
-measure-node-measure-list-requires : (t : ℕ) → measure-node-lts.Need-measure-list-requires (for-node t) (measure-node-at t) measure-node.Post
-measure-node-measure-list-requires t c κs = (omega arith, (omega arith, omega arith, omega arith, omega arith, omega arith))
-
-measure-node-returns-3 : (t : ℕ) → measure-node-lts.Need-returns-3 (for-node t) (measure-node-at t) measure-node.Post
-measure-node-returns-3 t c = ms.n-nine (omega arith) (c .before .before .before .before .before .if1 .left) (c .before .before .before .if2 .left) (c .before .before .measure-list .ensures) (c .if3 .taken)
+measure-node-size-in-requires : (t : ℕ) → measure-node-lts.Need-size-in-requires (for-node t) (measure-node-at t) measure-node.Post
+measure-node-size-in-requires t c κs = search needs
 
 measure-node-add-t12 : (t : ℕ) → measure-node-lts.Need-add-t12 (for-node t) (measure-node-at t) measure-node.Post
-measure-node-add-t12 t c = omega (arith, c .before .before .before .measure-list .ensures .short)
+measure-node-add-t12 t c = search needs
+
+measure-node-returns-2 : (t : ℕ) → measure-node-lts.Need-returns-2 (for-node t) (measure-node-at t) measure-node.Post
+measure-node-returns-2 t c = ms.n-same (omega arith) (omega arith) (sym (c .before .size-in .ensures) ∙ c .if2 .taken)
+
+measure-node-measure-list-requires : (t : ℕ) → measure-node-lts.Need-measure-list-requires (for-node t) (measure-node-at t) measure-node.Post
+measure-node-measure-list-requires t c κs = (omega arith, (c .before .before .before .before .before .pre .1 .0, omega arith, omega arith, omega arith, omega arith))
+
+measure-node-returns-3 : (t : ℕ) → measure-node-lts.Need-returns-3 (for-node t) (measure-node-at t) measure-node.Post
+measure-node-returns-3 t c =
+    let t = c .before .before .before in
+    ms.n-nine (omega arith) (t .before .before .before .if1 .left) (λ e. t .if2 .left (t .before .size-in .ensures ∙ e)) (c .before .before .measure-list .ensures) (c .if3 .taken)
+
+measure-node-add-t11 : (t : ℕ) → measure-node-lts.Need-add-t11 (for-node t) (measure-node-at t) measure-node.Post
+measure-node-add-t11 t c = omega (arith, c .before .before .before .measure-list .ensures .short)
 
 measure-node-returns-4 : (t : ℕ) → measure-node-lts.Need-returns-4 (for-node t) (measure-node-at t) measure-node.Post
-measure-node-returns-4 t c = ms.n-held (omega arith) (c .before .before .before .before .before .before .if1 .left) (c .before .before .before .before .if2 .left) (c .before .before .before .measure-list .ensures) (c .before .if3 .left)
+measure-node-returns-4 t c =
+    let t = c .before .before .before .before in
+    ms.n-held (omega arith) (t .before .before .before .if1 .left) (λ e. t .if2 .left (t .before .size-in .ensures ∙ e)) (c .before .before .before .measure-list .ensures)
+    (c .before .if3 .left)
 
 pub +measure-list+measure-node-spec : {M : Type 1} → statement M
 +measure-list+measure-node-spec = close μ-measure-list μ-measure-node (λ t. measure-list-lts.spec (for-list t)
@@ -147,15 +162,13 @@ pub +measure-list+measure-node-spec : {M : Type 1} → statement M
     measure-list.Post
     measure-list-Inv-loop
     measure-list-μ-loop
-    (measure-list-finest-at-requires t)
+    (measure-list-start-at-requires t)
     (measure-list-loop-holds t)
-    (measure-list-add-if1 t)
+    (measure-list-add-end t)
     (measure-list-measure-node-requires t)
     (measure-list-add-bytes t)
     (measure-list-add-wholes t)
-    (measure-list-finest-at-requires-2 t)
-    (measure-list-mul-child t)
-    (measure-list-add-child t)
+    (measure-list-start-at-requires-2 t)
     (measure-list-sub-more t)
     (measure-list-loop-less t)
     (measure-list-loop-again t)
@@ -166,12 +179,12 @@ pub +measure-list+measure-node-spec : {M : Type 1} → statement M
     measure-node.Post
     (measure-node-add-t7 t)
     (measure-node-returns t)
-    (measure-node-mul-if2 t)
-    (measure-node-shared-slice-read-if2 t)
-    (measure-node-add-t11 t)
+    (measure-node-mul-size-in t)
+    (measure-node-shared-slice-read-size-in t)
+    (measure-node-size-in-requires t)
+    (measure-node-add-t12 t)
     (measure-node-returns-2 t)
-    (measure-node-add-measure-list t)
     (measure-node-measure-list-requires t)
     (measure-node-returns-3 t)
-    (measure-node-add-t12 t)
+    (measure-node-add-t11 t)
     (measure-node-returns-4 t)

@@ -1,14 +1,14 @@
 -- `writing::length_of` meets its contract. Assumes nothing.
 use native.Mathlib.Omega.{arith}
-use mathlib.Core.Path.{_≡_, refl, sym, ap, _∙_}
 use mathlib.Core.List.{[]}
-use Rattle.writing.specs.EntryLaws.{LengthIs, top-at, top-length}
+use Rattle.writing.specs.Internal.EntryLaws.{top-at, top-length}
+use Rattle.writing.specs.Laws.List.{good-list}
 use borrow.Author.Needs.{needs}
 use Rattle.writing.proofs.length_of.Statement.{statement}
 use Rattle.writing.proofs.length_of.Tie as tie
 
 measure-list-requires : tie.Need-measure-list-requires
-measure-list-requires c κs = search needs
+measure-list-requires c κs = (good-list _ (c .before .pre) .coded, omega arith, omega arith, omega arith, omega arith)
 
 add-result : tie.Need-add-result
 add-result c = search needs

@@ -1,5 +1,4 @@
 -- `writing::put_heading` meets its contract. Assumes nothing.
-use native.Mathlib.Omega.{arith}
 use Rattle.writing.proofs.EntrySteps as es
 use borrow.Author.Needs.{needs}
 use Rattle.writing.proofs.put_heading.Statement.{statement}
@@ -20,20 +19,20 @@ put-requires-4 c κs = search needs
 put-requires-5 : tie.Need-put-requires-5
 put-requires-5 c κs = search needs
 
-add-put : tie.Need-add-put
-add-put c = search needs
-
 cast-put : tie.Need-cast-put
 cast-put c = search needs
+
+add-put : tie.Need-add-put
+add-put c = search needs
 
 put-requires-6 : tie.Need-put-requires-6
 put-requires-6 c κs = search needs
 
-add-put-2 : tie.Need-add-put-2
-add-put-2 c = search needs
-
 cast-put-2 : tie.Need-cast-put-2
 cast-put-2 c = search needs
+
+add-put-2 : tie.Need-add-put-2
+add-put-2 c = search needs
 
 put-requires-7 : tie.Need-put-requires-7
 put-requires-7 c κs = search needs
@@ -43,7 +42,13 @@ same-length c = search needs
 
 returns : tie.Need-returns
 returns c =
-    es.heading-put (c .before .before .before .before .before .before .before .before .before .before .before .before .before .before .before .before .before .before .before .before .before .before .before .before .before .before .before .before .before .args .north) (c .before .before .before .before .before .before .before .before .before .before .before .before .before .before .before .before .before .before .before .before .before .before .before .before .before .before .before .before .before .args .south) (c .before .before .before .before .before .before .before .before .before .before .before .before .before .before .before .before .before .before .before .before .before .before .before .before .before .before .before .before .before .args .text .now) (c .before .before .before .before .before .before .before .before .before .before .before .before .before .before .before .before .before .before .before .before .before .before .before .before .before .before .put .ensures) (c .before .before .before .before .before .before .before .before .before .before .before .before .before .before .before .before .before .before .before .before .before .before .put2 .ensures) (c .before .before .before .before .before .before .before .before .before .before .before .before .before .before .before .before .before .before .put3 .ensures) (c .before .before .before .before .before .before .before .before .before .before .before .before .before .before .put4 .ensures) (c .before .before .before .before .before .before .before .before .before .before .put5 .ensures) (c .before .before .before .before .before .before .put6 .ensures) (c .before .before .put7 .ensures)
+    let w = c .before .before .before .before .before .before in
+    let v = w .before .before .before .before .before .before .before .before in
+    let u = v .before .before .before .before .before .before .before .before in
+    let f = u .before .before .before .before in
+    let a = f .before .before .before .args in
+    es.heading-put (a .north) (a .south) (a .text .now) (f .put .ensures) (u .put2 .ensures) (v .before .before .before .before .put3 .ensures) (v .put4 .ensures)
+    (w .before .before .before .before .put5 .ensures) (w .put6 .ensures) (c .before .before .put7 .ensures)
 
 pub put-heading-spec : {M : Type 1} → statement M
 put-heading-spec =
@@ -54,11 +59,11 @@ put-heading-spec =
     put-requires-3
     put-requires-4
     put-requires-5
-    add-put
     cast-put
+    add-put
     put-requires-6
-    add-put-2
     cast-put-2
+    add-put-2
     put-requires-7
     same-length
     returns)

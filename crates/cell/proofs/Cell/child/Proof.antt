@@ -1,13 +1,14 @@
--- `Cell::child` meets its contract; a cell's row and column are small enough to be tripled. Assumes nothing.
-use mathlib.Core.Path.{sym, _∙_}
+-- `Cell::child` meets its contract. Assumes nothing.
+use mathlib.Core.Path.{sym, ap, _∙_}
 use native.Mathlib.Omega.{arith}
 use borrow.Author.Needs.{needs}
 use borrow.Author.Tests.{lt-ltb, le-ltb, eq-eqb, ne-eqb}
 use Rattle.logic.specs.Refusal.{_otherwise_}
+use Rattle.cell.specs.declared.Found.the-variants.{At}
 use Rattle.cell.specs.Cell.{IsCell, found}
-use Rattle.cell.specs.CellLaws.{is-cell, row-small, column-small}
+use Rattle.cell.specs.Laws.Cell.{is-cell}
 use Rattle.cell.specs.Hierarchy.{childRefusal, childOf}
-use Rattle.cell.specs.FoundLaws.{refused, then}
+use Rattle.cell.specs.Laws.Found.{refused, then}
 use Rattle.cell.proofs.Cell.child.Statement.{statement}
 use Rattle.cell.proofs.Cell.child.Tie as tie
 
@@ -31,27 +32,16 @@ returns-3 c =
     let f = c .before .before .before in
     then _ _ (f .before .refusal .ensures) (f .if1 .left) (simp (le-ltb _ _ (c .before .before .if2 .left), eq-eqb _ _ (c .if3 .taken)))
 
-add-t5 : tie.Need-add-t5
-add-t5 c = let v = cell-at (c .before .before .before .before) in omega (arith, v .fine)
-
-mul-t6 : tie.Need-mul-t6
-mul-t6 c = let v = cell-at (c .before .before .before .before .before) in omega (arith, row-small v)
-
-add-t8 : tie.Need-add-t8
-add-t8 c = let v = cell-at (c .before .before .before .before .before) in omega (arith, row-small v)
-
-mul-t9 : tie.Need-mul-t9
-mul-t9 c = let v = cell-at (c .before .before .before .before .before .before) in omega (arith, column-small v)
-
-add-t11 : tie.Need-add-t11
-add-t11 c = let v = cell-at (c .before .before .before .before .before .before) in omega (arith, column-small v)
+child-cell-requires : tie.Need-child-cell-requires
+child-cell-requires c κs = (cell-at (c .before .before .before), omega arith)
 
 returns-4 : tie.Need-returns-4
-unfolding childRefusal childOf found _otherwise_
+unfolding childRefusal found _otherwise_
 returns-4 c =
-    let g = c .before .before .before in
+    let g = c .before in
     let f = g .before .before .before in
-    then _ _ (f .before .refusal .ensures) (f .if1 .left) (simp (le-ltb _ _ (g .before .before .if2 .left), ne-eqb _ _ (g .if3 .left)))
+    then _ _ (f .before .refusal .ensures) (f .if1 .left)
+    (rw (le-ltb _ _ (g .before .before .if2 .left), ne-eqb _ _ (g .if3 .left)) (ap At (c .child-cell .ensures)))
 
 pub child-spec : {M : Type 1} → statement M
-child-spec = tie.close (tie.spec refusal-requires returns returns-2 returns-3 add-t5 mul-t6 add-t8 mul-t9 add-t11 returns-4)
+child-spec = tie.close (tie.spec refusal-requires returns returns-2 returns-3 child-cell-requires returns-4)

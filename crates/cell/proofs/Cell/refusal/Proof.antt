@@ -1,5 +1,4 @@
 -- `Cell::refusal` meets its contract: each return is the case that the tests before it pick. Assumes nothing.
-use mathlib.Core.Path.{sym}
 use borrow.Author.Needs.{needs}
 use borrow.Author.Tests.{lt-ltb, le-ltb, le-leb, lt-leb}
 use Rattle.logic.specs.Refusal.{_otherwise_}

@@ -1,4 +1,4 @@
--- `Cell::step` meets its contract: the refusals in their order, then the step across an edge or inside the face. Assumes nothing.
+-- `Cell::step` meets its contract: the refusals in their order. Assumes nothing.
 use mathlib.Core.Path.{_≡_, sym, ap, _∙_}
 use Prim.Native.Nat.{ℕ, _-_}
 use native.Mathlib.Omega.{arith}
@@ -6,15 +6,15 @@ use lib.Dec.{ltb}
 use borrow.Author.Needs.{needs}
 use borrow.Author.Tests.{lt-ltb, le-ltb}
 use Rattle.logic.specs.Refusal.{refuse}
-use Rattle.ternary.specs.Powers.{power-pos}
+use Rattle.ternary.specs.Laws.Powers.{power-pos}
 use Rattle.cell.specs.declared.Cell.{Cell}
 use Rattle.cell.specs.declared.Found.{Found}
 use Rattle.cell.specs.declared.Found.the-variants.{At}
 use Rattle.cell.specs.Cell.{IsCell, IsArrangement, found}
-use Rattle.cell.specs.CellLaws.{is-cell, is-arrangement}
+use Rattle.cell.specs.Laws.Cell.{is-cell, is-arrangement}
 use Rattle.cell.specs.Neighbour.{neighbourOf, neighbourRefusal}
-use Rattle.cell.specs.Seams.{step-across, step-within}
-use Rattle.cell.specs.FoundLaws.{refused, then}
+use Rattle.cell.specs.Internal.Seams.{step-across, step-within}
+use Rattle.cell.specs.Laws.Found.{refused, then}
 use Rattle.cell.proofs.Cell.step.Statement.{statement}
 use Rattle.cell.proofs.Cell.step.Tie as tie
 
@@ -68,47 +68,11 @@ returns-3 c =
     let s = c .before .before .before .before .before in
     directed (c .before) (rw (lt-ltb 3 (s .args .direction) (omega arith)))
 
-power-requires : tie.Need-power-requires
-power-requires c κs = let v = celled (c .before) in omega (arith, v .fine)
-
-sub-last : tie.Need-sub-last
-sub-last c = rw (c .power .ensures) (power-pos _)
-
-leaves-requires : tie.Need-leaves-requires
-leaves-requires c κs = (celled (c .before .before), ap (λ (x : ℕ). x - 1) (c .power .ensures))
-
-across-edge-requires : tie.Need-across-edge-requires
-across-edge-requires c κs =
-    let p = c .before .before in
-    let g = p .before .before in
-    (arranged (g .before .before), (celled g, ap (λ (x : ℕ). x - 1) (p .power .ensures)))
+neighbour-requires : tie.Need-neighbour-requires
+neighbour-requires c κs = let g = c .before in (arranged (g .before .before), celled g)
 
 returns-4 : tie.Need-returns-4
-returns-4 c =
-    let l = c .before .before in
-    passed (l .before .before) (c .across-edge .ensures ∙ sym (step-across _ _ _ (sym (l .leaves .ensures) ∙ c .before .if4 .taken)))
-
-within-face-requires : tie.Need-within-face-requires
-within-face-requires c κs = (celled (c .before .before .before .before), sym (c .before .leaves .ensures) ∙ c .if4 .left)
-
-returns-5 : tie.Need-returns-5
-returns-5 c =
-    let l = c .before .before in
-    passed (l .before .before) (c .within-face .ensures ∙ sym (step-within _ _ _ (sym (l .leaves .ensures) ∙ c .before .if4 .left)))
+returns-4 c = passed (c .before) (c .neighbour .ensures)
 
 pub step-spec : {M : Type 1} → statement M
-step-spec =
-    tie.close
-    (tie.spec
-    refusal-requires
-    returns
-    refusal-requires-2
-    returns-2
-    returns-3
-    power-requires
-    sub-last
-    leaves-requires
-    across-edge-requires
-    returns-4
-    within-face-requires
-    returns-5)
+step-spec = tie.close (tie.spec refusal-requires returns refusal-requires-2 returns-2 returns-3 neighbour-requires returns-4)

@@ -4,7 +4,7 @@ use Prim.Native.Nat.{suc, _-_}
 use native.Mathlib.Omega.{arith}
 use borrow.Author.Needs.{needs}
 use borrow.Author.Tests.{eqb-false}
-use Rattle.cell.specs.CellLaws.{row-small, column-small}
+use Rattle.cell.specs.Laws.Cell.{row-small, column-small}
 use Rattle.cell.specs.Neighbour.{leaves, withinFace}
 use Rattle.cell.proofs.Laws.{fourth}
 use Rattle.cell.proofs.Cell.within_face.Statement.{statement}

@@ -1,12 +1,11 @@
 -- `walk::Spot::after` meets its contract: a number of at most 16 digits of base nine. Assumes nothing.
 use mathlib.Core.Path.{_≡_, refl}
 use mathlib.Core.Bool.{true}
-use Prim.Native.Nat.{ℕ, _+_, _-_, _*_, _/_, _^_, _≤_, _<_}
+use Prim.Native.Nat.{ℕ, _+_, _*_, _/_, _^_, _≤_, _<_}
 use native.Mathlib.Omega.{arith}
-use lib.Dec.{ltb}
 use borrow.Author.Tests.{eq-eqb, ne-eqb, ltb-true}
 use borrow.Author.Needs.{needs}
-use Rattle.ternary.specs.Powers.{nine-le}
+use Rattle.ternary.specs.Laws.Powers.{nine-le}
 use Rattle.walk.specs.declared.Spot.{Spot}
 use Rattle.walk.specs.Walk.{spot, Fits, numberIn, after, goesOn}
 use Rattle.walk.proofs.Spot.after.Statement.{statement}

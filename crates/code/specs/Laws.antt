@@ -1,0 +1,6 @@
+pub mod Code
+pub mod Decoded
+pub mod Exact
+pub mod Inside
+pub mod Number
+pub mod Size

@@ -1,0 +1,44 @@
+-- What `coverage write` reads: "names, one a line". Assumes nothing.
+use mathlib.Core.Path.{_≡_}
+use mathlib.Core.List.{List, [], _∷_, _++_}
+use Prim.Native.Nat.{ℕ, zero, suc, _≤_}
+use lib.Dec.{leb}
+use lib.ListN.{length, take}
+use Rattle.logic.specs.Refusal.{refuse, _otherwise_}
+use Rattle.decimal.specs.Decimal.{trimmed}
+use Rattle.name.specs.Name.{nameRefusal, nameCode}
+use Rattle.lines.specs.Fold.{OfBytes}
+use Rattle.coverage.specs.declared.Taken.{Taken}
+use Rattle.coverage.specs.declared.Taken.the-variants as taken-as
+use Rattle.coverage.specs.declared.NamesRead.{NamesRead}
+use Rattle.coverage.specs.declared.NamesRead.the-variants as read-as
+
+-- the codes of the names so far; or the first line that stopped the reading, by its number, with its refusal
+pub data Names : Type 0 where
+  read : List ℕ → Names
+  stopped : (line refusal : ℕ) → Names
+
+-- a line's own refusal (2, 1, 3), otherwise 13 where there is no room for another code
+abbrev pub lineRefusal : (room : ℕ) (codes line : List ℕ) → ℕ
+lineRefusal room codes line = nameRefusal (trimmed line) otherwise refuse (leb room (length codes)) 13
+
+abbrev pub namedOr : (refusal : ℕ) (codes : List ℕ) (code : ℕ) → Names
+namedOr zero codes code = read (codes ++ (code ∷ []))
+namedOr (suc r) codes code = stopped (suc (length codes)) (suc r)
+
+-- after one more line
+abbrev pub withName : (room : ℕ) → Names → (line : List ℕ) → Names
+withName room (read codes) line = namedOr (lineRefusal room codes line) codes (nameCode (trimmed line))
+withName room (stopped n r) line = stopped n r
+
+-- one line: its code stands behind the others, or this is its refusal
+abbrev pub NameTaken : (line codes : List ℕ) (count : ℕ) (later : List ℕ) → Taken → Type 0
+NameTaken line codes count later (taken-as.Count n) =
+    (lineRefusal (length codes) (take count codes) line ≡ 0) × (take n later ≡ take count codes ++ (nameCode (trimmed line) ∷ [])) × (n ≤ length later) × (suc count ≤ n)
+NameTaken line codes count later (taken-as.Refused r) = (lineRefusal (length codes) (take count codes) line ≡ r) × (r ≡ 0 → ⊥)
+
+-- what the lines of some bytes come to: the codes of all names, in their order, or the refusal of the first line that stops
+abbrev pub AllTaken : (room : ℕ) (codes : List ℕ) → NamesRead → Type 0
+AllTaken room codes (read-as.Count n) = OfBytes (withName room) (read []) (read (take n codes)) × (n ≤ length codes)
+AllTaken room codes (read-as.Stopped r) = (line : ℕ) × OfBytes (withName room) (read []) (stopped line r)
+AllTaken room codes read-as.Failed = Unit {0}

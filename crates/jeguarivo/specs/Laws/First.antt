@@ -1,0 +1,397 @@
+-- Each entry refuses with the first of its numbers whose condition holds, and with 0 where none does (01 "Refusal numbers": "Order where several
+-- apply"). Assumes nothing.
+use mathlib.Core.Path.{_≡_, refl, sym, ap, ap₂, _∙_, subst}
+use mathlib.Core.Logic.{_⊎_, inl, inr, ⊎-elim}
+use mathlib.Core.Bool.{Bool, true, false, _&&_, not}
+use mathlib.Core.List.{List, [], _∷_, map}
+use Prim.Native.Nat.{ℕ, zero, suc, _+_, _*_, _^_, _<_}
+use native.Mathlib.Omega.{arith}
+use lib.IntN.{ℤ, pos, negℤ}
+use lib.Dec.{leb, ltb, eqb}
+use lib.ListN.{length, drop, take}
+use borrow.Author.Tests.{le-ltb, not-true, not-false}
+use Rattle.logic.specs.Lists.{Any, All, Pairwise}
+use Rattle.logic.specs.Rise.{Rise}
+use Rattle.logic.specs.Laws.Bools.{and-left, and-right, clash}
+use Rattle.logic.specs.Laws.Lists.{all-map}
+use Rattle.logic.specs.Laws.Order.{lt-or}
+use Rattle.logic.specs.Refusal.{refuse, _otherwise_, given}
+use Rattle.logic.specs.Laws.Refusal.{passes}
+use Rattle.cell.specs.declared.Cell.{Cell}
+use Rattle.cell.specs.declared.Arrangement.{Arrangement}
+use Rattle.cell.specs.Cell.{cellRefusal, arrangementRefusal, found}
+use Rattle.cell.specs.Laws.Cell.{cell-is}
+use Rattle.cell.specs.Neighbour.{neighbourOf}
+use Rattle.cell.specs.Hierarchy.{parentOf, parentRefusal, childOf, childRefusal}
+use Rattle.code.specs.Code.{codeOf, cellOf, isCode, codeRefusal, coded}
+use Rattle.code.specs.Laws.Code.{code-is-cell, code-cell}
+use Rattle.code.specs.Laws.Exact.{NoCell, no-cell, some-cell}
+use Rattle.name.specs.Name.{nameOf, firstLetter, isDigit, allDigits, nameRefusal, nameCode, codeNameRefusal, named}
+use Rattle.plane.specs.Plane.{squareOf, nucleusOf, verticesOf, pointRefusal, pointCell, inImage, inBelt, inNorth, inSouth, faceSide, half, threeHalves}
+use Rattle.locate.specs.Fix.{fixRefusal, fixCell, inRange}
+use Rattle.reading.specs.Ground.{Apart, Rising}
+use Rattle.reading.specs.Text.{heading, ReadsAs, Accepted}
+use Rattle.reading.specs.TextReading.{nodesOf, northOf, southOf, isText}
+use Rattle.reading.specs.Laws.TextReading.{reads-own}
+use Rattle.reader.specs.Check.{WrongVersion, otherVersion, textRefusal, answer, checkedOf}
+use Rattle.reader.specs.Laws.Check.{version-bytes, bytes-version, is-accepted, is-not}
+use Rattle.listing.specs.List.{listingRefusal, listed, codesOf}
+use Rattle.asking.specs.Ask.{askRefusal, asked}
+use Rattle.writing.specs.Write.{allCodes, ordered, codesRefusal, writeRefusal, textOf, written}
+use Rattle.writing.specs.Laws.List.{good-list, list-good}
+use Rattle.nucleus.specs.Nucleus.{groundNucleus}
+use Rattle.jeguarivo.specs.declared.SquareAnswer.{SquareAnswer}
+use Rattle.jeguarivo.specs.declared.PointAnswer.{PointAnswer}
+use Rattle.jeguarivo.specs.declared.VerticesAnswer.{VerticesAnswer}
+use Rattle.jeguarivo.specs.declared.FixAnswer.{FixAnswer}
+use Rattle.jeguarivo.specs.Entries.{arrangement, codeAnswer, cellCode, nameAnswer, parentCode, childCode, pointCode, fixCode, neighbourCode, codeCell}
+use Rattle.jeguarivo.specs.Entries.{foundAnswer, namedAnswer, writtenName, cellSize, cellShape, cornerCount, placedRefusal, placedAnswer, cellSquare}
+use Rattle.jeguarivo.specs.Entries.{cellNucleus, cellVertices, groundFix, aSquare, noSquare, aPoint, noPoint, theVertices, noVertices, aFix, noFix}
+use Rattle.jeguarivo.specs.Texts.{checkNumbers, listNumbers, askNumbers, writtenNumbers}
+use Rattle.jeguarivo.specs.Order.{Chain, NoneOf, FirstOf}
+use Rattle.jeguarivo.specs.Laws.Order.{Decides, last, then, twice, lt-decides, le-decides, eq-decides, ltZ-decides, leZ-decides, not-decides, and-decides, or-decides}
+use Rattle.jeguarivo.specs.Refusals.{NoLetter, NoDigit, InRange, OnImage, arrangementTests, codeTests, textTests, cellTests, nameTests, codeNameTests}
+use Rattle.jeguarivo.specs.Refusals.{parentTests, childTests, pointTests, fixTests, neighbourTests, placedTests, listTests, askTests, writeTests}
+
+-- ---- what the tests decide
+
+-- two tests that both pass, or not
+not-and : (s t : Bool) {A B : Type 0} → Decides (not s) A → Decides (not t) B → Decides (not (s && t)) (A ⊎ B)
+not-and true t d e = record { holds = λ h. inr (e .holds h); fails = λ h. ⊎-elim (d .fails refl) (e .fails h) }
+not-and false t d e = record { holds = λ h. inl (d .holds refl); fails = λ h. clash h }
+
+above : (a b : ℕ) → Decides (not (leb a b)) (b < a)
+above a b =
+    let d = le-decides a b in
+    record { holds = λ e. ⊎-elim (λ h. h) (λ h. absurd (d .fails (not-true _ e) h)) (lt-or b a); fails = λ e h. let k = d .holds (not-false _ e) in omega arith }
+
+outside : (a b c : ℕ) → Decides (not (leb a c && leb c b)) ((c < a) ⊎ (b < c))
+outside a b c = not-and (leb a c) (leb c b) (above a c) (above c b)
+
+letter : (bs : List ℕ) → Decides (not (firstLetter bs)) (NoLetter bs)
+unfolding firstLetter
+letter [] = record { holds = λ e. tt; fails = λ e. clash e }
+letter (b ∷ bs) = outside 78 83 b
+
+digits : (bs : List ℕ) → Decides (not (allDigits bs)) (Any NoDigit bs)
+unfolding allDigits
+digits [] = record { holds = λ e. clash (sym e); fails = λ e h. h }
+digits (b ∷ bs) = not-and (isDigit b) (allDigits bs) (outside 48 56 b) (digits bs)
+
+cell-of : (code : ℕ) → Decides (not (isCode code)) (NoCell code)
+cell-of code = record { holds = λ e. no-cell code (not-true _ e); fails = λ e. some-cell code (not-false _ e) }
+
+cells-of : (codes : List ℕ) → Decides (not (allCodes codes)) (Any NoCell codes)
+unfolding allCodes
+cells-of [] = record { holds = λ e. clash (sym e); fails = λ e h. h }
+cells-of (c ∷ cs) = not-and (isCode c) (allCodes cs) (cell-of c) (cells-of cs)
+
+version : (t : List ℕ) → Decides (otherVersion t) (WrongVersion t)
+version t = record { holds = version-bytes t; fails = λ e h. clash (sym (bytes-version t h) ∙ e) }
+
+grammar : (t : List ℕ) → Decides (isText t) (Accepted t)
+grammar t = record { holds = is-accepted t; fails = is-not t }
+
+-- what does not fail passes
+passed : {t : Bool} {A : Type 0} → Decides t A → ((A → ⊥) → ⊥) → t ≡ true
+passed {t = true} d n = refl
+passed {t = false} d n = absurd (n (d .fails refl))
+
+missed : (t : Bool) {A : Type 0} → Decides (not t) A → (A → ⊥) → t ≡ true
+missed true d n = refl
+missed false d n = absurd (n (d .holds refl))
+
+-- ---- numbers that several entries give
+
+arrangement-first : (n s : ℕ) → FirstOf (arrangementTests n s) (arrangementRefusal (arrangement n s))
+unfolding arrangementRefusal
+arrangement-first n s = twice 4 (lt-decides 3 n) (lt-decides 3 s)
+
+code-first : (code : ℕ) → FirstOf (codeTests code) (codeRefusal code)
+unfolding codeRefusal
+code-first code = last 3 (cell-of code)
+
+text-first : (t : List ℕ) → FirstOf (textTests t) (textRefusal t)
+unfolding textRefusal
+text-first t = then (last 12 (lt-decides 65536 (length t))) refl (λ _. then (last 9 (version t)) refl (λ _. last 8 (not-decides (grammar t))))
+
+-- ---- the refusal in an answer
+
+code-refusal : (r code : ℕ) → codeAnswer r code .refusal ≡ r
+unfolding codeAnswer coded
+code-refusal zero code = refl
+code-refusal (suc r) code = refl
+
+coded-first : {xs : Chain} {r : ℕ} (code : ℕ) → FirstOf xs r → FirstOf xs (codeAnswer r code .refusal)
+coded-first {xs} {r} code f = subst (FirstOf xs) (sym (code-refusal r code)) f
+
+-- ---- the entries
+
+-- jgv_cell_code
+pub cell-code-first : (f k i j : ℕ) → FirstOf (cellTests f k i j) (cellCode f k i j .refusal)
+unfolding cellCode cellRefusal
+cell-code-first f k i j =
+    coded-first (codeOf (record { face = f; resolution = k; row = i; column = j }))
+    (then (last 1 (lt-decides 15 k)) refl (λ _. then (last 0 (lt-decides 5 f)) refl (λ _. twice 2 (le-decides (3 ^ k) i) (le-decides (3 ^ k) j))))
+
+-- jgv_name_code
+pub name-code-first : (bs : List ℕ) → FirstOf (nameTests bs) (nameAnswer bs .refusal)
+unfolding nameAnswer nameRefusal
+name-code-first bs =
+    coded-first (nameCode bs)
+    (then (last 1 (lt-decides 16 (length bs))) refl (λ _. then (last 0 (letter bs)) refl (λ _. last 2 (digits (drop 1 bs)))))
+
+pub name-refusal : (bs : List ℕ) → nameAnswer bs .refusal ≡ nameRefusal bs
+unfolding nameAnswer
+name-refusal bs = code-refusal (nameRefusal bs) (nameCode bs)
+
+-- jgv_point_code
+image : (n s : ℕ) (x y : ℤ) → Decides (inImage (arrangement n s) x y) (OnImage n s x y)
+unfolding inImage inBelt inNorth inSouth
+image n s x y =
+    or-decides
+    (or-decides
+    (and-decides (and-decides (leZ-decides (pos 0) x) (ltZ-decides x (pos (4 * faceSide)))) (and-decides (leZ-decides (negℤ (pos half)) y) (leZ-decides y (pos half))))
+    (and-decides (and-decides (ltZ-decides (pos (n * faceSide)) x) (ltZ-decides x (pos ((n + 1) * faceSide))))
+    (and-decides (ltZ-decides (pos half) y) (ltZ-decides y (pos threeHalves)))))
+    (and-decides (and-decides (ltZ-decides (pos (s * faceSide)) x) (ltZ-decides x (pos ((s + 1) * faceSide))))
+    (and-decides (ltZ-decides (negℤ (pos threeHalves)) y) (ltZ-decides y (negℤ (pos half)))))
+
+pub point-code-first : (n s k : ℕ) (x y : ℤ) → FirstOf (pointTests n s k x y) (pointCode n s k x y .refusal)
+unfolding pointCode pointRefusal
+point-code-first n s k x y =
+    coded-first (codeOf (pointCell (arrangement n s) k x y))
+    (then (arrangement-first n s) refl (λ _. then (last 1 (lt-decides 15 k)) refl (λ _. last 6 (not-decides (image n s x y)))))
+
+-- jgv_fix_code
+range : (L z : ℤ) → Decides (inRange L z) (InRange L z)
+unfolding inRange
+range L z =
+    and-decides (and-decides (leZ-decides (negℤ (pos 1800000000)) L) (ltZ-decides L (pos 1800000000)))
+    (and-decides (leZ-decides (negℤ (pos (10 ^ 18))) z) (leZ-decides z (pos (10 ^ 18))))
+
+pub fix-code-first : (n s k : ℕ) (L z : ℤ) → FirstOf (fixTests n s k L z) (fixCode n s k L z .refusal)
+unfolding fixCode fixRefusal
+fix-code-first n s k L z =
+    coded-first (codeOf (fixCell (arrangement n s) k L z))
+    (then (arrangement-first n s) refl (λ _. then (last 1 (lt-decides 15 k)) refl (λ _. last 5 (not-decides (range L z)))))
+
+-- jgv_neighbour
+pub neighbour-first : (n s code d : ℕ) → FirstOf (neighbourTests n s code d) (neighbourCode n s code d .refusal)
+unfolding neighbourCode
+neighbour-first n s code d =
+    coded-first (codeOf (neighbourOf (arrangement n s) (cellOf code) d))
+    (then (arrangement-first n s) refl (λ _. then (last 2 (lt-decides 3 d)) refl (λ _. code-first code)))
+
+-- jgv_parent
+module _ (code : ℕ) where
+  -- what no longer refuses a code
+  real : (NoCell code → ⊥) → cellRefusal (cellOf code) ≡ 0
+  real n = cell-is (code-is-cell code (missed (isCode code) (cell-of code) n))
+
+  pub parent-first : FirstOf (parentTests code) (parentCode code .refusal)
+  unfolding parentCode parentRefusal
+  parent-first =
+      coded-first (codeOf (parentOf (cellOf code)))
+      (then (code-first code) refl
+      (λ n. subst (FirstOf ((12, cellOf code .resolution ≡ 0) ∷ [])) (sym (passes (refuse (eqb (cellOf code .resolution) 0) 12) (real (n .0))))
+      (last 11 (eq-decides (cellOf code .resolution) 0))))
+
+  -- jgv_child
+  pub child-first : (digit : ℕ) → FirstOf (childTests code digit) (childCode code digit .refusal)
+  unfolding childCode childRefusal
+  child-first digit =
+      let twelve : ℕ = refuse (eqb (cellOf code .resolution) 15) 12 in
+      coded-first (codeOf (childOf (cellOf code) digit))
+      (then (last 2 (lt-decides 8 digit)) refl
+      (λ d. then (code-first code) refl
+      (λ n.
+      let z : refuse (ltb 8 digit) 3 ≡ 0 = ap (λ (t : Bool). refuse t 3) (le-ltb 8 digit (omega (arith, d .0))) in
+      subst (FirstOf ((12, cellOf code .resolution ≡ 15) ∷ []))
+      (sym (passes (refuse (ltb 8 digit) 3 otherwise twelve) (real (n .0)) ∙ passes twelve z))
+      (last 11 (eq-decides (cellOf code .resolution) 15)))))
+
+  -- jgv_code_cell
+  pub code-cell-first : FirstOf (codeTests code) (codeCell code .refusal)
+  unfolding codeCell found
+  code-cell-first = subst (FirstOf (codeTests code)) (sym (go (codeRefusal code))) (code-first code)
+    where
+      go : (r : ℕ) → foundAnswer (found r (cellOf code)) .refusal ≡ r
+      go zero = refl
+      go (suc r) = refl
+
+  -- jgv_size, jgv_shape, jgv_corner_count
+  pub size-first : FirstOf (codeTests code) (cellSize code .refusal)
+  unfolding cellSize
+  size-first = code-first code
+
+  pub shape-first : FirstOf (codeTests code) (cellShape code .refusal)
+  unfolding cellShape
+  shape-first = code-first code
+
+  pub corner-first : FirstOf (codeTests code) (cornerCount code .refusal)
+  unfolding cornerCount
+  corner-first = code-first code
+
+  -- jgv_code_name
+  pub code-name-first : (room : ℕ) → FirstOf (codeNameTests code room) (writtenName code room .refusal)
+  unfolding writtenName codeNameRefusal named
+  code-name-first room =
+      subst (FirstOf (codeNameTests code room)) (sym (go (codeNameRefusal code room)))
+      (then (code-first code) refl (λ _. last 7 (lt-decides room (length (nameOf (cellOf code))))))
+    where
+      go : (r : ℕ) → namedAnswer (named r (length (nameOf (cellOf code)))) .refusal ≡ r
+      go zero = refl
+      go (suc r) = refl
+
+-- jgv_square, jgv_nucleus, jgv_vertices, jgv_ground_nucleus
+of-given : {A : Type 0} (of : A → ℕ) (r : ℕ) {x none : A} → of x ≡ 0 → of none ≡ r → of (given r x none) ≡ r
+unfolding given
+of-given of zero e f = e
+of-given of (suc r) e f = f
+
+placed-first :
+    {A : Type 0} (of : A → ℕ) (n s code : ℕ) (value : Arrangement → Cell → A) (none : ℕ → A) → ((a : Arrangement) (c : Cell) → of (value a c) ≡ 0) →
+    ((r : ℕ) → of (none r) ≡ r) → FirstOf (placedTests n s code) (of (placedAnswer n s code value none))
+unfolding placedAnswer placedRefusal
+placed-first of n s code v none e f =
+    let r : ℕ = placedRefusal (arrangement n s) code in
+    subst (FirstOf (placedTests n s code)) (sym (of-given of r (e (arrangement n s) (cellOf code)) (f r)))
+    (then (arrangement-first n s) refl (λ _. code-first code))
+
+module _ (n s code : ℕ) where
+  pub square-first : FirstOf (placedTests n s code) (cellSquare n s code .refusal)
+  unfolding cellSquare
+  square-first = placed-first (λ (x : SquareAnswer). x .refusal) n s code (λ a c. aSquare (squareOf a c)) noSquare (λ a c. refl) (λ r. refl)
+
+  pub nucleus-first : FirstOf (placedTests n s code) (cellNucleus n s code .refusal)
+  unfolding cellNucleus
+  nucleus-first = placed-first (λ (x : PointAnswer). x .refusal) n s code (λ a c. aPoint (nucleusOf a c)) noPoint (λ a c. refl) (λ r. refl)
+
+  pub vertices-first : FirstOf (placedTests n s code) (cellVertices n s code .refusal)
+  unfolding cellVertices
+  vertices-first = placed-first (λ (x : VerticesAnswer). x .refusal) n s code (λ a c. theVertices (verticesOf a c)) noVertices (λ a c. refl) (λ r. refl)
+
+  pub ground-first : FirstOf (placedTests n s code) (groundFix n s code .refusal)
+  unfolding groundFix
+  ground-first = placed-first (λ (x : FixAnswer). x .refusal) n s code (λ a c. aFix (groundNucleus a c)) noFix (λ a c. refl) (λ r. refl)
+
+-- jgv_coverage_check
+answer-refusal : (r : ℕ) (t : List ℕ) → checkNumbers (answer r t) .refusal ≡ r
+answer-refusal zero t = refl
+answer-refusal (suc r) t = refl
+
+pub check-refusal : (t : List ℕ) → checkNumbers (checkedOf t) .refusal ≡ textRefusal t
+unfolding checkedOf
+check-refusal t = answer-refusal (textRefusal t) t
+
+pub check-first : (t : List ℕ) → FirstOf (textTests t) (checkNumbers (checkedOf t) .refusal)
+check-first t = subst (FirstOf (textTests t)) (sym (check-refusal t)) (text-first t)
+
+-- jgv_coverage_list
+pub list-refusal : (r : ℕ) (t : List ℕ) → listNumbers (listed r t) .refusal ≡ r
+unfolding listed
+list-refusal zero t = refl
+list-refusal (suc r) t = refl
+
+pub list-first : (t : List ℕ) (room : ℕ) → FirstOf (listTests t room) (listNumbers (listed (listingRefusal t room) t) .refusal)
+unfolding listingRefusal
+list-first t room =
+    subst (FirstOf (listTests t room)) (sym (list-refusal (listingRefusal t room) t))
+    (then (text-first t) refl (λ _. last 7 (lt-decides room (length (codesOf t)))))
+
+-- jgv_coverage_ask
+module _ (t : List ℕ) where
+  -- a text that is not one not of the grammar is of the grammar
+  pub of-grammar : ((Accepted t → ⊥) → ⊥) → Accepted t
+  of-grammar n = is-accepted t (passed (grammar t) n)
+
+  -- a text that is no longer refused has a reading
+  read : NoneOf (textTests t) → ReadsAs (northOf t) (southOf t) t (nodesOf t)
+  read n = reads-own t (passed (grammar t) (n .1 .1 .0))
+
+  -- "the heading's"
+  headed : (n s : ℕ) → NoneOf (textTests t) → Decides (eqb n (northOf t) && eqb s (southOf t)) (take 7 t ≡ heading n s)
+  headed n s k =
+      let h : take 7 t ≡ heading (northOf t) (southOf t) = ap (take 7) (read k .body .all) in
+      let d = and-decides (eq-decides n (northOf t)) (eq-decides s (southOf t)) in
+      record { holds = λ e. let p = d .holds e in h ∙ ap₂ heading (sym (p .0)) (sym (p .1)); fails = λ e q. d .fails e (same n s (northOf t) (southOf t) (sym q ∙ h)) }
+    where
+      same : (n s n′ s′ : ℕ) → heading n s ≡ heading n′ s′ → (n ≡ n′) × (s ≡ s′)
+      same n s n′ s′ e =
+          let i : 48 + n ≡ 48 + n′ = cc in
+          let j : 48 + s ≡ 48 + s′ = cc in
+          (omega arith, omega arith)
+
+  pub ask-refusal : (r code : ℕ) → askNumbers (asked r t code) .refusal ≡ r
+  unfolding asked
+  ask-refusal zero code = refl
+  ask-refusal (suc r) code = refl
+
+  pub ask-first : (n s code : ℕ) → FirstOf (askTests n s t code) (askNumbers (asked (askRefusal (arrangement n s) t code) t code) .refusal)
+  unfolding askRefusal
+  ask-first n s code =
+      subst (FirstOf (askTests n s t code)) (sym (ask-refusal (askRefusal (arrangement n s) t code) code))
+      (then (arrangement-first n s) refl (λ _. then (code-first code) refl (λ _. then (text-first t) refl (λ k. last 13 (not-decides (headed n s k))))))
+
+-- jgv_coverage_write
+
+-- what holds of the values of a list
+map-all : {A B : Type 0} (P : B → Type 0) (f : A → B) (xs : List A) → All P (map f xs) → All (λ (x : A). P (f x)) xs
+map-all P f [] h = tt
+map-all P f (x ∷ xs) h = (h .0, map-all P f xs (h .1))
+
+map-pairs : {A B : Type 0} (R : B → B → Type 0) (f : A → B) (xs : List A) → Pairwise R (map f xs) → Pairwise (λ (x y : A). R (f x) (f y)) xs
+map-pairs R f [] h = tt
+map-pairs R f (x ∷ xs) h = (map-all (R (f x)) f xs (h .0), map-pairs R f xs (h .1))
+
+pairs-map : {A B : Type 0} (R : B → B → Type 0) (f : A → B) (xs : List A) → Pairwise (λ (x y : A). R (f x) (f y)) xs → Pairwise R (map f xs)
+pairs-map R f [] h = tt
+pairs-map {A} R f (x ∷ xs) h = (all-map (λ (y : A). R (f x) (f y)) (R (f x)) f (λ y k. k) xs (h .0), pairs-map R f xs (h .1))
+
+codes-back : (codes : List ℕ) → allCodes codes ≡ true → map codeOf (map cellOf codes) ≡ codes
+unfolding allCodes
+codes-back [] e = refl
+codes-back (c ∷ cs) e = ap₂ _∷_ (code-cell c (and-left (isCode c) (allCodes cs) e)) (codes-back cs (and-right (isCode c) (allCodes cs) e))
+
+module _ (codes : List ℕ) (a : allCodes codes ≡ true) where
+  rise-cells : Rise codes → Rising (map cellOf codes)
+  rise-cells h = map-pairs (λ (x y : ℕ). x < y) codeOf (map cellOf codes) (rw (codes-back codes a) h)
+
+  cells-rise : Rising (map cellOf codes) → Rise codes
+  cells-rise h = rw (codes-back codes a) at (pairs-map (λ (x y : ℕ). x < y) codeOf (map cellOf codes) h)
+
+  in-rising-order : Decides (ordered codes) (Rise codes × Apart (map cellOf codes))
+  unfolding codesRefusal _otherwise_
+  in-rising-order =
+      record {
+        holds = λ e. let g = good-list codes (ap₂ (λ (x y : Bool). refuse (not x) 4 otherwise refuse (not y) 11) a e) in (cells-rise (g .rising), g .apart);
+        fails = λ e h. off (ap₂ (λ (x y : Bool). refuse (not x) 4 otherwise refuse (not y) 11) a e)
+            (list-good codes (record { coded = a; rising = rise-cells (h .0); apart = h .1 }));
+      }
+    where
+      off : codesRefusal codes ≡ 11 → codesRefusal codes ≡ 0 → ⊥
+      off p q = omega arith
+
+-- a list that is not one out of order is in order
+pub of-order : (codes : List ℕ) → (Any NoCell codes → ⊥) → ((Rise codes × Apart (map cellOf codes) → ⊥) → ⊥) → Rise codes × Apart (map cellOf codes)
+of-order codes a n = let d = in-rising-order codes (missed (allCodes codes) (cells-of codes) a) in d .holds (passed d n)
+
+codes-first : (codes : List ℕ) → FirstOf ((4, Any NoCell codes) ∷ (11, Rise codes × Apart (map cellOf codes) → ⊥) ∷ []) (codesRefusal codes)
+unfolding codesRefusal
+codes-first codes =
+    then (last 3 (cells-of codes)) refl (λ n. last 10 (not-decides (in-rising-order codes (missed (allCodes codes) (cells-of codes) (n .0)))))
+
+pub write-refusal : (r n : ℕ) → writtenNumbers (written r n) .refusal ≡ r
+unfolding written
+write-refusal zero n = refl
+write-refusal (suc r) n = refl
+
+pub write-first :
+    (n s : ℕ) (codes : List ℕ) (room : ℕ) → let a : Arrangement = arrangement n s in
+    FirstOf (writeTests n s codes room) (writtenNumbers (written (writeRefusal a codes room) (length (textOf a codes))) .refusal)
+unfolding writeRefusal
+write-first n s codes room =
+    let z : ℕ = length (textOf (arrangement n s) codes) in
+    subst (FirstOf (writeTests n s codes room)) (sym (write-refusal (writeRefusal (arrangement n s) codes room) z))
+    (then (arrangement-first n s) refl (λ _. then (codes-first codes) refl (λ _. then (last 12 (lt-decides 65536 z)) refl (λ _. last 7 (lt-decides room z)))))

@@ -1,0 +1,250 @@
+-- 01's table "Refusal numbers": each number is given exactly when its condition holds and none of those before it in the order, over what the entries
+-- answer; and the numbers of each entry stand in 01's order. Assumes nothing.
+use mathlib.Core.Path.{_≡_, refl, sym, _∙_, subst}
+use mathlib.Core.Logic.{_↔_, _⊎_}
+use mathlib.Core.Bool.{true}
+use mathlib.Core.List.{List, [], _∷_, map}
+use Prim.Native.Nat.{ℕ, _^_, _≤_, _<_}
+use lib.IntN.{ℤ}
+use lib.ListN.{length, drop, take}
+use Rattle.logic.specs.Lists.{All, Any}
+use Rattle.logic.specs.Rise.{Rise}
+use Rattle.cell.specs.declared.Cell.{Cell}
+use Rattle.cell.specs.Cell.{IsCell}
+use Rattle.code.specs.Code.{cellOf}
+use Rattle.code.specs.Laws.Code.{code-is-cell}
+use Rattle.code.specs.Laws.Exact.{NoCell}
+use Rattle.name.specs.Name.{nameOf, nameCode, nameRefusal}
+use Rattle.name.specs.Laws.Name.{accepted, name-accepted, name-code-is, code-name}
+use Rattle.reading.specs.Ground.{Apart}
+use Rattle.reading.specs.Text.{heading, Accepted}
+use Rattle.reader.specs.Check.{WrongVersion, checkedOf}
+use Rattle.listing.specs.List.{listingRefusal, listed, codesOf}
+use Rattle.asking.specs.Ask.{askRefusal, asked}
+use Rattle.writing.specs.Write.{writeRefusal, textOf, written}
+use Rattle.jeguarivo.specs.Entries.{arrangement, cellCode, nameAnswer, parentCode, childCode, pointCode, fixCode, neighbourCode, codeCell, writtenName, cellSquare}
+use Rattle.jeguarivo.specs.Texts.{checkNumbers, listNumbers, askNumbers, writtenNumbers}
+use Rattle.jeguarivo.specs.Order.{order, orderInWriting, numbers, inOrder, NoneOf}
+use Rattle.jeguarivo.specs.Laws.Order.{given-exactly, none-exactly}
+use Rattle.jeguarivo.specs.Refusals.{NoLetter, NoDigit, InRange, OnImage, codeTests, textTests, cellTests, nameTests, codeNameTests, parentTests, childTests}
+use Rattle.jeguarivo.specs.Refusals.{pointTests, fixTests, neighbourTests, placedTests, listTests, askTests, writeTests}
+use Rattle.jeguarivo.specs.Laws.First.{name-refusal, cell-code-first, name-code-first, point-code-first, fix-code-first, neighbour-first, parent-first}
+use Rattle.jeguarivo.specs.Laws.First.{child-first, code-cell-first, code-name-first, square-first, check-first, list-first, ask-first, write-first}
+use Rattle.jeguarivo.specs.Laws.First.{of-grammar, of-order}
+
+-- ---- "Order where several apply"
+
+module _ (n s k f i j code digit room : ℕ) (x y : ℤ) (bytes codes : List ℕ) where
+  pub in-order :
+      All (λ (ns : List ℕ). inOrder order ns ≡ true)
+      (numbers (cellTests f k i j) ∷
+      numbers (codeTests code) ∷
+      numbers (nameTests bytes) ∷
+      numbers (codeNameTests code room) ∷
+      numbers (parentTests code) ∷
+      numbers (childTests code digit) ∷
+      numbers (pointTests n s k x y) ∷
+      numbers (fixTests n s k x y) ∷
+      numbers (neighbourTests n s code digit) ∷
+      numbers (placedTests n s code) ∷
+      numbers (textTests bytes) ∷
+      numbers (listTests bytes room) ∷
+      numbers (askTests n s bytes code) ∷ [])
+  unfolding inOrder
+  in-order = (refl, (refl, (refl, (refl, (refl, (refl, (refl, (refl, (refl, (refl, (refl, (refl, (refl, tt)))))))))))))
+
+  -- "in writing, 13 is judged on the text of a good list, so there it comes last but for 8"
+  pub in-order-writing : inOrder orderInWriting (numbers (writeTests n s codes room)) ≡ true
+  unfolding inOrder
+  in-order-writing = refl
+
+-- ---- of a cell's numbers
+
+module _ (face k row column : ℕ) where
+  -- 2: "resolution above 15"
+  pub two-cell : (cellCode face k row column .refusal ≡ 2) ↔ (15 < k)
+  two-cell = given-exactly 1 (cell-code-first face k row column) refl
+
+  -- 1: "face above 5"
+  pub one-cell : (cellCode face k row column .refusal ≡ 1) ↔ ((15 < k → ⊥) × (5 < face))
+  one-cell = given-exactly 0 (cell-code-first face k row column) refl
+
+  -- 3: "row or column not below 3^k"
+  pub three-cell : (cellCode face k row column .refusal ≡ 3) ↔ ((15 < k → ⊥) × ((5 < face → ⊥) × ((3 ^ k ≤ row) ⊎ (3 ^ k ≤ column))))
+  three-cell = given-exactly 2 (cell-code-first face k row column) refl
+
+-- ---- of a name
+
+module _ (bytes : List ℕ) where
+  -- 2: "name over 16 bytes"
+  pub two-name : (nameAnswer bytes .refusal ≡ 2) ↔ (16 < length bytes)
+  two-name = given-exactly 1 (name-code-first bytes) refl
+
+  -- 1: "empty name, first byte not N to S"
+  pub one-name : (nameAnswer bytes .refusal ≡ 1) ↔ ((16 < length bytes → ⊥) × NoLetter bytes)
+  one-name = given-exactly 0 (name-code-first bytes) refl
+
+  -- 3: "later name byte not 0 to 8"
+  pub three-name : (nameAnswer bytes .refusal ≡ 3) ↔ ((16 < length bytes → ⊥) × ((NoLetter bytes → ⊥) × Any NoDigit (drop 1 bytes)))
+  three-name = given-exactly 2 (name-code-first bytes) refl
+
+  -- so a name is accepted exactly when it is some cell's
+  pub accepted-name : (nameAnswer bytes .refusal ≡ 0) ↔ ((c : Cell) × IsCell c × (nameOf c ≡ bytes))
+  accepted-name = (
+    (λ e.
+        let a = accepted bytes (sym (name-refusal bytes) ∙ e) in
+        (cellOf (nameCode bytes), code-is-cell (nameCode bytes) (name-code-is bytes a), code-name bytes a)),
+    (λ c. name-refusal bytes ∙ subst (λ (bs : List ℕ). nameRefusal bs ≡ 0) (c .2) (name-accepted (c .0) (c .1))),
+  )
+
+-- ---- of a code
+
+module _ (code : ℕ) where
+  -- 4: "a code is no cell's"
+  pub four-code : (codeCell code .refusal ≡ 4) ↔ NoCell code
+  four-code = given-exactly 3 (code-cell-first code) refl
+
+  -- 12: "parent at resolution 0"
+  pub twelve-parent : (parentCode code .refusal ≡ 12) ↔ ((NoCell code → ⊥) × (cellOf code .resolution ≡ 0))
+  twelve-parent = given-exactly 11 (parent-first code) refl
+
+  -- 3: "child digit above 8"
+  pub three-child : (digit : ℕ) → (childCode code digit .refusal ≡ 3) ↔ (8 < digit)
+  three-child digit = given-exactly 2 (child-first code digit) refl
+
+  -- 12: "child at 15"
+  pub twelve-child : (digit : ℕ) → (childCode code digit .refusal ≡ 12) ↔ ((8 < digit → ⊥) × ((NoCell code → ⊥) × (cellOf code .resolution ≡ 15)))
+  twelve-child digit = given-exactly 11 (child-first code digit) refl
+
+  -- 8: "lent buffer shorter than the answer", a name
+  pub eight-name : (room : ℕ) → (writtenName code room .refusal ≡ 8) ↔ ((NoCell code → ⊥) × (room < length (nameOf (cellOf code))))
+  eight-name room = given-exactly 7 (code-name-first code room) refl
+
+-- ---- in an arrangement
+
+module _ (n s : ℕ) where
+  -- 5: "n or s given as a number above 3"
+  pub five-fix : (k : ℕ) (L z : ℤ) → (fixCode n s k L z .refusal ≡ 5) ↔ ((3 < n) ⊎ (3 < s))
+  five-fix k L z = given-exactly 4 (fix-code-first n s k L z) refl
+
+  pub five-point : (k : ℕ) (x y : ℤ) → (pointCode n s k x y .refusal ≡ 5) ↔ ((3 < n) ⊎ (3 < s))
+  five-point k x y = given-exactly 4 (point-code-first n s k x y) refl
+
+  pub five-neighbour : (code d : ℕ) → (neighbourCode n s code d .refusal ≡ 5) ↔ ((3 < n) ⊎ (3 < s))
+  five-neighbour code d = given-exactly 4 (neighbour-first n s code d) refl
+
+  pub five-square : (code : ℕ) → (cellSquare n s code .refusal ≡ 5) ↔ ((3 < n) ⊎ (3 < s))
+  five-square code = given-exactly 4 (square-first n s code) refl
+
+  -- 2: "resolution above 15"
+  pub two-fix : (k : ℕ) (L z : ℤ) → (fixCode n s k L z .refusal ≡ 2) ↔ (((3 < n) ⊎ (3 < s) → ⊥) × (15 < k))
+  two-fix k L z = given-exactly 1 (fix-code-first n s k L z) refl
+
+  pub two-point : (k : ℕ) (x y : ℤ) → (pointCode n s k x y .refusal ≡ 2) ↔ (((3 < n) ⊎ (3 < s) → ⊥) × (15 < k))
+  two-point k x y = given-exactly 1 (point-code-first n s k x y) refl
+
+  -- 6: "L or z out of range"
+  pub six-fix : (k : ℕ) (L z : ℤ) → (fixCode n s k L z .refusal ≡ 6) ↔ (((3 < n) ⊎ (3 < s) → ⊥) × ((15 < k → ⊥) × (InRange L z → ⊥)))
+  six-fix k L z = given-exactly 5 (fix-code-first n s k L z) refl
+
+  -- nothing is refused exactly when none of the conditions holds; so of every entry, by `none-exactly`
+  pub zero-fix : (k : ℕ) (L z : ℤ) → (fixCode n s k L z .refusal ≡ 0) ↔ NoneOf (fixTests n s k L z)
+  zero-fix k L z = none-exactly (fix-code-first n s k L z) refl
+
+  -- 7: "planar point outside the image"
+  pub seven-point : (k : ℕ) (x y : ℤ) → (pointCode n s k x y .refusal ≡ 7) ↔ (((3 < n) ⊎ (3 < s) → ⊥) × ((15 < k → ⊥) × (OnImage n s x y → ⊥)))
+  seven-point k x y = given-exactly 6 (point-code-first n s k x y) refl
+
+  -- 3: "direction above 3"
+  pub three-direction : (code d : ℕ) → (neighbourCode n s code d .refusal ≡ 3) ↔ (((3 < n) ⊎ (3 < s) → ⊥) × (3 < d))
+  three-direction code d = given-exactly 2 (neighbour-first n s code d) refl
+
+-- ---- of a text that is read
+
+module _ (t : List ℕ) where
+  -- 13: "text longer than 65,536 bytes, read .."
+  pub thirteen-check : (checkNumbers (checkedOf t) .refusal ≡ 13) ↔ (65536 < length t)
+  thirteen-check = given-exactly 12 (check-first t) refl
+
+  -- 10: "five bytes or more, mark right, version not 1"
+  pub ten-check : (checkNumbers (checkedOf t) .refusal ≡ 10) ↔ ((65536 < length t → ⊥) × WrongVersion t)
+  ten-check = given-exactly 9 (check-first t) refl
+
+  -- 9: "text not of the grammar"
+  pub nine-check : (checkNumbers (checkedOf t) .refusal ≡ 9) ↔ ((65536 < length t → ⊥) × ((WrongVersion t → ⊥) × (Accepted t → ⊥)))
+  nine-check = given-exactly 8 (check-first t) refl
+
+  -- 8: "lent buffer shorter than the answer", a list
+  pub eight-list :
+      (room : ℕ) →
+      (listNumbers (listed (listingRefusal t room) t) .refusal ≡ 8)
+      ↔ ((65536 < length t → ⊥) × ((WrongVersion t → ⊥) × (Accepted t × (room < length (codesOf t)))))
+  eight-list room =
+      let k = given-exactly 7 (list-first t room) refl in (
+        (λ e. let a = k .0 e in (a .0, (a .1 .0, (of-grammar t (a .1 .1 .0), a .1 .1 .1)))),
+        (λ a. k .1 (a .0, (a .1 .0, ((λ n. n (a .1 .1 .0)), a .1 .1 .1)))),
+      )
+
+-- ---- asking
+
+module _ (n s : ℕ) (t : List ℕ) (code : ℕ) where
+  -- what jgv_coverage_ask refuses
+  abbrev refusedAsk : ℕ
+  refusedAsk = askNumbers (asked (askRefusal (arrangement n s) t code) t code) .refusal
+
+  -- 5: "n or s given as a number above 3"
+  pub five-ask : (refusedAsk ≡ 5) ↔ ((3 < n) ⊎ (3 < s))
+  five-ask = given-exactly 4 (ask-first t n s code) refl
+
+  -- 14: "asked arrangement differs from the heading's"
+  pub fourteen-ask :
+      (refusedAsk ≡ 14)
+      ↔ (((3 < n) ⊎ (3 < s) → ⊥)
+      × ((NoCell code → ⊥) × ((65536 < length t → ⊥) × ((WrongVersion t → ⊥) × (Accepted t × (take 7 t ≡ heading n s → ⊥))))))
+  fourteen-ask =
+      let k = given-exactly 13 (ask-first t n s code) refl in (
+        (λ e. let a = k .0 e in let b = a .1 .1 in (a .0, (a .1 .0, (b .0, (b .1 .0, (of-grammar t (b .1 .1 .0), b .1 .1 .1)))))),
+        (λ a. let b = a .1 .1 in k .1 (a .0, (a .1 .0, (b .0, (b .1 .0, ((λ m. m (b .1 .1 .0)), b .1 .1 .1)))))),
+      )
+
+-- ---- writing
+
+module _ (n s : ℕ) (codes : List ℕ) (room : ℕ) where
+  -- the length of the text, and what jgv_coverage_write refuses
+  abbrev long : ℕ
+  long = length (textOf (arrangement n s) codes)
+
+  abbrev refusedWrite : ℕ
+  refusedWrite = writtenNumbers (written (writeRefusal (arrangement n s) codes room) long) .refusal
+
+  -- 5: "n or s given as a number above 3"
+  pub five-write : (refusedWrite ≡ 5) ↔ ((3 < n) ⊎ (3 < s))
+  five-write = given-exactly 4 (write-first n s codes room) refl
+
+  -- 4: "a code is no cell's"
+  pub four-write : (refusedWrite ≡ 4) ↔ (((3 < n) ⊎ (3 < s) → ⊥) × Any NoCell codes)
+  four-write = given-exactly 3 (write-first n s codes room) refl
+
+  -- 11: "list not strictly rising, or one cell inside another"
+  pub eleven-write : (refusedWrite ≡ 11) ↔ (((3 < n) ⊎ (3 < s) → ⊥) × ((Any NoCell codes → ⊥) × (Rise codes × Apart (map cellOf codes) → ⊥)))
+  eleven-write = given-exactly 10 (write-first n s codes room) refl
+
+  -- 13: "text longer than 65,536 bytes, .. to be written", "judged on the text of a good list"
+  pub thirteen-write :
+      (refusedWrite ≡ 13) ↔ (((3 < n) ⊎ (3 < s) → ⊥) × ((Any NoCell codes → ⊥) × ((Rise codes × Apart (map cellOf codes)) × (65536 < long))))
+  thirteen-write =
+      let k = given-exactly 12 (write-first n s codes room) refl in (
+        (λ e. let a = k .0 e in (a .0, (a .1 .0, (of-order codes (a .1 .0) (a .1 .1 .0), a .1 .1 .1)))),
+        (λ a. k .1 (a .0, (a .1 .0, ((λ m. m (a .1 .1 .0)), a .1 .1 .1)))),
+      )
+
+  -- 8: "lent buffer shorter than the answer", a text
+  pub eight-write :
+      (refusedWrite ≡ 8)
+      ↔ (((3 < n) ⊎ (3 < s) → ⊥)
+      × ((Any NoCell codes → ⊥) × ((Rise codes × Apart (map cellOf codes)) × ((65536 < long → ⊥) × (room < long)))))
+  eight-write =
+      let k = given-exactly 7 (write-first n s codes room) refl in (
+        (λ e. let a = k .0 e in (a .0, (a .1 .0, (of-order codes (a .1 .0) (a .1 .1 .0), a .1 .1 .1)))),
+        (λ a. k .1 (a .0, (a .1 .0, ((λ m. m (a .1 .1 .0)), a .1 .1 .1)))),
+      )

@@ -1,0 +1,227 @@
+-- Demand 3 over what the entries answer: checking, listing, writing and asking, one after another. Assumes nothing.
+use mathlib.Core.Path.{_≡_, refl, sym, ap, ap₂, _∙_}
+use mathlib.Core.Logic.{_↔_}
+use mathlib.Core.Bool.{Bool, true, false, _&&_, cond}
+use mathlib.Core.List.{List, [], _∷_, map}
+use Prim.Native.Nat.{ℕ, _≤_}
+use native.Mathlib.Omega.{arith}
+use lib.ListN.{length, take, drop}
+use lib.Seq.{take-append-seam}
+use borrow.Author.Tests.{ltb-false, le-ltb}
+use Rattle.logic.specs.Refusal.{refuse, given}
+use Rattle.logic.specs.Laws.Refusal.{both, allowed, passes, given-value}
+use Rattle.logic.specs.Laws.Bools.{refuted}
+use Rattle.cell.specs.declared.Cell.{Cell}
+use Rattle.cell.specs.Laws.Cell.{is-arrangement, arrangement-is}
+use Rattle.code.specs.Code.{codeOf, cellOf}
+use Rattle.code.specs.Laws.Code.{a-code, code-is-cell, cell-has-code}
+use Rattle.reading.specs.Ground.{wholeCells, SameGround, Cells, sizeSum}
+use Rattle.reading.specs.Text.{heading, ReadsAs, Accepted}
+use Rattle.reading.specs.TextReading.{nodesOf, northOf, southOf}
+use Rattle.reading.specs.Laws.TextReading.{read-text, read-nodes}
+use Rattle.reading.specs.Laws.Demand.{whole-cells}
+use Rattle.reading.specs.Written.{nodesFor, writtenText}
+use Rattle.reading.specs.Laws.Written.{written-reads, written-ground, listed-written}
+use Rattle.reader.specs.Check.{textRefusal, answer, checkedOf}
+use Rattle.reader.specs.Laws.Check.{accepted-exactly}
+use Rattle.reader.specs.Laws.Demand.{accepted-reads, same-bytes, reported-fewest}
+use Rattle.listing.specs.List.{codesOf, codesIn, listingRefusal, listed}
+use Rattle.listing.specs.Laws.List.{listed-cells}
+use Rattle.asking.specs.Ask.{AllCovered, askRefusal, asked, anyWithin}
+use Rattle.asking.specs.Laws.Ask.{asked-exactly}
+use Rattle.writing.specs.Write.{allCodes, GoodList, writeRefusal, textOf, textIn, written}
+use Rattle.writing.specs.Laws.List.{good-list, list-good, codes-cells}
+use Rattle.jeguarivo.specs.Entries.{arrangement}
+use Rattle.jeguarivo.specs.Texts.{checkNumbers, listNumbers, askNumbers, writtenNumbers}
+use Rattle.jeguarivo.specs.Laws.First.{check-refusal, list-refusal, ask-refusal, write-refusal}
+use Rattle.jeguarivo.specs.declared.LengthAnswer.{LengthAnswer}
+use Rattle.jeguarivo.specs.declared.ListAnswer.{ListAnswer}
+use Rattle.jeguarivo.specs.declared.AskAnswer.{AskAnswer}
+
+-- ---- checking
+
+-- what the entry answers
+module _ (t : List ℕ) where
+  module _ (e : checkNumbers (checkedOf t) .refusal ≡ 0) where
+    accepted : textRefusal t ≡ 0
+    accepted = sym (check-refusal t) ∙ e
+
+    -- "the number of whole cells in the reading and the sum of their sizes"
+    pub check-cells : checkNumbers (checkedOf t) .cells ≡ length (wholeCells (nodesOf t))
+    unfolding checkedOf
+    check-cells = ap (λ (r : ℕ). checkNumbers (answer r t) .cells) accepted
+
+    pub check-size : checkNumbers (checkedOf t) .size ≡ sizeSum (wholeCells (nodesOf t))
+    unfolding checkedOf
+    check-size = ap (λ (r : ℕ). checkNumbers (answer r t) .size) accepted
+
+    -- n and s are the heading's
+    pub check-heading : take 7 t ≡ heading (checkNumbers (checkedOf t) .n) (checkNumbers (checkedOf t) .s)
+    unfolding checkedOf
+    check-heading =
+        ap (take 7) (accepted-reads t accepted .body .all)
+        ∙ sym (ap₂ heading (ap (λ (r : ℕ). checkNumbers (answer r t) .n) accepted) (ap (λ (r : ℕ). checkNumbers (answer r t) .s) accepted))
+
+    -- "Every list of cells that covers exactly an accepted text's ground has at least as many cells as the reader reports for that text."
+    pub check-fewest : (qs : List Cell) → Cells qs → SameGround qs (wholeCells (nodesOf t)) → checkNumbers (checkedOf t) .cells ≤ length qs
+    check-fewest qs c g = omega (arith, check-cells, reported-fewest t accepted qs c g)
+
+-- "accepts it exactly when it is a text of 01's grammar"
+pub check-accepts : (t : List ℕ) → (checkNumbers (checkedOf t) .refusal ≡ 0) ↔ ((length t ≤ 65536) × Accepted t)
+check-accepts t = (λ e. accepted-exactly t .0 (accepted t e), λ h. check-refusal t ∙ accepted-exactly t .1 h)
+
+-- "Any two accepted texts with the same seven-byte heading cover the same finest cells exactly when they are the same bytes."
+pub check-same :
+    (t u : List ℕ) → checkNumbers (checkedOf t) .refusal ≡ 0 → checkNumbers (checkedOf u) .refusal ≡ 0 → take 7 t ≡ take 7 u →
+    SameGround (wholeCells (nodesOf t)) (wholeCells (nodesOf u)) ↔ (t ≡ u)
+check-same t u e f h = same-bytes t u (accepted t e) (accepted u f) h
+
+-- ---- writing
+
+-- what the entry answers, and what lent memory holds then, so far as the answer says
+module _ (n s : ℕ) (codes lent : List ℕ) where
+  abbrev pub writeAnswer : LengthAnswer
+  writeAnswer = writtenNumbers (written (writeRefusal (arrangement n s) codes (length lent)) (length (textOf (arrangement n s) codes)))
+
+  abbrev pub writtenBytes : List ℕ
+  writtenBytes = take (writeAnswer .length) (given (writeRefusal (arrangement n s) codes (length lent)) (textIn (arrangement n s) codes lent) lent)
+
+  write-text : writeRefusal (arrangement n s) codes (length lent) ≡ 0 → writtenBytes ≡ textOf (arrangement n s) codes
+  unfolding written textIn
+  write-text z =
+      let t : List ℕ = textOf (arrangement n s) codes in
+      ap₂ take (ap (λ (r : ℕ). writtenNumbers (written r (length t)) .length) z) (given-value (textIn (arrangement n s) codes lent) lent z)
+      ∙ take-append-seam t (drop (length t) lent)
+
+  module _ (e : writeAnswer .refusal ≡ 0) where
+    allows : writeRefusal (arrangement n s) codes (length lent) ≡ 0
+    allows = sym (write-refusal (writeRefusal (arrangement n s) codes (length lent)) (length (textOf (arrangement n s) codes))) ∙ e
+
+    cells : Cells (map cellOf codes)
+    unfolding writeRefusal
+    cells = codes-cells codes (good-list codes (both _ _ (both _ _ allows .1) .0) .coded)
+
+    reads : ReadsAs n s writtenBytes (nodesFor (map cellOf codes))
+    unfolding writeRefusal textOf
+    reads =
+        let k = is-arrangement (both _ _ allows .0) in
+        rw (write-text allows) (written-reads (map cellOf codes) cells n s (k .northern) (k .southern))
+
+    short : length writtenBytes ≤ 65536
+    unfolding writeRefusal
+    short = rw (write-text allows) (ltb-false _ _ (allowed 12 _ (both _ _ (both _ _ (both _ _ allows .1) .1) .0)))
+
+    -- "gives the accepted text", with the heading of n and s
+    pub written-accepted : checkNumbers (checkedOf writtenBytes) .refusal ≡ 0
+    written-accepted = check-accepts writtenBytes .1 (short, (n, s, nodesFor (map cellOf codes), reads))
+
+    pub written-heading : take 7 writtenBytes ≡ heading n s
+    written-heading = ap (take 7) (reads .body .all)
+
+    -- "of the same ground"
+    pub written-same-ground : SameGround (map cellOf codes) (wholeCells (nodesOf writtenBytes))
+    written-same-ground = rw (read-nodes reads) (written-ground (map cellOf codes) cells)
+
+-- ---- listing, and writing what was listed
+
+cells-codes : (cs : List Cell) → Cells cs → allCodes (map codeOf cs) ≡ true
+unfolding allCodes
+cells-codes [] h = refl
+cells-codes (c ∷ cs) h = ap₂ _&&_ (cell-has-code c (h .0)) (cells-codes cs (h .1))
+
+module _ (t : List ℕ) (e : textRefusal t ≡ 0) where
+  own : ReadsAs (northOf t) (southOf t) t (nodesOf t)
+  own = accepted-reads t e
+
+  back : map cellOf (codesOf t) ≡ wholeCells (nodesOf t)
+  back = listed-cells t (read-text own)
+
+  good : GoodList (codesOf t)
+  unfolding codesOf
+  good =
+      let w = whole-cells tt (omega arith) (own .body) in
+      record { coded = cells-codes (wholeCells (nodesOf t)) (w .0); rising = rw back (w .1); apart = rw back (w .2) }
+
+  again : textOf (arrangement (northOf t) (southOf t)) (codesOf t) ≡ t
+  unfolding textOf
+  again = ap (writtenText (northOf t) (southOf t)) back ∙ listed-written own
+
+  allowed-again : (room : ℕ) → length t ≤ room → writeRefusal (arrangement (northOf t) (southOf t)) (codesOf t) room ≡ 0
+  unfolding writeRefusal
+  allowed-again room h =
+      let m : ℕ = length (textOf (arrangement (northOf t) (southOf t)) (codesOf t)) in
+      let z : m ≡ length t = ap length again in
+      let l : length t ≤ 65536 = accepted-exactly t .0 e .0 in
+      passes _ (arrangement-is (record { northern = own .north; southern = own .south }))
+      ∙ passes _ (list-good (codesOf t) good)
+      ∙ passes _ (ap (λ (b : Bool). refuse b 13) (le-ltb 65536 m (omega arith)))
+      ∙ ap (λ (b : Bool). refuse b 8) (le-ltb room m (omega arith))
+
+-- what the entry answers, and what lent memory holds then, so far as the answer says
+module _ (t lent : List ℕ) where
+  abbrev pub listAnswer : ListAnswer
+  listAnswer = listNumbers (listed (listingRefusal t (length lent)) t)
+
+  abbrev pub listedCodes : List ℕ
+  listedCodes = take (listAnswer .count) (given (listingRefusal t (length lent)) (codesIn t lent) lent)
+
+  module _ (e : listAnswer .refusal ≡ 0) where
+    none : listingRefusal t (length lent) ≡ 0
+    none = sym (list-refusal (listingRefusal t (length lent)) t) ∙ e
+
+    -- "the codes of the whole cells"
+    pub listed-codes : listedCodes ≡ codesOf t
+    unfolding listed codesIn
+    listed-codes =
+        ap₂ take (ap (λ (r : ℕ). listNumbers (listed r t) .count) none) (given-value (codesIn t lent) lent none)
+        ∙ take-append-seam (codesOf t) (drop (length (codesOf t)) lent)
+
+    -- with the heading's n and s, and room enough, they are written as the same bytes
+    pub relisted :
+        (bytes : List ℕ) → length t ≤ length bytes →
+        (writeAnswer (northOf t) (southOf t) listedCodes bytes .refusal ≡ 0) × (writtenBytes (northOf t) (southOf t) listedCodes bytes ≡ t)
+    unfolding listingRefusal
+    relisted bytes h =
+        let p : textRefusal t ≡ 0 = both _ _ none .0 in
+        let z = allowed-again t p (length bytes) h in
+        rw listed-codes (
+          write-refusal (writeRefusal (arrangement (northOf t) (southOf t)) (codesOf t) (length bytes)) _ ∙ z,
+          write-text (northOf t) (southOf t) (codesOf t) bytes z ∙ again t p,
+        )
+
+-- ---- asking
+
+module _ (n s : ℕ) (t : List ℕ) (code : ℕ) where
+  abbrev pub askAnswer : AskAnswer
+  askAnswer = askNumbers (asked (askRefusal (arrangement n s) t code) t code)
+
+  -- "whether all of one cell's finest cells are covered": 1 exactly then, and 0 exactly where not
+  module _ (e : askAnswer .refusal ≡ 0) where
+    asks : askRefusal (arrangement n s) t code ≡ 0
+    asks = sym (ask-refusal t (askRefusal (arrangement n s) t code) code) ∙ e
+
+    told : askAnswer .covered ≡ cond (anyWithin (wholeCells (nodesOf t)) (cellOf code)) 1 0
+    unfolding asked
+    told = ap (λ (r : ℕ). askNumbers (asked r t code) .covered) asks
+
+    exactly : (anyWithin (wholeCells (nodesOf t)) (cellOf code) ≡ true) ↔ AllCovered (wholeCells (nodesOf t)) (cellOf code)
+    unfolding askRefusal
+    exactly =
+        let p = both _ _ (both _ _ asks .1) in
+        asked-exactly tt (omega arith) (accepted-reads t (both _ _ (p .1) .0) .body) (cellOf code) (code-is-cell code (a-code code (p .0)))
+
+    pub asked-yes : (askAnswer .covered ≡ 1) ↔ AllCovered (wholeCells (nodesOf t)) (cellOf code)
+    asked-yes = (λ h. exactly .0 (one (anyWithin (wholeCells (nodesOf t)) (cellOf code)) (sym told ∙ h)), λ h. told ∙ ap (λ (b : Bool). cond b 1 0) (exactly .1 h))
+      where
+        one : (b : Bool) → _≡_ {A = ℕ} (cond b 1 0) 1 → b ≡ true
+        one true h = refl
+        one false h = absurd (omega arith)
+
+    pub asked-no : (askAnswer .covered ≡ 0) ↔ (AllCovered (wholeCells (nodesOf t)) (cellOf code) → ⊥)
+    asked-no = (
+      λ h k. no (sym h ∙ told ∙ ap (λ (b : Bool). cond b 1 0) (exactly .1 k)),
+      λ h. told ∙ ap (λ (b : Bool). cond b 1 0) (refuted (anyWithin (wholeCells (nodesOf t)) (cellOf code)) (λ k. h (exactly .0 k))),
+    )
+      where
+        no : _≡_ {A = ℕ} 0 1 → ⊥
+        no h = omega arith

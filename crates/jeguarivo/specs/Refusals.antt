@@ -1,0 +1,119 @@
+-- 01's table "Refusal numbers" for the entries: each number with its condition, and for each entry the numbers that it gives, in 01's order.
+-- Laws/Refusals shows that each entry gives the first whose condition holds. Assumes nothing.
+use mathlib.Core.Path.{_≡_}
+use mathlib.Core.Logic.{_⊎_}
+use mathlib.Core.List.{List, [], _∷_, map}
+use Prim.Native.Nat.{ℕ, _+_, _*_, _^_, _≤_, _<_}
+use lib.IntN.{ℤ, pos, negℤ}
+use lib.Signed.{_≤ℤ_, _<ℤ_}
+use lib.ListN.{length, drop, take}
+use Rattle.logic.specs.Lists.{Any}
+use Rattle.logic.specs.Rise.{Rise}
+use Rattle.code.specs.Code.{cellOf}
+use Rattle.code.specs.Laws.Exact.{NoCell}
+use Rattle.name.specs.Name.{nameOf}
+use Rattle.plane.specs.Plane.{faceSide, half, threeHalves}
+use Rattle.reading.specs.Ground.{Apart}
+use Rattle.reading.specs.Text.{heading, Accepted}
+use Rattle.reader.specs.Check.{WrongVersion}
+use Rattle.listing.specs.List.{codesOf}
+use Rattle.writing.specs.Write.{textOf}
+use Rattle.jeguarivo.specs.Entries.{arrangement}
+use Rattle.jeguarivo.specs.Order.{Chain}
+
+-- ---- conditions that take more than a line
+
+-- 1: "empty name, first byte not N to S"
+abbrev pub NoLetter : List ℕ → Type 0
+NoLetter [] = Unit {0}
+NoLetter (b ∷ bs) = (b < 78) ⊎ (83 < b)
+
+-- 3: "later name byte not 0 to 8"
+abbrev pub NoDigit : ℕ → Type 0
+NoDigit b = (b < 48) ⊎ (56 < b)
+
+-- 6: "L or z out of range"; "-1,800,000,000 <= L < 1,800,000,000", "z .. from -10^18 to 10^18"
+abbrev pub InRange : (L z : ℤ) → Type 0
+InRange L z = ((negℤ (pos 1800000000) ≤ℤ L) × (L <ℤ pos 1800000000)) × ((negℤ (pos (10 ^ 18)) ≤ℤ z) × (z ≤ℤ pos (10 ^ 18)))
+
+-- 7: "planar point outside the image". "O to R hold the points with 0 <= X < 4M and |Y| <= M/2"
+abbrev pub OnBelt : (x y : ℤ) → Type 0
+OnBelt x y = ((pos 0 ≤ℤ x) × (x <ℤ pos (4 * faceSide))) × ((negℤ (pos half) ≤ℤ y) × (y ≤ℤ pos half))
+
+-- "N lies above face n: nM < X < (n+1)M and M/2 < Y < 3M/2."
+abbrev pub OnNorth : (n : ℕ) (x y : ℤ) → Type 0
+OnNorth n x y = ((pos (n * faceSide) <ℤ x) × (x <ℤ pos ((n + 1) * faceSide))) × ((pos half <ℤ y) × (y <ℤ pos threeHalves))
+
+-- "S lies below face s: sM < X < (s+1)M and -3M/2 < Y < -M/2."
+abbrev pub OnSouth : (s : ℕ) (x y : ℤ) → Type 0
+OnSouth s x y =
+    ((pos (s * faceSide) <ℤ x) × (x <ℤ pos ((s + 1) * faceSide))) × ((negℤ (pos threeHalves) <ℤ y) × (y <ℤ negℤ (pos half)))
+
+abbrev pub OnImage : (n s : ℕ) (x y : ℤ) → Type 0
+OnImage n s x y = (OnBelt x y ⊎ OnNorth n x y) ⊎ OnSouth s x y
+
+-- ---- numbers that several entries give
+
+-- 5: "n or s given as a number above 3"
+abbrev pub arrangementTests : (n s : ℕ) → Chain
+arrangementTests n s = (5, (3 < n) ⊎ (3 < s)) ∷ []
+
+-- 4: "a code is no cell's"
+abbrev pub codeTests : ℕ → Chain
+codeTests code = (4, NoCell code) ∷ []
+
+-- 13: "text longer than 65,536 bytes, read ..". 10: "five bytes or more, mark right, version not 1". 9: "text not of the grammar"
+abbrev pub textTests : List ℕ → Chain
+textTests t = (13, 65536 < length t) ∷ (10, WrongVersion t) ∷ (9, Accepted t → ⊥) ∷ []
+
+-- ---- the entries
+
+-- 2: "resolution above 15". 1: "face above 5". 3: "row or column not below 3^k"
+abbrev pub cellTests : (face resolution row column : ℕ) → Chain
+cellTests f k i j = (2, 15 < k) ∷ (1, 5 < f) ∷ (3, (3 ^ k ≤ i) ⊎ (3 ^ k ≤ j)) ∷ []
+
+-- 2: "name over 16 bytes"
+abbrev pub nameTests : List ℕ → Chain
+nameTests bs = (2, 16 < length bs) ∷ (1, NoLetter bs) ∷ (3, Any NoDigit (drop 1 bs)) ∷ []
+
+-- 8: "lent buffer shorter than the answer"
+abbrev pub codeNameTests : (code room : ℕ) → Chain
+codeNameTests code room = (4, NoCell code) ∷ (8, room < length (nameOf (cellOf code))) ∷ []
+
+-- 12: "parent at resolution 0, child at 15". 3: "child digit above 8"
+abbrev pub parentTests : ℕ → Chain
+parentTests code = (4, NoCell code) ∷ (12, cellOf code .resolution ≡ 0) ∷ []
+
+abbrev pub childTests : (code digit : ℕ) → Chain
+childTests code digit = (3, 8 < digit) ∷ (4, NoCell code) ∷ (12, cellOf code .resolution ≡ 15) ∷ []
+
+abbrev pub pointTests : (n s resolution : ℕ) (x y : ℤ) → Chain
+pointTests n s k x y = (5, (3 < n) ⊎ (3 < s)) ∷ (2, 15 < k) ∷ (7, OnImage n s x y → ⊥) ∷ []
+
+abbrev pub fixTests : (n s resolution : ℕ) (L z : ℤ) → Chain
+fixTests n s k L z = (5, (3 < n) ⊎ (3 < s)) ∷ (2, 15 < k) ∷ (6, InRange L z → ⊥) ∷ []
+
+-- 3: "direction above 3"
+abbrev pub neighbourTests : (n s code direction : ℕ) → Chain
+neighbourTests n s code direction = (5, (3 < n) ⊎ (3 < s)) ∷ (3, 3 < direction) ∷ (4, NoCell code) ∷ []
+
+-- square, nucleus, vertices and ground nucleus
+abbrev pub placedTests : (n s code : ℕ) → Chain
+placedTests n s code = (5, (3 < n) ⊎ (3 < s)) ∷ (4, NoCell code) ∷ []
+
+abbrev pub listTests : (t : List ℕ) (room : ℕ) → Chain
+listTests t room = (13, 65536 < length t) ∷ (10, WrongVersion t) ∷ (9, Accepted t → ⊥) ∷ (8, room < length (codesOf t)) ∷ []
+
+-- 14: "asked arrangement differs from the heading's"
+abbrev pub askTests : (n s : ℕ) (t : List ℕ) (code : ℕ) → Chain
+askTests n s t code =
+    (5, (3 < n) ⊎ (3 < s)) ∷ (4, NoCell code) ∷ (13, 65536 < length t) ∷ (10, WrongVersion t) ∷ (9, Accepted t → ⊥) ∷ (14, take 7 t ≡ heading n s → ⊥) ∷ []
+
+-- 11: "list not strictly rising, or one cell inside another". 13: "text longer than 65,536 bytes, .. to be written"
+abbrev pub writeTests : (n s : ℕ) (codes : List ℕ) (room : ℕ) → Chain
+writeTests n s codes room =
+    (5, (3 < n) ⊎ (3 < s)) ∷
+    (4, Any NoCell codes) ∷
+    (11, Rise codes × Apart (map cellOf codes) → ⊥) ∷
+    (13, 65536 < length (textOf (arrangement n s) codes)) ∷
+    (8, room < length (textOf (arrangement n s) codes)) ∷ []

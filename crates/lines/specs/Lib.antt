@@ -1,0 +1,4 @@
+pub mod Fold
+pub mod Laws
+pub mod Lines
+pub mod Next

@@ -1,0 +1,76 @@
+-- What the range of a fix says of its numbers. Assumes nothing.
+use mathlib.Core.Path.{_≡_, refl, sym, ap, _∙_}
+use mathlib.Core.Bool.{Bool, true, false, _&&_}
+use Prim.Native.Nat.{ℕ, zero, suc, _+_, _-_, _*_, _^_, _≤_, _<_}
+use native.Mathlib.Omega.{arith}
+use lib.IntN.{ℤ, pos, negsuc, negℤ, natAbs, negℤ-negℤ, _+ℤ_}
+use lib.Signed.{leZ, ltZ}
+use borrow.Author.Tests.{leb-true, leb-false, ltb-true, le-leb, lt-leb}
+use Rattle.logic.specs.Laws.Bools.{and-left, and-right}
+use Rattle.signed.specs.Sign.{negative, withSign}
+use Rattle.signed.specs.Laws.Sign.{sub-at, size-between, minus-plain, sign-and-size}
+use Rattle.locate.specs.Fix.{inRange, eastOf, isBelt, offsetOf, heightOf}
+
+east-below : (L : ℤ) → leZ (negℤ (pos 1800000000)) L ≡ true → ltZ L (pos 1800000000) ≡ true → eastOf L < 3600000000
+unfolding eastOf
+east-below (pos a) l h = let k : a < 1800000000 = ltb-true a 1800000000 h in omega arith
+east-below (negsuc a) l h = let k : a ≤ 1799999999 = leb-true a 1799999999 l in rw (sub-at 1800000000 (suc a) (omega arith)) (omega arith)
+
+module _ (L z : ℤ) (r : inRange L z ≡ true) where
+  pub longitude-low : leZ (negℤ (pos 1800000000)) L ≡ true
+  unfolding inRange
+  longitude-low = and-left _ _ (and-left _ _ r)
+
+  longitude-high : ltZ L (pos 1800000000) ≡ true
+  unfolding inRange
+  longitude-high = and-right (leZ (negℤ (pos 1800000000)) L) _ (and-left _ _ r)
+
+  pub east-small : eastOf L < 3600000000
+  east-small = east-below L longitude-low longitude-high
+
+  pub z-small : natAbs z ≤ 10 ^ 18
+  unfolding inRange
+  z-small =
+      let t = and-right (leZ (negℤ (pos 1800000000)) L && ltZ L (pos 1800000000)) _ r in
+      size-between z (10 ^ 18) (and-left _ _ t) (and-right (leZ (negℤ (pos (10 ^ 18))) z) _ t)
+
+-- ---- the belt: 2 x 10^18 - 3z, by z's sign and size
+
+pub in-belt : (z : ℤ) → isBelt z ≡ true → 3 * natAbs z ≤ 2 * 10 ^ 18
+unfolding isBelt
+in-belt z t = leb-true (3 * natAbs z) (2 * 10 ^ 18) t
+
+pub belt-at : (z : ℤ) → 3 * natAbs z ≤ 2 * 10 ^ 18 → isBelt z ≡ true
+unfolding isBelt
+belt-at z h = le-leb (3 * natAbs z) (2 * 10 ^ 18) h
+
+pub offset-south : (y : ℕ) → 2 * 10 ^ 18 + 3 * y ≡ offsetOf (withSign true y)
+unfolding offsetOf
+offset-south zero = refl
+offset-south (suc y) = ap (λ (x : ℤ). natAbs (pos 2000000000000000000 +ℤ x)) (sym (negℤ-negℤ (pos (3 * suc y))))
+
+pub offset-north : (y : ℕ) → 3 * y ≤ 2 * 10 ^ 18 → 2 * 10 ^ 18 - 3 * y ≡ offsetOf (withSign false y)
+unfolding offsetOf
+offset-north y h = ap natAbs (sym (minus-plain (2 * 10 ^ 18) (pos (3 * y)) refl ∙ sub-at (2 * 10 ^ 18) (3 * y) h))
+
+-- it is below 4 x 10^18: 3z is never 2 x 10^18
+offset-below : (b : Bool) (y : ℕ) → 3 * y ≤ 2 * 10 ^ 18 → offsetOf (withSign b y) < 4 * 10 ^ 18
+offset-below true y h = rw (← offset-south y) (omega arith)
+offset-below false y h = rw (← offset-north y h) (omega arith)
+
+pub offset-small : (z : ℤ) → isBelt z ≡ true → offsetOf z < 4 * 10 ^ 18
+offset-small z t = rw (sign-and-size z) at (offset-below (negative z) (natAbs z) (in-belt z t))
+
+-- ---- the caps: (10^9 h)^2 is below 10^18
+
+pub outside : (z : ℤ) → isBelt z ≡ false → 2 * 10 ^ 18 < 3 * natAbs z
+unfolding isBelt
+outside z t = leb-false (3 * natAbs z) (2 * 10 ^ 18) t
+
+pub cap-at : (z : ℤ) → 2 * 10 ^ 18 < 3 * natAbs z → isBelt z ≡ false
+unfolding isBelt
+cap-at z h = lt-leb (3 * natAbs z) (2 * 10 ^ 18) h
+
+pub height-small : (z : ℤ) → isBelt z ≡ false → heightOf z < 10 ^ 18
+unfolding heightOf
+height-small z t = let h = outside z t in omega arith

@@ -1,0 +1,6 @@
+pub mod Fix
+pub mod Floors
+pub mod Held
+pub mod Meet
+pub mod Part
+pub mod Turn

@@ -1,0 +1,5 @@
+pub mod Bools
+pub mod Lists
+pub mod Order
+pub mod Refusal
+pub mod Stores

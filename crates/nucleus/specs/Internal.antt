@@ -1,0 +1,15 @@
+pub mod BeltLaws
+pub mod CapLaws
+pub mod Caps
+pub mod FlooredLaws
+pub mod FractionLaws
+pub mod MirrorLaws
+pub mod NearLaws
+pub mod OnceLaws
+pub mod OneStartLaws
+pub mod PlaceLaws
+pub mod RuleLaws
+pub mod SentLaws
+pub mod StartLaws
+pub mod Triangle
+pub mod TriangleLaws

@@ -1,0 +1,2 @@
+pub mod Nucleus
+pub mod Seam

@@ -1,0 +1,3 @@
+pub mod Adjacent
+pub mod Faces
+pub mod Plane

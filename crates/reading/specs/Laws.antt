@@ -1,0 +1,15 @@
+pub mod Built
+pub mod Demand
+pub mod Fewest
+pub mod FewestOf
+pub mod Ground
+pub mod Heading
+pub mod Loose
+pub mod Named
+pub mod Parse
+pub mod Place
+pub mod Reading
+pub mod Report
+pub mod Rising
+pub mod TextReading
+pub mod Written

@@ -1,0 +1,180 @@
+-- `record_all` meets its contract: each turn records the line that it was handed. Assumes nothing.
+use mathlib.Core.Path.{_≡_, refl, sym, ap, _∙_}
+use mathlib.Core.Bool.{false}
+use mathlib.Core.List.{[]}
+use Prim.Native.Nat.{ℕ, _-_, _≤_}
+use lib.ListN.{length, take}
+use lib.Seq.{length-take-le}
+use Rattle.track.specs.Track.{Held}
+use Rattle.lines.specs.Fold.{OfEnded}
+use Rattle.lines.specs.Laws.Fold.{no-line, then-none}
+use Rattle.flight.specs.Memory.{withLine}
+use Rattle.console.specs.Input.{unread}
+use Rattle.console.specs.Laws.Input.{line-given, line-length, last-given, last-length}
+use Rattle.record.proofs.Laws.{line-recorded, last-recorded}
+use native.Mathlib.Omega.{arith}
+use borrow.Author.Needs.{needs}
+use Rattle.record.proofs.record_all.Statement.{statement}
+use Rattle.record.proofs.record_all.Tie as tie
+
+abbrev Inv-loop : tie.InvT-loop
+Inv-loop setting bytes₀ room₀ codes₀ from₀ end₀ memory₀ number₀ t13 bytes room codes from end memory number =
+    (from ≤ end) × (end ≤ length bytes) × Held codes (memory .count) × (length bytes ≡ length bytes₀) × (length room ≡ length room₀) × (length codes ≡ length codes₀)
+    × OfEnded (withLine setting (length codes₀)) ([], false) (take (memory .count) codes, memory .full)
+
+abbrev μ-loop : tie.MeasureT-loop
+μ-loop setting bytes₀ room₀ codes₀ from₀ end₀ memory₀ number₀ t13 bytes room codes from end memory number = 18446744073709551615 - number
+
+loop-holds : tie.Need-loop-holds Inv-loop μ-loop
+loop-holds c = (omega arith, omega arith, record { fits = omega arith; rises = tt }, refl, refl, refl, no-line (withLine _ _) ([], false))
+
+add-number : tie.Need-add-number Inv-loop μ-loop
+add-number c = search needs
+
+slice-aggregate-next-line : tie.Need-slice-aggregate-next-line Inv-loop μ-loop
+slice-aggregate-next-line c = search needs
+
+next-line-requires : tie.Need-next-line-requires Inv-loop μ-loop
+next-line-requires c κs = search needs
+
+enum-known-length : tie.Need-enum-known-length Inv-loop μ-loop
+enum-known-length c = search needs
+
+slice-reshare-prefix-record-line : tie.Need-slice-reshare-prefix-record-line Inv-loop μ-loop
+slice-reshare-prefix-record-line c = line-length _ _ _ (c .before .before .before .before .before .before .before .next-line .ensures) _ _ _ (c .before .length .given .1)
+
+slice-aggregate-record-line : tie.Need-slice-aggregate-record-line Inv-loop μ-loop
+slice-aggregate-record-line c = sym
+    (length-take-le _ _ (line-length _ _ _ (c .before .before .before .before .before .before .before .before .next-line .ensures) _ _ _ (c .before .before .length .given .1)))
+
+record-line-requires : tie.Need-record-line-requires Inv-loop μ-loop
+record-line-requires c κs = search needs
+
+loop-less : tie.Need-loop-less Inv-loop μ-loop
+loop-less c = search needs
+
+loop-again : tie.Need-loop-again Inv-loop μ-loop
+loop-again c =
+    let n = c .before .before .before .before .before .before .before .before .before .before .before .before in
+    let l = n .before .before .before .before .before .loop in
+    let a = n .before .before .before .before .before .before .before .before .before .args in
+    let line = c .before .before .before .before .before .before .length .given in
+    let g = line-given _ _ _ (n .next-line .ensures) _ _ _ (line .1) in
+    let q = c .before .before .record-line .ensures in
+    let e = q .1 ∙ ap (λ (size : ℕ). withLine (a .setting) size (take (l .memory .count) (l .codes), l .memory .full) (take (line .0 .0) (n .next-line .last .1 .1 .1 .1 .0))) (l .inv .5) in
+    let v = line-recorded (a .setting) (n .next-line .last .1 .1 .1 .1 .0) (search needs) _ (line .0 .0) _ _ (l .inv .6) e (unread (l .bytes) (l .from) (l .end)) _ _ _ g in
+    (g .6, g .7, q .0, search needs, search needs, search needs, v)
+
+enum-known-length-2 : tie.Need-enum-known-length-2 Inv-loop μ-loop
+enum-known-length-2 c = search needs
+
+slice-reshare-prefix-record-line-2 : tie.Need-slice-reshare-prefix-record-line-2 Inv-loop μ-loop
+slice-reshare-prefix-record-line-2 c = last-length _ _ _ (c .before .before .before .before .before .before .before .next-line .ensures) _ (c .before .length2 .given .1)
+
+slice-aggregate-record-line-2 : tie.Need-slice-aggregate-record-line-2 Inv-loop μ-loop
+slice-aggregate-record-line-2 c = sym
+    (length-take-le _ _ (last-length _ _ _ (c .before .before .before .before .before .before .before .before .next-line .ensures) _ (c .before .before .length2 .given .1)))
+
+record-line-requires-2 : tie.Need-record-line-requires-2 Inv-loop μ-loop
+record-line-requires-2 c κs = search needs
+
+same-length : tie.Need-same-length Inv-loop μ-loop
+same-length c = search needs
+
+same-length-2 : tie.Need-same-length-2 Inv-loop μ-loop
+same-length-2 c = search needs
+
+same-length-3 : tie.Need-same-length-3 Inv-loop μ-loop
+same-length-3 c = search needs
+
+returns : tie.Need-returns Inv-loop μ-loop
+returns c =
+    let n = c .before .before .before .before .before .before .before .before .before .before .before .before in
+    let l = n .before .before .before .before .before .loop in
+    let a = n .before .before .before .before .before .before .before .before .before .args in
+    let line = c .before .before .before .before .before .before .length2 .given in
+    let g = last-given _ _ _ (n .next-line .ensures) _ (line .1) in
+    let q = c .before .before .record-line2 .ensures in
+    let e = q .1 ∙ ap (λ (size : ℕ). withLine (a .setting) size (take (l .memory .count) (l .codes), l .memory .full) (take (line .0 .0) (n .next-line .last .1 .1 .1 .1 .0))) (l .inv .5) in
+    (q .0, last-recorded (a .setting) (n .next-line .last .1 .1 .1 .1 .0) (search needs) _ (line .0 .0) _ _ (l .inv .6) e (unread (l .bytes) (l .from) (l .end)) (n .next-line .last .1 .0) g)
+
+enum-told : tie.Need-enum-told Inv-loop μ-loop
+enum-told c = search needs
+
+same-length-4 : tie.Need-same-length-4 Inv-loop μ-loop
+same-length-4 c = search needs
+
+same-length-5 : tie.Need-same-length-5 Inv-loop μ-loop
+same-length-5 c = search needs
+
+same-length-6 : tie.Need-same-length-6 Inv-loop μ-loop
+same-length-6 c = search needs
+
+returns-2 : tie.Need-returns-2 Inv-loop μ-loop
+returns-2 c = let l = c .before .before .before .before .before .before .before .before .before .before .before .loop in (l .inv .2, then-none (withLine _ _) (l .inv .6))
+
+enum-told-2 : tie.Need-enum-told-2 Inv-loop μ-loop
+enum-told-2 c = search needs
+
+same-length-7 : tie.Need-same-length-7 Inv-loop μ-loop
+same-length-7 c = search needs
+
+same-length-8 : tie.Need-same-length-8 Inv-loop μ-loop
+same-length-8 c = search needs
+
+same-length-9 : tie.Need-same-length-9 Inv-loop μ-loop
+same-length-9 c = search needs
+
+returns-3 : tie.Need-returns-3 Inv-loop μ-loop
+returns-3 c = tt
+
+same-length-10 : tie.Need-same-length-10 Inv-loop μ-loop
+same-length-10 c = search needs
+
+same-length-11 : tie.Need-same-length-11 Inv-loop μ-loop
+same-length-11 c = search needs
+
+same-length-12 : tie.Need-same-length-12 Inv-loop μ-loop
+same-length-12 c = search needs
+
+returns-4 : tie.Need-returns-4 Inv-loop μ-loop
+returns-4 c = tt
+
+pub record-all-spec : {M : Type 1} → statement M
+record-all-spec =
+    tie.close
+    (tie.spec
+    Inv-loop
+    μ-loop
+    loop-holds
+    add-number
+    slice-aggregate-next-line
+    next-line-requires
+    enum-known-length
+    slice-reshare-prefix-record-line
+    slice-aggregate-record-line
+    record-line-requires
+    loop-less
+    loop-again
+    enum-known-length-2
+    slice-reshare-prefix-record-line-2
+    slice-aggregate-record-line-2
+    record-line-requires-2
+    same-length
+    same-length-2
+    same-length-3
+    returns
+    enum-told
+    same-length-4
+    same-length-5
+    same-length-6
+    returns-2
+    enum-told-2
+    same-length-7
+    same-length-8
+    same-length-9
+    returns-3
+    same-length-10
+    same-length-11
+    same-length-12
+    returns-4)

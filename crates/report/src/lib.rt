@@ -1,0 +1,142 @@
+// What the programs print, as bytes in lent memory.
+ghost use mathlib.Core.Path.{_≡_};
+ghost use mathlib.Core.List.{[], _∷_, _++_};
+ghost use Prim.Native.Nat.{_+_, _≤_};
+ghost use lib.ListN.{length, drop};
+ghost use Rattle.decimal.specs.Decimal.{printed};
+ghost use Rattle.report.specs.Put.{Put};
+ghost use Rattle.report.specs.Answer.{answerLine};
+ghost use Rattle.report.specs.Names.{nameBytes, nameLine, NamesPut};
+ghost use Rattle.report.specs.Lines.{numberLine, numbersLine, checkLine, askedLine};
+use asking::Asked;
+use code::Coded;
+use flight::Setting;
+use name::Named;
+use reader::Checked;
+
+// Puts a number in decimal and a byte after it from `at` on: where they end.
+fn put_number(x: u64, byte: u8, out: &mut [u8], at: usize) -> usize
+    requires { ⌜ at + 21 ≤ length (now out) ⌝ }
+    ensures { λ r. ⌜ Put at (printed x ++ (byte ∷ [])) (now (out .entry)) (now (out .exit)) r ⌝ }
+    ensures { λ r. ⌜ r ≤ at + 21 ⌝ }
+{
+    let end = decimal::put_whole(x, out, at);
+    out[end] = byte;
+    end + 1
+}
+
+// Puts a number and a line end in front: where they end.
+pub fn put_line(x: u64, out: &mut [u8]) -> usize
+    requires { ⌜ 21 ≤ length (now out) ⌝ }
+    ensures { λ r. ⌜ Put 0 (numberLine x) (now (out .entry)) (now (out .exit)) r ⌝ }
+    ensures { λ r. ⌜ r ≤ 21 ⌝ }
+{
+    put_number(x, b'\n', out, 0)
+}
+
+// Puts the name of the cell of a code, if there is one, in front of the room: its length.
+fn put_name(code: u64, room: &mut [u8]) -> usize
+    requires { ⌜ 16 ≤ length (now room) ⌝ }
+    ensures { λ r. ⌜ r ≡ length (nameBytes code) ⌝ }
+    ensures { λ r. ⌜ r ≤ 16 ⌝ }
+    ensures { λ r. ⌜ now (room .exit) ≡ nameBytes code ++ drop (length (nameBytes code)) (now (room .entry)) ⌝ }
+{
+    match name::code_name(code, room) {
+        Named::Length(length) => length as usize,
+        Named::Refused(_) => 0, // no cell's: a name has room
+    }
+}
+
+// Puts the same and a line end from `at` on: where they end.
+fn put_name_line(code: u64, out: &mut [u8], at: usize) -> usize
+    requires { ⌜ at + 17 ≤ length (now out) ⌝ }
+    ensures { λ r. ⌜ Put at (nameLine code) (now (out .entry)) (now (out .exit)) r ⌝ }
+    ensures { λ r. ⌜ r ≤ at + 17 ⌝ }
+{
+    let end = at + put_name(code, &mut out[at..]);
+    out[end] = b'\n';
+    end + 1
+}
+
+// Puts the answer to a line of a flight, the name of its cell or the refusal number, and a line end from `at` on: where they end.
+pub fn put_answer(setting: Setting, line: &[u8], out: &mut [u8], at: usize) -> usize
+    requires { ⌜ at + 21 ≤ length (now out) ⌝ }
+    ensures { λ r. ⌜ Put at (answerLine setting (now (line .entry))) (now (out .entry)) (now (out .exit)) r ⌝ }
+    ensures { λ r. ⌜ r ≤ at + 21 ⌝ }
+{
+    match flight::line_code(setting, line) {
+        Coded::Code(code) => put_name_line(code, out, at),
+        Coded::Refused(refusal) => put_number(refusal, b'\n', out, at),
+    }
+}
+
+// Puts six numbers in one line in front: where it ends.
+fn put_numbers(a: u64, b: u64, c: u64, d: u64, e: u64, f: u64, out: &mut [u8]) -> usize
+    requires { ⌜ 126 ≤ length (now out) ⌝ }
+    ensures { λ r. ⌜ Put 0 (numbersLine (a ∷ b ∷ c ∷ d ∷ e ∷ f ∷ [])) (now (out .entry)) (now (out .exit)) r ⌝ }
+    ensures { λ r. ⌜ r ≤ 126 ⌝ }
+{
+    let second = put_number(a, b' ', out, 0);
+    let third = put_number(b, b' ', out, second);
+    let fourth = put_number(c, b' ', out, third);
+    let fifth = put_number(d, b' ', out, fourth);
+    let sixth = put_number(e, b' ', out, fifth);
+    put_number(f, b'\n', out, sixth)
+}
+
+// How many names were put, and where they end.
+pub struct Names {
+    pub count: usize,
+    pub end: usize,
+}
+
+// Puts the names of codes, one a line, as many as there is room for.
+pub fn put_names(codes: &[u64], out: &mut [u8]) -> Names
+    ensures { λ r. ⌜ NamesPut (now (codes .entry)) (now (out .entry)) (now (out .exit)) r ⌝ }
+{
+    let mut count: usize = 0;
+    let mut end: usize = 0;
+    while count < codes.len() {
+        if out.len() - end < 17 {
+            return Names { count, end };
+        }
+        end = put_name_line(codes[count], out, end);
+        count = count + 1;
+    }
+    Names { count, end }
+}
+
+// Puts what checking answers in one line, `refusal place n s cells size`: where it ends.
+pub fn put_check(checked: Checked, out: &mut [u8]) -> usize
+    requires { ⌜ 126 ≤ length (now out) ⌝ }
+    ensures { λ r. ⌜ Put 0 (checkLine checked) (now (out .entry)) (now (out .exit)) r ⌝ }
+    ensures { λ r. ⌜ r ≤ 126 ⌝ }
+{
+    match checked {
+        Checked::Text {
+            north,
+            south,
+            cells,
+            size,
+            ..
+        } => put_numbers(0, 0, north, south, cells, size, out),
+        Checked::Refused { refusal, place } => put_numbers(refusal, place, 0, 0, 0, 0, out),
+    }
+}
+
+// Puts what asking answers in one line, `yes`, `no` or the refusal number: where it ends.
+pub fn put_asked(asked: Asked, out: &mut [u8]) -> usize
+    requires { ⌜ 21 ≤ length (now out) ⌝ }
+    ensures { λ r. ⌜ Put 0 (askedLine asked) (now (out .entry)) (now (out .exit)) r ⌝ }
+    ensures { λ r. ⌜ r ≤ 21 ⌝ }
+{
+    match asked {
+        Asked::Covered(covered) => {
+            if covered {
+                return bytes::copy(b"yes\n", out);
+            }
+            bytes::copy(b"no\n", out)
+        }
+        Asked::Refused { refusal, place: _ } => put_line(refusal, out),
+    }
+}

@@ -1,0 +1,131 @@
+-- A list of codes that is not refused is one of rising cells, none inside another, and neighbouring pairs decide it. Assumes nothing.
+use mathlib.Core.Path.{_≡_, refl, sym, ap₂, _∙_}
+use mathlib.Core.Bool.{Bool, true, false, _&&_, not}
+use mathlib.Core.Logic.{inl, inr}
+use mathlib.Core.List.{List, [], _∷_, map}
+use Prim.Native.Nat.{ℕ, _+_, _≤_, _<_}
+use native.Mathlib.Omega.{arith}
+use lib.Dec.{leb, ltb}
+use borrow.Author.Tests.{lt-ltb, le-leb, lt-leb, ltb-true, not-true, not-false}
+use Rattle.logic.specs.Laws.Bools.{and-left, and-right, clash}
+use Rattle.logic.specs.Refusal.{refuse, _otherwise_}
+use Rattle.logic.specs.Laws.Refusal.{allowed, both}
+use Rattle.cell.specs.declared.Cell.{Cell}
+use Rattle.cell.specs.Cell.{IsCell}
+use Rattle.code.specs.Code.{cellOf, codeOf, isCode, sizeOf}
+use Rattle.code.specs.Laws.Code.{code-is-cell, code-cell}
+use Rattle.code.specs.Inside.{Inside, startOf, endOf, liesWithin}
+use Rattle.code.specs.Laws.Inside.{size-pos, lies-within, lies-inside, next-before}
+use Rattle.reading.specs.Ground.{Cells, All, Rising, Apart}
+use Rattle.reading.specs.Laws.Rising.{code-before, apart-before}
+use Rattle.writing.specs.Write.{allCodes, Stray, Earlier, InTurn, GoodList, ordered, codesRefusal}
+
+-- ---- every code is a cell's
+
+pub codes-cells : (codes : List ℕ) → allCodes codes ≡ true → Cells (map cellOf codes)
+unfolding allCodes
+codes-cells [] t = tt
+codes-cells (c ∷ cs) t = (code-is-cell c (and-left (isCode c) (allCodes cs) t), codes-cells cs (and-right (isCode c) (allCodes cs) t))
+
+pub stray : (codes : List ℕ) → (allCodes codes ≡ false → Stray codes) × (Stray codes → allCodes codes ≡ false)
+unfolding allCodes
+stray [] = ((λ e. clash e), (λ h. absurd h))
+stray (c ∷ cs) = let k = stray cs in (to (isCode c) refl (k .0), from (isCode c) refl (k .1))
+  where
+    to : (b : Bool) → isCode c ≡ b → (allCodes cs ≡ false → Stray cs) → (b && allCodes cs) ≡ false → Stray (c ∷ cs)
+    to true e f h = inr (f h)
+    to false e f h = inl e
+
+    from : (b : Bool) → isCode c ≡ b → (Stray cs → allCodes cs ≡ false) → Stray (c ∷ cs) → (b && allCodes cs) ≡ false
+    from true e f (inl h) = clash (sym e ∙ h)
+    from true e f (inr h) = f h
+    from false e f h = refl
+
+-- ---- two neighbours
+
+is-not : (b : Bool) → (b ≡ true → ⊥) → not b ≡ true
+is-not true h = absurd (h refl)
+is-not false h = refl
+
+-- the test of two codes that rise
+module _ (c x : Cell) (v : IsCell c) (w : IsCell x) where
+  pub not-lies : codeOf c < codeOf x → not (liesWithin c x) ≡ leb (endOf c) (startOf x)
+  unfolding endOf
+  not-lies l = go (liesWithin c x) refl
+    where
+      go : (b : Bool) → liesWithin c x ≡ b → not b ≡ leb (startOf c + sizeOf c) (startOf x)
+      go true e = let k = lies-within c x e in sym (lt-leb (startOf c + sizeOf c) (startOf x) (omega (arith, k .to, size-pos x)))
+      go false e = sym (le-leb (startOf c + sizeOf c) (startOf x) (next-before c x v w l e))
+
+-- ---- each cell's finest cells come before those of all later ones
+
+earlier : (m n : ℕ) (xs : List Cell) → m ≤ n → Earlier n xs → Earlier m xs
+earlier m n [] h e = tt
+earlier m n (x ∷ xs) h e = (omega (arith, e .0), earlier m n xs h (e .1))
+
+-- "neighbouring pairs decide"
+pub ordered-in-turn : (codes : List ℕ) → allCodes codes ≡ true → ordered codes ≡ true → InTurn (map cellOf codes)
+unfolding allCodes ordered endOf
+ordered-in-turn [] a o = tt
+ordered-in-turn (c ∷ []) a o = (tt, tt)
+ordered-in-turn (c ∷ x ∷ cs) a o =
+    let i : isCode c ≡ true = and-left (isCode c) (isCode x && allCodes cs) a in
+    let r : (isCode x && allCodes cs) ≡ true = and-right (isCode c) (isCode x && allCodes cs) a in
+    let j : isCode x ≡ true = and-left (isCode x) (allCodes cs) r in
+    let l : c < x = ltb-true c x (and-left (ltb c x) (not (liesWithin (cellOf c) (cellOf x)) && ordered (x ∷ cs)) o) in
+    let s = and-right (ltb c x) (not (liesWithin (cellOf c) (cellOf x)) && ordered (x ∷ cs)) o in
+    let n : liesWithin (cellOf c) (cellOf x) ≡ false = not-true _ (and-left (not (liesWithin (cellOf c) (cellOf x))) (ordered (x ∷ cs)) s) in
+    let k = ordered-in-turn (x ∷ cs) r (and-right (not (liesWithin (cellOf c) (cellOf x))) (ordered (x ∷ cs)) s) in
+    let b : endOf (cellOf c) ≤ startOf (cellOf x) =
+    next-before (cellOf c) (cellOf x) (code-is-cell c i) (code-is-cell x j) (omega (arith, code-cell c i, code-cell x j)) n in
+    ((b, earlier (endOf (cellOf c)) (endOf (cellOf x)) (map cellOf cs) (omega arith) (k .0)), k)
+
+earlier-rising : (c : Cell) (xs : List Cell) → IsCell c → Cells xs → Earlier (endOf c) xs → All (λ (x : Cell). codeOf c < codeOf x) xs
+earlier-rising c [] v k e = tt
+earlier-rising c (x ∷ xs) v k e = (code-before c x v (k .0) (e .0), earlier-rising c xs v (k .1) (e .1))
+
+earlier-apart : (c : Cell) (xs : List Cell) → IsCell c → Cells xs → Earlier (endOf c) xs → All (λ (x : Cell). (Inside c x → ⊥) × (Inside x c → ⊥)) xs
+earlier-apart c [] v k e = tt
+earlier-apart c (x ∷ xs) v k e = (apart-before c x v (k .0) (e .0), earlier-apart c xs v (k .1) (e .1))
+
+in-turn-list : (xs : List Cell) → Cells xs → InTurn xs → Rising xs × Apart xs
+in-turn-list [] k t = (tt, tt)
+in-turn-list (c ∷ cs) k t =
+    let r = in-turn-list cs (k .1) (t .1) in
+    ((earlier-rising c cs (k .0) (k .1) (t .0), r .0), (earlier-apart c cs (k .0) (k .1) (t .0), r .1))
+
+list-ordered : (codes : List ℕ) → allCodes codes ≡ true → Rising (map cellOf codes) → Apart (map cellOf codes) → ordered codes ≡ true
+unfolding allCodes ordered
+list-ordered [] a r p = refl
+list-ordered (c ∷ []) a r p = refl
+list-ordered (c ∷ x ∷ cs) a r p =
+    let i : isCode c ≡ true = and-left (isCode c) (isCode x && allCodes cs) a in
+    let q : (isCode x && allCodes cs) ≡ true = and-right (isCode c) (isCode x && allCodes cs) a in
+    let j : isCode x ≡ true = and-left (isCode x) (allCodes cs) q in
+    let l : c < x = omega (arith, r .0 .0, code-cell c i, code-cell x j) in
+    let n : not (liesWithin (cellOf c) (cellOf x)) ≡ true =
+    is-not (liesWithin (cellOf c) (cellOf x)) (λ e. p .0 .0 .0 (lies-inside (cellOf c) (cellOf x) (code-is-cell c i) (code-is-cell x j) e)) in
+    ap₂ _&&_ (lt-ltb c x l) (ap₂ _&&_ n (list-ordered (x ∷ cs) q (r .1) (p .1)))
+
+-- ---- "rising codes, none inside another": exactly those are not refused
+
+pub good-list : (codes : List ℕ) → codesRefusal codes ≡ 0 → GoodList codes
+unfolding codesRefusal
+good-list codes e =
+    let k = both (refuse (not (allCodes codes)) 4) (refuse (not (ordered codes)) 11) e in
+    let a : allCodes codes ≡ true = not-false (allCodes codes) (allowed 3 _ (k .0)) in
+    let o : ordered codes ≡ true = not-false (ordered codes) (allowed 10 _ (k .1)) in
+    let r = in-turn-list (map cellOf codes) (codes-cells codes a) (ordered-in-turn codes a o) in
+    record { coded = a; rising = r .0; apart = r .1 }
+
+pub list-good : (codes : List ℕ) → GoodList codes → codesRefusal codes ≡ 0
+unfolding codesRefusal _otherwise_
+list-good codes g =
+    ap₂ (λ (a o : Bool). refuse (not a) 4 otherwise refuse (not o) 11) (g .coded) (list-ordered codes (g .coded) (g .rising) (g .apart))
+
+-- and the finest cells of each come before those of the next
+pub in-turn : (codes : List ℕ) → codesRefusal codes ≡ 0 → InTurn (map cellOf codes)
+unfolding codesRefusal
+in-turn codes e =
+    let k = both (refuse (not (allCodes codes)) 4) (refuse (not (ordered codes)) 11) e in
+    ordered-in-turn codes (not-false (allCodes codes) (allowed 3 _ (k .0))) (not-false (ordered codes) (allowed 10 _ (k .1)))

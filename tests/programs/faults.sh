@@ -1,0 +1,35 @@
+# Input that fails midway, and a list of names that has no end.
+
+# PROGRAM ARGUMENTS..: runs it on a terminal's input that gives the bytes of standard input and then fails, as the other side has hung up.
+unread() {
+    timeout 20 python3 -c 'if True:
+        import os, pty, subprocess, sys, tty
+        near, far = pty.openpty()
+        tty.setraw(far)
+        os.write(far, sys.stdin.buffer.read())
+        os.close(far)
+        sys.exit(subprocess.run(sys.argv[1:], stdin=near).returncode)' "$bin/$1" "${@:2}"
+}
+
+failure='standard input: Input/output error'
+
+# whole lines are named; what stands after the last line end may be cut, so it is no line
+try "a cut line" "printf '0 0\n900000000 66666' | unread name_fixes 0 0 0" 'Q\n' "name_fixes: $failure"
+try "a cut line alone" "printf '900000000 66666' | unread name_fixes 0 0 0" '' "name_fixes: $failure"
+try "a cut line that is no fix" "printf '0 0\n-1800000000 0\nx' | unread name_fixes 0 0 0" 'Q\nO\n' "name_fixes: $failure"
+try "a failure after a line end" "printf 'x\n0 0\n' | unread name_fixes 0 0 0" '6\nQ\n' "name_fixes: $failure"
+try "a failure at once" "printf '' | unread name_fixes 0 0 0" '' "name_fixes: $failure"
+
+# a text or nothing: a flight that was not read to its end has no text
+for flight in '0 0\n900000000 66666' '900000000 66666' '0 0\n' ''; do
+    try "a flight that fails midway" "printf '$flight' | unread record 0 0 0" '' "record: $failure"
+done
+try "a bad line before the failure" "printf 'x\n0 0\n1 0' | unread record 0 0 0" '' "line 1: 6; record: $failure"
+for names in 'P3\nP4' 'P3' 'P3\n' ''; do
+    try "a list that fails midway" "printf '$names' | unread coverage write 0 0" '' "coverage: $failure"
+done
+
+# the first bad name ends the list, however long it is
+try "bad names without end" "yes X 2>/dev/null | timeout 10 '$bin/coverage' write 0 0" '' 'line 1: 1'
+try "good names, then bad ones without end" "(printf 'P3\nP41\n'; yes P9 2>/dev/null) | timeout 10 '$bin/coverage' write 0 0" '' 'line 3: 3'
+try "a bad name, then good ones without end" "(echo $(times 17 P); yes P 2>/dev/null) | timeout 10 '$bin/coverage' write 0 0" '' 'line 1: 2'
