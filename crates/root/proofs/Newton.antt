@@ -2,7 +2,8 @@
 use mathlib.Core.Path.{_≡_, refl, subst}
 use mathlib.Core.Logic.{⊎-elim}
 use Prim.Native.Nat.{ℕ, zero, suc, _+_, _-_, _*_, _/_, _^_, _≤_, _<_}
-use native.Mathlib.Nat.{le-trans, le-of-eq, le-of-lt, lt-of-lt-of-le, lt-suc-self, zero-lt-suc, le-dest, le-intro, add-comm, add-assoc, add-left-comm, mul-comm, mul-add, add-mul, mul-le-mul, mul-le-mul-right, div-lt-iff-lt-mul, div-le-of-le-mul, pow-le-pow-right, one-le-pow}
+use native.Mathlib.Nat.{le-trans, le-of-eq, le-of-lt, lt-of-lt-of-le, lt-suc-self, zero-lt-suc, le-dest, le-intro, add-comm, add-assoc}
+use native.Mathlib.Nat.{add-left-comm, mul-comm, mul-add, add-mul, mul-le-mul, mul-le-mul-right, div-lt-iff-lt-mul, div-le-of-le-mul, pow-le-pow-right, one-le-pow}
 use native.Mathlib.Omega.{arith}
 use lib.Count.{leadingZeros, leading-length}
 use lib.Pow.{pow-add}

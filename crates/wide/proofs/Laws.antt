@@ -2,7 +2,8 @@
 use mathlib.Core.Path.{_≡_, refl, sym, ap, ap₂, _∙_}
 use mathlib.Core.Logic.{⊎-elim}
 use Prim.Native.Nat.{ℕ, suc, _+_, _*_, _/_, _%_, _≤_, _<_}
-use native.Mathlib.Nat.{mul-add, add-mul, mul-assoc, mul-comm, mul-left-comm, mul-right-comm, add-assoc, add-comm, add-left-comm, mul-le-mul, div-add-mod', lt-of-mul-lt-mul-right, lt-of-le-of-lt, lt-of-lt-of-le, le-trans, le-add-right, le-of-eq, mul-lt-mul-of-pos-left, lt-suc-self}
+use native.Mathlib.Nat.{mul-add, add-mul, mul-assoc, mul-comm, mul-left-comm, mul-right-comm, add-assoc, add-comm, add-left-comm, mul-le-mul}
+use native.Mathlib.Nat.{div-add-mod', lt-of-mul-lt-mul-right, lt-of-le-of-lt, lt-of-lt-of-le, le-trans, le-add-right, le-of-eq, mul-lt-mul-of-pos-left, lt-suc-self}
 use native.Mathlib.Omega.{arith}
 use lib.Arith.{digits-lt}
 use lib.Dec.{leb}
