@@ -32,7 +32,7 @@ returns c =
     let first = second .before .before in
     c .at-most4 .ensures
     ∙ last _ _ _ _ (sym (first .before .at-most .ensures) ∙ first .if1 .taken) (sym (second .before .at-most2 .ensures) ∙ second .if2 .taken)
-        (sym (third .before .at-most3 .ensures) ∙ third .if3 .taken)
+    (sym (third .before .at-most3 .ensures) ∙ third .if3 .taken)
     ∙ read (first .before .before)
 
 returns-2 : tie.Need-returns-2
@@ -41,7 +41,7 @@ returns-2 c =
     let second = c .before .before in
     let first = second .before .before in
     no-third _ _ _ _ (sym (first .before .at-most .ensures) ∙ first .if1 .taken) (sym (second .before .at-most2 .ensures) ∙ second .if2 .taken)
-        (sym (c .before .at-most3 .ensures) ∙ c .if3 .left)
+    (sym (c .before .at-most3 .ensures) ∙ c .if3 .left)
     ∙ read (first .before .before)
 
 returns-3 : tie.Need-returns-3

@@ -108,6 +108,11 @@ pub antimeridian : (a : Arrangement) (k : ℕ) (z : ℤ) → fixCell a k (pos 18
 unfolding fixCell eastOf
 antimeridian a k z = refl
 
+-- and it is refused nothing that -1,800,000,000 is not: no "gap in the track"
+pub antimeridian-taken : (a : Arrangement) (k : ℕ) (z : ℤ) → fixRefusal a k (pos 1800000000) z ≡ fixRefusal a k (negℤ (pos 1800000000)) z
+unfolding fixRefusal inRange
+antimeridian-taken a k z = refl
+
 -- ---- 6 is given exactly for a longitude or a z out of range, where nothing before it is refused
 
 tested : (t : Bool) → T t → t ≡ true
@@ -152,6 +157,18 @@ six-exactly {a} {k} L z v h =
     other-way : (t : Bool) → (t ≡ true → ⊥) → refuse (not t) 6 ≡ 6
     other-way true n = absurd (n refl)
     other-way false n = refl
+
+-- "1,800,000,001 is still refused", and so is the next number past each other end
+pub past-the-ends :
+    {a : Arrangement} {k : ℕ} (L z : ℤ) → IsArrangement a → k ≤ 15 →
+    (fixRefusal a k (pos 1800000001) z ≡ 6) × (fixRefusal a k (negℤ (pos 1800000001)) z ≡ 6)
+    × (fixRefusal a k L (pos 1000000000000000001) ≡ 6) × (fixRefusal a k L (negℤ (pos 1000000000000000001)) ≡ 6)
+past-the-ends L z v h = (
+  six-exactly _ z v h .1 (λ w. w .east .le),
+  six-exactly _ z v h .1 (λ w. w .west .le),
+  six-exactly L _ v h .1 (λ w. w .high .le),
+  six-exactly L _ v h .1 (λ w. w .low .le),
+)
 
 -- ---- the resolutions agree: the cell one resolution coarser is the parent
 
