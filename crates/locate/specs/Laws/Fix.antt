@@ -119,7 +119,7 @@ tested : (t : Bool) → T t → t ≡ true
 tested true h = refl
 tested false h = absurd h
 
-within-range : {L z : ℤ} → InRange L z → inRange L z ≡ true
+pub within-range : {L z : ℤ} → InRange L z → inRange L z ≡ true
 unfolding inRange
 within-range {L} {z} w =
     rw (
@@ -136,7 +136,7 @@ four-tests true true false s e = clash (sym e)
 four-tests true true true false e = clash (sym e)
 four-tests true true true true e = (tt, tt, tt, tt)
 
-range-holds : {L z : ℤ} → inRange L z ≡ true → InRange L z
+pub range-holds : {L z : ℤ} → inRange L z ≡ true → InRange L z
 unfolding inRange
 range-holds {L} {z} e =
     let f = four-tests (leZ (negℤ (pos 1800000000)) L) (leZ L (pos 1800000000)) (leZ (negℤ (pos (10 ^ 18))) z) (leZ z (pos (10 ^ 18))) e in
