@@ -23,7 +23,8 @@ use Rattle.cell.specs.Neighbour.{turnOf}
 use Rattle.root.specs.Floor.{square, atMost, rootFloor}
 use Rattle.root.specs.Laws.Square.{plus-under, plus-not, minus-is, minus-over}
 use Rattle.root.specs.Laws.Floor.{floor-one, floor-below, floor-third'}
-use Rattle.locate.specs.Fix.{Agree, CapPoint, quarter, InRange, inRange, isBelt, eastOf, offsetOf, heightOf, startNorth, startSouth, turnedNorth, turnedSouth, beltCell, capCell, northCell, southCell, fixCell, fixRefusal}
+use Rattle.locate.specs.Fix.{Agree, CapPoint, quarter, InRange, inRange, isBelt, eastOf, offsetOf, heightOf, startNorth}
+use Rattle.locate.specs.Fix.{startSouth, turnedNorth, turnedSouth, beltCell, capCell, northCell, southCell, fixCell, fixRefusal}
 use Rattle.locate.specs.Laws.Part.{part-lt, part-third}
 use Rattle.locate.specs.Internal.RangeLaws.{east-small, offset-small, height-small}
 use Rattle.locate.specs.Laws.Turn.{Spanned, opposite-le, north-within, south-within, start-north, start-south}
