@@ -87,8 +87,9 @@ jgv_vertices_answer jgv_vertices(uint64_t n, uint64_t s, uint64_t code);
 /* The cell of a resolution that owns a point of the plane. Refusals 5, 2, 7. */
 jgv_code jgv_point_code(uint64_t n, uint64_t s, uint64_t resolution, int64_t x, int64_t y);
 
-/* The cell of a resolution in which a fix lies, found with no rounding: a longitude from -1,800,000,000 to 1,799,999,999 in units of 10^-7
- * degree, and z, the sine of the authalic latitude, from -10^18 to 10^18 in units of 10^-18. Refusals 5, 2, 6. */
+/* The cell of a resolution in which a fix lies, found with no rounding: a longitude from -1,800,000,000 to 1,800,000,000 in units of 10^-7
+ * degree, where both ends are the antimeridian and get the same cell, and z, the sine of the authalic latitude, from -10^18 to 10^18 in units
+ * of 10^-18. Refusals 5, 2, 6. */
 jgv_code jgv_fix_code(uint64_t n, uint64_t s, uint64_t resolution, int64_t longitude, int64_t z);
 
 /* The longitude and z of a cell's middle on the ground, each floored to a whole unit: a fix that lies in that cell. Refusals 5, 4. */

@@ -73,6 +73,25 @@ fn numbers(random: &mut Random) {
         neighbour(n, s, code, direction),
     );
     edges(random, n, s, k);
+    ends(random, n, s, k);
+}
+
+/// The ends of the ranges and a unit beside them: the antimeridian by both of its numbers, the belt's borders, the poles.
+fn ends(random: &mut Random, n: u64, s: u64, k: u64) {
+    let heights = [
+        0,
+        666_666_666_666_666_666,
+        880_000_000_000_000_000,
+        1_000_000_000_000_000_000,
+    ];
+    let height = heights[random.below(4) as usize] + random.between(-1, 1);
+    for half_turn in [-1_800_000_000, 1_800_000_000] {
+        let longitude = half_turn + random.between(-1, 1);
+        for z in [height, -height] {
+            let library = jgv_fix_code(n, s, k, longitude, z);
+            same("fix at an end", library, fix_code(n, s, k, longitude, z));
+        }
+    }
 }
 
 /// A hair from an edge of two cells: on the middle line of a triangle and a unit beside it.

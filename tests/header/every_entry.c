@@ -381,10 +381,15 @@ static void fix_code(void) {
     CODE(jgv_fix_code(0, 0, 1, -1350000000, 962962962962962963), code("N4"));
     CODE(jgv_fix_code(0, 0, 1, -1350000000, -962962962962962962), code("S1"));
     CODE(jgv_fix_code(0, 0, 1, -1350000000, -962962962962962963), code("S4"));
+    CODE(jgv_fix_code(0, 0, 1, -1800000000, 0), code("O3"));
+    CODE(jgv_fix_code(0, 0, 1, 1800000000, 0), code("O3")); /* the same meridian */
+    CODE(jgv_fix_code(0, 0, 1, 1799999999, 0), code("R5"));
+    CODE(jgv_fix_code(0, 0, 1, 1800000000, 880000000000000000), code("N6"));
+    CODE(jgv_fix_code(0, 0, 1, 1800000000, -880000000000000000), code("S0"));
 }
 
 static void no_fix_code(void) {
-    NO_CODE(jgv_fix_code(0, 0, 0, 1800000000, 0), 6);
+    NO_CODE(jgv_fix_code(0, 0, 0, 1800000001, 0), 6);
     NO_CODE(jgv_fix_code(0, 0, 0, -1800000001, 0), 6);
     NO_CODE(jgv_fix_code(0, 0, 0, 0, ONE + 1), 6);
     NO_CODE(jgv_fix_code(0, 0, 0, 0, -ONE - 1), 6);

@@ -17,11 +17,12 @@ pub extern "C" fn fix_code(n: u64, s: u64, resolution: u64, longitude: i64, z: i
     if resolution > 15 {
         return Code::refused(2);
     }
-    if !(-1_800_000_000..1_800_000_000).contains(&longitude) || z.unsigned_abs() > ONE {
+    if !(-1_800_000_000..=1_800_000_000).contains(&longitude) || z.unsigned_abs() > ONE {
         return Code::refused(6);
     }
     let east = (longitude + 1_800_000_000) as u64;
-    let (c, a) = (east / QUARTER, east % QUARTER);
+    // 1,800,000,000 is a full turn east, so the same place as -1,800,000,000
+    let (c, a) = (east / QUARTER % 4, east % QUARTER);
     let place = if 3 * z.unsigned_abs() <= 2 * ONE {
         belt(c, a, resolution, z)
     } else if z > 0 {

@@ -13,6 +13,7 @@ use Rattle.code.specs.Code.{cellOf}
 use Rattle.code.specs.Laws.Exact.{NoCell}
 use Rattle.name.specs.Name.{nameOf}
 use Rattle.plane.specs.Plane.{faceSide, half, threeHalves}
+use Rattle.locate.specs.Fix.{InRange}
 use Rattle.reading.specs.Ground.{Apart}
 use Rattle.reading.specs.Text.{heading, Accepted}
 use Rattle.reader.specs.Check.{WrongVersion}
@@ -31,10 +32,6 @@ NoLetter (b ∷ bs) = (b < 78) ⊎ (83 < b)
 -- 3: "later name byte not 0 to 8"
 abbrev pub NoDigit : ℕ → Type 0
 NoDigit b = (b < 48) ⊎ (56 < b)
-
--- 6: "L or z out of range"; "-1,800,000,000 <= L < 1,800,000,000", "z .. from -10^18 to 10^18"
-abbrev pub InRange : (L z : ℤ) → Type 0
-InRange L z = ((negℤ (pos 1800000000) ≤ℤ L) × (L <ℤ pos 1800000000)) × ((negℤ (pos (10 ^ 18)) ≤ℤ z) × (z ≤ℤ pos (10 ^ 18)))
 
 -- 7: "planar point outside the image". "O to R hold the points with 0 <= X < 4M and |Y| <= M/2"
 abbrev pub OnBelt : (x y : ℤ) → Type 0

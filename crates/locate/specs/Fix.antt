@@ -3,7 +3,7 @@ use mathlib.Core.Path.{_≡_}
 use mathlib.Core.Bool.{Bool, _&&_, not, cond}
 use Prim.Native.Nat.{ℕ, zero, suc, _+_, _-_, _*_, _/_, _%_, _^_}
 use lib.IntN.{ℤ, pos, negℤ, natAbs, subℕ, _+ℤ_, _-ℤ_, _*ℤ_}
-use lib.Signed.{leZ, ltZ}
+use lib.Signed.{leZ, ltZ, _≤ℤ_}
 use lib.Dec.{leb, ltb}
 use Rattle.logic.specs.Refusal.{refuse, _otherwise_}
 use Rattle.cell.specs.declared.Cell.{Cell}
@@ -12,14 +12,23 @@ use Rattle.cell.specs.Cell.{arrangementRefusal}
 use Rattle.cell.specs.Neighbour.{belt, turnOf}
 use Rattle.root.specs.Floor.{rootFloor}
 
--- "a longitude L, -1,800,000,000 <= L < 1,800,000,000 .., and z, .. from -10^18 to 10^18"
+-- "a longitude L, -1,800,000,000 <= L < 1,800,000,000 .., and z, .. from -10^18 to 10^18"; and 1,800,000,000 too, since "two receivers report the
+-- antimeridian as +1,800,000,000" (02, W-201)
+pub record InRange (L z : ℤ) : Type 0 where
+  pub west : negℤ (pos 1800000000) ≤ℤ L
+  pub east : L ≤ℤ pos 1800000000
+  pub low : negℤ (pos (10 ^ 18)) ≤ℤ z
+  pub high : z ≤ℤ pos (10 ^ 18)
+
+-- the same as a test (Laws/Fix, `six-exactly`)
 unfoldable pub inRange : (L z : ℤ) → Bool
 inRange L z =
-    (leZ (negℤ (pos 1800000000)) L && ltZ L (pos 1800000000)) && (leZ (negℤ (pos (10 ^ 18))) z && leZ z (pos (10 ^ 18)))
+    (leZ (negℤ (pos 1800000000)) L && leZ L (pos 1800000000)) && (leZ (negℤ (pos (10 ^ 18))) z && leZ z (pos (10 ^ 18)))
 
--- "Let c be the quotient and a the remainder of L + 1,800,000,000 by 900,000,000."
+-- "Let c be the quotient and a the remainder of L + 1,800,000,000 by 900,000,000.": the place of a longitude, modulo a full turn, so that
+-- 1,800,000,000 "is read as -1,800,000,000" (W-201)
 unfoldable pub eastOf : ℤ → ℕ
-eastOf L = natAbs (L +ℤ pos 1800000000)
+eastOf L = natAbs (L +ℤ pos 1800000000) % 3600000000
 
 abbrev pub quarter : ℕ
 quarter = 900000000

@@ -7,7 +7,7 @@ ghost use Rattle.cell.specs.Cell.{IsArrangement, found};
 ghost use Rattle.cell.specs.Neighbour.{turnOf};
 ghost use Rattle.signed.specs.Sign.{withSign};
 ghost use Rattle.root.specs.Floor.{axisOf};
-ghost use Rattle.locate.specs.Fix.{quarter, inRange, offsetOf, beltCell, capCell, fixCell, fixRefusal};
+ghost use Rattle.locate.specs.Fix.{quarter, inRange, eastOf, offsetOf, beltCell, capCell, fixCell, fixRefusal};
 ghost use Rattle.locate.specs.Fix.{turnedNorth};
 ghost use Rattle.locate.specs.Internal.End.{Stands, turnedEnd};
 use cell::Arrangement;
@@ -18,6 +18,8 @@ use ternary::FINEST_ROWS;
 
 // A quarter turn of longitude, the width of a face of O to R.
 const QUARTER: u64 = 900_000_000;
+
+const FULL_TURN: u64 = 3_600_000_000;
 
 // 4 x 10^18 / 3^15 rounded up, and what 3^15 times that is more than 4 x 10^18.
 const STEP: u64 = 278_766_877_506;
@@ -30,12 +32,12 @@ struct End {
     q: Axis,
 }
 
-// "a longitude L, -1,800,000,000 <= L < 1,800,000,000 .., and z, .. from -10^18 to 10^18"
+// A longitude from -1,800,000,000 to 1,800,000,000 (02, W-201), and z from -10^18 to 10^18.
 fn in_range(longitude: i64, z: i64) -> bool
     ensures { λ r. ⌜ r ≡ inRange longitude z ⌝ }
 {
     if signed::at_most(-1_800_000_000, longitude) {
-        if signed::below(longitude, 1_800_000_000) {
+        if signed::at_most(longitude, 1_800_000_000) {
             if signed::at_most(-1_000_000_000_000_000_000, z) {
                 return signed::at_most(z, 1_000_000_000_000_000_000);
             }
@@ -202,6 +204,18 @@ fn cap(face: u64, resolution: u64, m: u64, height: u64, end: End) -> Cell
     }
 }
 
+// How far east of -1,800,000,000 a longitude lies: 1,800,000,000 is a full turn, and the same place.
+fn place_of(longitude: i64, z: i64) -> u64
+    requires { ⌜ inRange longitude z ≡ true ⌝ }
+    ensures { λ r. ⌜ r ≡ eastOf longitude ⌝ }
+{
+    let east = signed::shifted(longitude, 1_800_000_000);
+    if east < FULL_TURN {
+        return east;
+    }
+    east - FULL_TURN
+}
+
 // The cell of a fix in range.
 fn cell_of(arrangement: Arrangement, resolution: u64, longitude: i64, z: i64) -> Cell
     requires { ⌜ IsArrangement arrangement ⌝ }
@@ -210,7 +224,7 @@ fn cell_of(arrangement: Arrangement, resolution: u64, longitude: i64, z: i64) ->
     ensures { λ r. ⌜ r ≡ fixCell arrangement resolution longitude z ⌝ }
 {
     let m = ternary::power(resolution);
-    let east = signed::shifted(longitude, 1_800_000_000);
+    let east = place_of(longitude, z);
     let size = signed::magnitude(z);
     let south = signed::is_negative(z);
     if 3 * size <= 2_000_000_000_000_000_000 {

@@ -1,2 +1,3 @@
 pub mod Nucleus
+pub mod Range
 pub mod Seam

@@ -3,7 +3,7 @@ ghost use mathlib.Core.Path.{_≡_};
 ghost use mathlib.Core.Bool.{true};
 ghost use Prim.Native.Nat.{_<_, _^_};
 ghost use lib.IntN.{pos, negℤ, natAbs, subℕ, _+ℤ_};
-ghost use lib.Signed.{leZ, ltZ};
+ghost use lib.Signed.{leZ};
 ghost use Rattle.signed.specs.Sign.{negative};
 
 // Whether x is below 0.
@@ -18,13 +18,6 @@ pub fn at_most(x: i64, y: i64) -> bool
     ensures { λ r. ⌜ r ≡ leZ x y ⌝ }
 {
     x <= y
-}
-
-// Whether x is below y.
-pub fn below(x: i64, y: i64) -> bool
-    ensures { λ r. ⌜ r ≡ ltZ x y ⌝ }
-{
-    x < y
 }
 
 // x without its sign. -1 - x is taken first, since the least i64 has no opposite.

@@ -10,6 +10,16 @@ use crate::random::{Kind, Random};
 /// The last z of the belt: 3 x 666,666,666,666,666,666 <= 2 x 10^18.
 pub const BELT_END: i64 = 666_666_666_666_666_666;
 
+/// The ends of the range of longitudes, and one unit within and past them.
+pub const LONGITUDE_ENDS: [i64; 6] = [
+    -HALF_TURN - 1,
+    -HALF_TURN,
+    -HALF_TURN + 1,
+    HALF_TURN - 1,
+    HALF_TURN,
+    HALF_TURN + 1,
+];
+
 /// The z of a cap's parallel at h = numerator/divisor, which goes from 0 at the pole to 1 at the
 /// belt: 1 - h h / 3, floored.
 fn z_at(numerator: u128, divisor: u128) -> i64 {
@@ -95,7 +105,9 @@ impl Random {
         let longitude = longitude + self.between(-far, far);
         let z = z + self.between(-1, 1);
         let east = (longitude + HALF_TURN).rem_euclid(4 * QUARTER);
-        (east - HALF_TURN, z.clamp(-ONE, ONE))
+        // the antimeridian by either of its two numbers
+        let turn = if east == 0 { self.below(2) as i64 } else { 0 };
+        (east + turn * 4 * QUARTER - HALF_TURN, z.clamp(-ONE, ONE))
     }
 
     /// At a column's or a row's edge in the belt, or both.
@@ -183,7 +195,7 @@ impl Random {
         let far = [i64::MIN, i64::MIN + 1, i64::MAX, -(1 << 62), 1 << 62];
         if self.chance(2) {
             longitude = match self.below(4) {
-                0 => self.pick(&[-HALF_TURN - 1, HALF_TURN, HALF_TURN + 1, HALF_TURN - 1]),
+                0 => self.pick(&LONGITUDE_ENDS),
                 1 => self.pick(&far),
                 2 => longitude + self.pick(&[1 << 32, -(1 << 32), 1 << 31, 4 * QUARTER]),
                 _ => self.any() as i64,

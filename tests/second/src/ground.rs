@@ -1,4 +1,5 @@
-//! Document 01's "From a fix to a cell": the cell of a fix, and the ground nucleus.
+//! Document 01's "From a fix to a cell": the cell of a fix, and the ground nucleus; with 02's
+//! W-201, by which a longitude may be 1,800,000,000.
 //!
 //! Again a cell is a name. The digits of a row and of a column are found one by one, each the
 //! greatest whose edge isn't past the fix; where a root comes in, that is decided by signs and
@@ -101,10 +102,19 @@ fn cap_cell(north: bool, at: u64, resolution: u64, c: u64, a: i64, z: i64) -> Ve
     name_by_digits(if north { 0 } else { 5 }, &rows, &columns)
 }
 
+/// 02, W-201: 1,800,000,000 "is read as -1,800,000,000, with the same cell".
+fn as_read(longitude: i64) -> i64 {
+    if longitude == HALF_TURN {
+        -HALF_TURN
+    } else {
+        longitude
+    }
+}
+
 /// The name of the cell of a fix.
 pub fn name_of_fix(n: u64, s: u64, resolution: u64, longitude: i64, z: i64) -> Vec<u8> {
     // "Let c be the quotient and a the remainder of L + 1,800,000,000 by 900,000,000."
-    let east = longitude + HALF_TURN;
+    let east = as_read(longitude) + HALF_TURN;
     let (c, a) = ((east / QUARTER) as u64, east % QUARTER);
     if in_belt(z) {
         belt_cell(resolution, c, a, z)
@@ -123,7 +133,7 @@ pub fn fix_code(n: u64, s: u64, resolution: u64, longitude: i64, z: i64) -> Answ
     if resolution > FINEST {
         return Err(2);
     }
-    if !(-HALF_TURN..HALF_TURN).contains(&longitude) || !(-ONE..=ONE).contains(&z) {
+    if !(-HALF_TURN..=HALF_TURN).contains(&longitude) || !(-ONE..=ONE).contains(&z) {
         return Err(6);
     }
     Ok(code_of(&name_of_fix(n, s, resolution, longitude, z)))

@@ -1,4 +1,4 @@
-//! The second program: document 01's rules once more, in plain Rust, written from the papers
+//! The second program: the rules of documents 01 and 02 once more, in plain Rust, written from the papers
 //! alone, so that a mistake has to be made twice to go unseen. The tests compare it with the
 //! proved library, entry by entry. They prove nothing; the library's contracts do that.
 //!

@@ -22,7 +22,7 @@ fn the_sample_text_is_the_second_programs() {
 /// 5 and 2 come before 6, whatever the line is.
 #[test]
 fn a_line_that_is_no_fix() {
-    for line in [&b"x"[..], b"", b"1800000000 0"] {
+    for line in [&b"x"[..], b"", b"1800000001 0"] {
         assert_eq!(line_code(4, 0, 16, line), Err(5));
         assert_eq!(line_code(0, 3, 16, line), Err(2));
         assert_eq!(line_code(0, 3, 15, line), Err(6));
@@ -39,7 +39,8 @@ fn longitudes(flight: &[u8]) -> Vec<i64> {
     lines(flight).iter().map(first).collect()
 }
 
-/// So that the sample shows what it is meant to: both caps, the belt, a seam, the antimeridian.
+/// So that the sample shows what it is meant to: both caps, the belt, a seam, the antimeridian, and
+/// a fix on it as some receivers say it (02, W-201).
 #[test]
 fn the_sample_flies_over_both_caps_the_belt_and_the_seams() {
     let flight = example("flight/flight.txt");
@@ -54,6 +55,7 @@ fn the_sample_flies_over_both_caps_the_belt_and_the_seams() {
     assert!(longitudes.windows(2).any(over_zero), "longitude 0");
     let over_the_end = |pair: &[i64]| near(pair[0], pair[1] + 3_600_000_000);
     assert!(longitudes.windows(2).any(over_the_end), "antimeridian");
+    assert!(longitudes.contains(&1_800_000_000), "1,800,000,000");
 }
 
 /// What the commands of examples/run print, by the second program. They ask for four cells.

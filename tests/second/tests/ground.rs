@@ -120,6 +120,91 @@ mod nuclei {
     }
 }
 
+/// 02, W-201: the longitude 1,800,000,000 is read as -1,800,000,000.
+#[cfg(proved)]
+mod antimeridian {
+    use jeguarivo::Code;
+    use second::compare::say;
+    use second::fixes::{BELT_END, LONGITUDE_ENDS};
+    use second::ground::{self, HALF_TURN, ONE};
+    use second::proved::{self, Like};
+    use second::random::{Kind, Random};
+
+    /// n, s and resolution: all arrangements, all resolutions.
+    fn settings() -> impl Iterator<Item = (u64, u64, u64)> {
+        (0..256).map(|nth| (nth / 64, nth / 16 % 4, nth % 16))
+    }
+
+    /// Poles, both sides of the belt's borders and of an edge in the caps, the equator, out of
+    /// range.
+    fn heights() -> Vec<i64> {
+        let north = [
+            1,
+            BELT_END - 1,
+            BELT_END,
+            BELT_END + 1,
+            880_000_000_000_000_000,
+            962_962_962_962_962_962,
+            962_962_962_962_962_963,
+            ONE - 1,
+            ONE,
+            ONE + 1,
+        ];
+        let south = north.iter().map(|z| -z);
+        north.into_iter().chain([0]).chain(south).collect()
+    }
+
+    /// Both programs give the same answers, and refuse with 6 exactly out of range.
+    #[test]
+    fn ends_of_the_range() {
+        let mut answers = [0, 0];
+        for (n, s, k) in settings() {
+            for longitude in LONGITUDE_ENDS {
+                for z in heights() {
+                    let place = format!("{n} {s} {k} {longitude} {z}");
+                    let found = proved::fix_code(n, s, k, longitude, z);
+                    let wanted = Code::like(ground::fix_code(n, s, k, longitude, z));
+                    assert_eq!(found, wanted, "{place}");
+                    let good = longitude.abs() <= HALF_TURN && z.abs() <= ONE;
+                    assert_eq!(found.refusal, if good { 0 } else { 6 }, "{place}");
+                    answers[usize::from(good)] += 1;
+                }
+            }
+        }
+        let [refused, accepted] = answers;
+        say(&format!(
+            "ends of the range: accepted {accepted}, refused {refused}"
+        ));
+    }
+
+    /// Checks one z, by both programs.
+    fn one_place(n: u64, s: u64, k: u64, z: i64) {
+        let cell = proved::fix_code(n, s, k, HALF_TURN, z);
+        let place = format!("{n} {s} {k} {z}");
+        assert_eq!(cell.refusal, 0, "{place}");
+        assert_eq!(cell, proved::fix_code(n, s, k, -HALF_TURN, z), "{place}");
+        let second = ground::fix_code(n, s, k, HALF_TURN, z);
+        assert_eq!(second, Ok(cell.code), "{place}");
+        let west = ground::fix_code(n, s, k, -HALF_TURN, z);
+        assert_eq!(second, west, "{place}");
+    }
+
+    #[test]
+    fn two_numbers_for_one_place() {
+        let mut random = Random::for_test("two_numbers_for_one_place");
+        let mut fixes = 0;
+        for (n, s, k) in settings() {
+            for _ in 0..600 {
+                let kind = random.pick(&[Kind::Random, Kind::Border]);
+                let (_, z) = random.fix(kind, n, s, k);
+                one_place(n, s, k, z);
+                fixes += 1;
+            }
+        }
+        say(&format!("antimeridian: {fixes} fixes"));
+    }
+}
+
 /// Values that 01 prints and positions a hair from an edge, from both programs.
 #[cfg(proved)]
 mod printed {
@@ -144,7 +229,7 @@ mod printed {
         let (west, z) = (-1_350_000_000, 666_666_666_666_666_666);
         is(0, 0, 2, 0, 0, "Q33");
         let any = 123_456_789;
-        for longitude in [-HALF_TURN, west, -1, 0, 1, any, QUARTER, HALF_TURN - 1] {
+        for longitude in [-HALF_TURN, west, -1, 0, 1, any, QUARTER, HALF_TURN] {
             is(0, 0, 1, longitude, ONE, "N4");
         }
         is(0, 0, 1, west, z, "O1");

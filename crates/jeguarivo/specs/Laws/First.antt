@@ -28,7 +28,8 @@ use Rattle.code.specs.Laws.Code.{code-is-cell, code-cell}
 use Rattle.code.specs.Laws.Exact.{NoCell, no-cell, some-cell}
 use Rattle.name.specs.Name.{nameOf, firstLetter, isDigit, allDigits, nameRefusal, nameCode, codeNameRefusal, named}
 use Rattle.plane.specs.Plane.{squareOf, nucleusOf, verticesOf, pointRefusal, pointCell, inImage, inBelt, inNorth, inSouth, faceSide, half, threeHalves}
-use Rattle.locate.specs.Fix.{fixRefusal, fixCell, inRange}
+use Rattle.locate.specs.Fix.{InRange, fixRefusal, fixCell, inRange}
+use Rattle.locate.specs.Laws.Fix.{within-range, range-holds}
 use Rattle.reading.specs.Ground.{Apart, Rising}
 use Rattle.reading.specs.Text.{heading, ReadsAs, Accepted}
 use Rattle.reading.specs.TextReading.{nodesOf, northOf, southOf, isText}
@@ -50,7 +51,7 @@ use Rattle.jeguarivo.specs.Entries.{cellNucleus, cellVertices, groundFix
 use Rattle.jeguarivo.specs.Texts.{checkNumbers, listNumbers, askNumbers, writtenNumbers}
 use Rattle.jeguarivo.specs.Order.{Chain, NoneOf, FirstOf}
 use Rattle.jeguarivo.specs.Laws.Order.{Decides, last, then, twice, lt-decides, le-decides, eq-decides, ltZ-decides, leZ-decides, not-decides, and-decides, or-decides}
-use Rattle.jeguarivo.specs.Refusals.{NoLetter, NoDigit, InRange, OnImage, arrangementTests, codeTests, textTests, cellTests, nameTests, codeNameTests}
+use Rattle.jeguarivo.specs.Refusals.{NoLetter, NoDigit, OnImage, arrangementTests, codeTests, textTests, cellTests, nameTests, codeNameTests}
 use Rattle.jeguarivo.specs.Refusals.{parentTests, childTests, pointTests, fixTests, neighbourTests, placedTests, listTests, askTests, writeTests}
 
 -- ---- what the tests decide
@@ -165,10 +166,7 @@ point-code-first n s k x y =
 
 -- jgv_fix_code
 range : (L z : ℤ) → Decides (inRange L z) (InRange L z)
-unfolding inRange
-range L z =
-    and-decides (and-decides (leZ-decides (negℤ (pos 1800000000)) L) (ltZ-decides L (pos 1800000000)))
-    (and-decides (leZ-decides (negℤ (pos (10 ^ 18))) z) (leZ-decides z (pos (10 ^ 18))))
+range L z = record { holds = range-holds; fails = λ e w. clash (sym (within-range w) ∙ e) }
 
 pub fix-code-first : (n s k : ℕ) (L z : ℤ) → FirstOf (fixTests n s k L z) (fixCode n s k L z .refusal)
 unfolding fixCode fixRefusal

@@ -22,11 +22,12 @@ use Rattle.reader.specs.Check.{WrongVersion, checkedOf}
 use Rattle.listing.specs.List.{listingRefusal, listed, codesOf}
 use Rattle.asking.specs.Ask.{askRefusal, asked}
 use Rattle.writing.specs.Write.{writeRefusal, textOf, written}
+use Rattle.locate.specs.Fix.{InRange}
 use Rattle.jeguarivo.specs.Entries.{arrangement, cellCode, nameAnswer, parentCode, childCode, pointCode, fixCode, neighbourCode, codeCell, writtenName, cellSquare}
 use Rattle.jeguarivo.specs.Texts.{checkNumbers, listNumbers, askNumbers, writtenNumbers}
 use Rattle.jeguarivo.specs.Order.{order, orderInWriting, numbers, inOrder, NoneOf}
 use Rattle.jeguarivo.specs.Laws.Order.{given-exactly, none-exactly}
-use Rattle.jeguarivo.specs.Refusals.{NoLetter, NoDigit, InRange, OnImage, codeTests, textTests, cellTests, nameTests, codeNameTests, parentTests, childTests}
+use Rattle.jeguarivo.specs.Refusals.{NoLetter, NoDigit, OnImage, codeTests, textTests, cellTests, nameTests, codeNameTests, parentTests, childTests}
 use Rattle.jeguarivo.specs.Refusals.{pointTests, fixTests, neighbourTests, placedTests, listTests, askTests, writeTests}
 use Rattle.jeguarivo.specs.Laws.First.{name-refusal, cell-code-first, name-code-first, point-code-first, fix-code-first, neighbour-first, parent-first}
 use Rattle.jeguarivo.specs.Laws.First.{child-first, code-cell-first, code-name-first, square-first, check-first, list-first, ask-first, write-first}

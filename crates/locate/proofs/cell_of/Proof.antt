@@ -8,23 +8,22 @@ use lib.IntN.{ℤ, natAbs}
 use Rattle.cell.specs.declared.Arrangement.{Arrangement}
 use Rattle.signed.specs.Sign.{negative, withSign}
 use Rattle.signed.specs.Laws.Sign.{back, below-zero, sign-and-size}
-use Rattle.locate.specs.Fix.{isBelt, eastOf, offsetOf, heightOf, beltCell, capCell, northCell, southCell, fixCell}
+use Rattle.locate.specs.Fix.{inRange, isBelt, eastOf, offsetOf, heightOf, beltCell, capCell, northCell, southCell, fixCell}
 use Rattle.locate.specs.Internal.End.{turnedEnd}
 use Rattle.locate.specs.Laws.Fix.{fix-belt, fix-south, fix-north}
-use Rattle.locate.specs.Internal.RangeLaws.{longitude-low, east-small, z-small, belt-at, cap-at, offset-small}
+use Rattle.locate.specs.Internal.RangeLaws.{east-small, z-small, belt-at, cap-at, offset-small}
 use Rattle.locate.proofs.Laws.{stands-cell}
 use Rattle.locate.proofs.cell_of.Statement.{statement}
 use Rattle.locate.proofs.cell_of.Tie as tie
 
 -- ---- what the calls give, of the fix itself
 
-module _ (c : tie.After-shifted) where
-  east-is : c .shifted .result ≡ eastOf (c .before .before .args .longitude)
-  unfolding eastOf
-  east-is = c .shifted .ensures ∙ ap eastOf (back (c .before .before .fits .longitude))
+module _ (c : tie.After-place-of) where
+  east-is : c .place-of .result ≡ eastOf (c .before .before .args .longitude)
+  east-is = c .place-of .ensures ∙ ap eastOf (back (c .before .before .fits .longitude))
 
-  east-lt : c .shifted .result < 3600000000
-  east-lt = let s = c .before .before in rw east-is (east-small (s .args .longitude) (s .args .z) (s .pre .1 .1))
+  east-lt : c .place-of .result < 3600000000
+  east-lt = rw east-is (east-small (c .before .before .args .longitude))
 
 module _ (c : tie.After-magnitude) where
   size-is : c .magnitude .result ≡ natAbs (c .before .before .before .args .z)
@@ -64,10 +63,8 @@ cap-cell a k L z false s e h o = ap₂ (northCell (a .north) k) e h ∙ sym (fix
 power-requires : tie.Need-power-requires
 power-requires c κs = search needs
 
-shifted-requires : tie.Need-shifted-requires
-shifted-requires c κs =
-    let s = c .before in
-    rw (back (s .fits .longitude)) (omega arith, longitude-low (s .args .longitude) (s .args .z) (s .pre .1 .1))
+place-of-requires : tie.Need-place-of-requires
+place-of-requires c κs = let s = c .before in ap₂ inRange (back (s .fits .longitude)) (back (s .fits .z)) ∙ s .pre .1 .1
 
 magnitude-requires : tie.Need-magnitude-requires
 magnitude-requires c κs = search needs
@@ -122,7 +119,7 @@ returns-2 c =
     let t : ℕ = 3 * (10 ^ 18 - m .magnitude .result) in
     c .cap .ensures
     ∙ stands-cell (f .cap-face .result) (a .resolution) t _ _ (x .end-of .ensures)
-    ∙ ap (λ (y : ℕ). capCell y (a .resolution) t (turnedEnd (a .arrangement) south (e .shifted .result))) (f .cap-face .ensures)
+    ∙ ap (λ (y : ℕ). capCell y (a .resolution) t (turnedEnd (a .arrangement) south (e .place-of .result))) (f .cap-face .ensures)
     ∙ cap-cell (a .arrangement) (a .resolution) (a .longitude) (a .z) south (sign-is n) (east-is e) (height-is m) (belt-not (x .before))
 
 pub cell-of-spec : {M : Type 1} → statement M
@@ -130,7 +127,7 @@ cell-of-spec =
     tie.close
     (tie.spec
     power-requires
-    shifted-requires
+    place-of-requires
     magnitude-requires
     is-negative-requires
     mul-if1

@@ -4,34 +4,38 @@ use mathlib.Core.Bool.{Bool, true, false, _&&_}
 use Prim.Native.Nat.{ℕ, zero, suc, _+_, _-_, _*_, _^_, _≤_, _<_}
 use native.Mathlib.Omega.{arith}
 use lib.IntN.{ℤ, pos, negsuc, negℤ, natAbs, negℤ-negℤ, _+ℤ_}
-use lib.Signed.{leZ, ltZ}
-use borrow.Author.Tests.{leb-true, leb-false, ltb-true, le-leb, lt-leb}
+use lib.Signed.{leZ}
+use borrow.Author.Tests.{leb-true, leb-false, le-leb, lt-leb}
 use Rattle.logic.specs.Laws.Bools.{and-left, and-right}
 use Rattle.signed.specs.Sign.{negative, withSign}
 use Rattle.signed.specs.Laws.Sign.{sub-at, size-between, minus-plain, sign-and-size}
 use Rattle.locate.specs.Fix.{inRange, eastOf, isBelt, offsetOf, heightOf}
 
-east-below : (L : ℤ) → leZ (negℤ (pos 1800000000)) L ≡ true → ltZ L (pos 1800000000) ≡ true → eastOf L < 3600000000
+pub east-small : (L : ℤ) → eastOf L < 3600000000
 unfolding eastOf
-east-below (pos a) l h = let k : a < 1800000000 = ltb-true a 1800000000 h in omega arith
-east-below (negsuc a) l h = let k : a ≤ 1799999999 = leb-true a 1799999999 l in rw (sub-at 1800000000 (suc a) (omega arith)) (omega arith)
+east-small L = omega arith
+
+-- before the full turn is taken off
+shifted-most : (L : ℤ) → leZ (negℤ (pos 1800000000)) L ≡ true → leZ L (pos 1800000000) ≡ true → natAbs (L +ℤ pos 1800000000) ≤ 3600000000
+shifted-most (pos a) l h = let k : a ≤ 1800000000 = leb-true a 1800000000 h in omega arith
+shifted-most (negsuc a) l h = let k : a ≤ 1799999999 = leb-true a 1799999999 l in rw (sub-at 1800000000 (suc a) (omega arith)) (omega arith)
 
 module _ (L z : ℤ) (r : inRange L z ≡ true) where
   pub longitude-low : leZ (negℤ (pos 1800000000)) L ≡ true
   unfolding inRange
   longitude-low = and-left _ _ (and-left _ _ r)
 
-  longitude-high : ltZ L (pos 1800000000) ≡ true
+  longitude-high : leZ L (pos 1800000000) ≡ true
   unfolding inRange
   longitude-high = and-right (leZ (negℤ (pos 1800000000)) L) _ (and-left _ _ r)
 
-  pub east-small : eastOf L < 3600000000
-  east-small = east-below L longitude-low longitude-high
+  pub shifted-small : natAbs (L +ℤ pos 1800000000) ≤ 3600000000
+  shifted-small = shifted-most L longitude-low longitude-high
 
   pub z-small : natAbs z ≤ 10 ^ 18
   unfolding inRange
   z-small =
-      let t = and-right (leZ (negℤ (pos 1800000000)) L && ltZ L (pos 1800000000)) _ r in
+      let t = and-right (leZ (negℤ (pos 1800000000)) L && leZ L (pos 1800000000)) _ r in
       size-between z (10 ^ 18) (and-left _ _ t) (and-right (leZ (negℤ (pos (10 ^ 18))) z) _ t)
 
 -- ---- the belt: 2 x 10^18 - 3z, by z's sign and size

@@ -1,27 +1,30 @@
 -- What 01 "From a fix to a cell" says of the cell of a fix, for every arrangement and every resolution. Assumes nothing.
 use mathlib.Core.Path.{_≡_, refl, sym, ap, _∙_}
-use mathlib.Core.Bool.{Bool, true, false, not, cond}
+use mathlib.Core.Logic.{_↔_}
+use mathlib.Core.Bool.{Bool, true, false, _&&_, not, cond}
 use Prim.Native.Nat.{ℕ, zero, suc, _+_, _-_, _*_, _/_, _%_, _^_, _≤_, _<_}
 use native.Mathlib.Nat.{pow-suc, mul-zero, mul-pos, mul-assoc, mul-comm, mul-left-comm, div-one, div-div-eq-div-mul}
 use native.Mathlib.Omega.{arith}
 use lib.Arith.{digits-div}
-use lib.Dec.{lit<}
+use lib.Dec.{T, lit<}
 use lib.IntN.{ℤ, pos, negsuc, negℤ, natAbs}
-use lib.Signed.{ltZ}
-use borrow.Author.Tests.{ltb-false}
-use Rattle.logic.specs.Laws.Bools.{by-cond}
-use Rattle.logic.specs.Laws.Refusal.{both, allowed}
+use lib.Signed.{leZ, ltZ}
+use borrow.Author.Tests.{ltb-false, le-ltb}
+use Rattle.logic.specs.Refusal.{refuse}
+use Rattle.logic.specs.Laws.Bools.{by-cond, clash}
+use Rattle.logic.specs.Laws.Refusal.{passes, both, allowed}
 use Rattle.ternary.specs.Laws.Powers.{next-power, power-pos}
 use Rattle.cell.specs.declared.Cell.{Cell}
 use Rattle.cell.specs.declared.Arrangement.{Arrangement}
 use Rattle.cell.specs.Cell.{IsCell, IsArrangement}
-use Rattle.cell.specs.Laws.Cell.{is-arrangement}
+use Rattle.cell.specs.Laws.Cell.{is-arrangement, arrangement-is}
 use Rattle.cell.specs.Hierarchy.{parentOf}
 use Rattle.cell.specs.Neighbour.{turnOf}
 use Rattle.root.specs.Floor.{square, atMost, rootFloor}
 use Rattle.root.specs.Laws.Square.{plus-under, plus-not, minus-is, minus-over}
 use Rattle.root.specs.Laws.Floor.{floor-one, floor-below, floor-third'}
-use Rattle.locate.specs.Fix.{Agree, CapPoint, quarter, inRange, isBelt, eastOf, offsetOf, heightOf, startNorth, startSouth, turnedNorth, turnedSouth, beltCell, capCell, northCell, southCell, fixCell, fixRefusal}
+use Rattle.locate.specs.Fix.{Agree, CapPoint, quarter, InRange, inRange, isBelt, eastOf, offsetOf, heightOf, startNorth}
+use Rattle.locate.specs.Fix.{startSouth, turnedNorth, turnedSouth, beltCell, capCell, northCell, southCell, fixCell, fixRefusal}
 use Rattle.locate.specs.Laws.Part.{part-lt, part-third}
 use Rattle.locate.specs.Internal.RangeLaws.{east-small, offset-small, height-small}
 use Rattle.locate.specs.Laws.Turn.{Spanned, opposite-le, north-within, south-within, start-north, start-south}
@@ -82,7 +85,7 @@ pub fix-is-cell : {a : Arrangement} {k : ℕ} (L z : ℤ) → IsArrangement a �
 unfolding fixCell
 fix-is-cell {a} {k} L z v h r =
     by-cond IsCell (isBelt z)
-    (λ e. belt-is-cell k (eastOf L) (offsetOf z) h (east-small L z r) (offset-small z e))
+    (λ e. belt-is-cell k (eastOf L) (offsetOf z) h (east-small L) (offset-small z e))
     (λ e.
     by-cond IsCell (ltZ z (pos 0))
     (λ f. cap-is-cell 5 k (heightOf z) _ (omega arith) h (height-small z e) (south-point (a .south) (eastOf L)))
@@ -99,6 +102,74 @@ fix-allowed a k L z e =
     in-range : (t : Bool) → not t ≡ false → t ≡ true
     in-range true e = refl
     in-range false e = sym e
+
+-- ---- the antimeridian: "this one longitude is read as -1,800,000,000, with the same cell" (02, W-201)
+
+pub antimeridian : (a : Arrangement) (k : ℕ) (z : ℤ) → fixCell a k (pos 1800000000) z ≡ fixCell a k (negℤ (pos 1800000000)) z
+unfolding fixCell eastOf
+antimeridian a k z = refl
+
+-- and it is refused nothing that -1,800,000,000 is not: no "gap in the track"
+pub antimeridian-taken : (a : Arrangement) (k : ℕ) (z : ℤ) → fixRefusal a k (pos 1800000000) z ≡ fixRefusal a k (negℤ (pos 1800000000)) z
+unfolding fixRefusal inRange
+antimeridian-taken a k z = refl
+
+-- ---- 6 is given exactly for a longitude or a z out of range, where nothing before it is refused
+
+tested : (t : Bool) → T t → t ≡ true
+tested true h = refl
+tested false h = absurd h
+
+pub within-range : {L z : ℤ} → InRange L z → inRange L z ≡ true
+unfolding inRange
+within-range {L} {z} w =
+    rw (
+      tested (leZ (negℤ (pos 1800000000)) L) (w .west .le),
+      tested (leZ L (pos 1800000000)) (w .east .le),
+      tested (leZ (negℤ (pos (10 ^ 18))) z) (w .low .le),
+      tested (leZ z (pos (10 ^ 18))) (w .high .le),
+    )
+
+four-tests : (p q r s : Bool) → ((p && q) && (r && s)) ≡ true → T p × T q × T r × T s
+four-tests false q r s e = clash (sym e)
+four-tests true false r s e = clash (sym e)
+four-tests true true false s e = clash (sym e)
+four-tests true true true false e = clash (sym e)
+four-tests true true true true e = (tt, tt, tt, tt)
+
+pub range-holds : {L z : ℤ} → inRange L z ≡ true → InRange L z
+unfolding inRange
+range-holds {L} {z} e =
+    let f = four-tests (leZ (negℤ (pos 1800000000)) L) (leZ L (pos 1800000000)) (leZ (negℤ (pos (10 ^ 18))) z) (leZ z (pos (10 ^ 18))) e in
+    record { west = record { le = f .0 }; east = record { le = f .1 }; low = record { le = f .2 }; high = record { le = f .3 } }
+
+pub six-exactly : {a : Arrangement} {k : ℕ} (L z : ℤ) → IsArrangement a → k ≤ 15 → (fixRefusal a k L z ≡ 6) ↔ (InRange L z → ⊥)
+unfolding fixRefusal
+six-exactly {a} {k} L z v h =
+    let e : fixRefusal a k L z ≡ refuse (not (inRange L z)) 6 = passes _ (arrangement-is v) ∙ passes _ (ap (λ (t : Bool). refuse t 2) (le-ltb 15 k h)) in (
+      (λ s w. one-way (inRange L z) (sym e ∙ s) (within-range w)),
+      (λ n. e ∙ other-way (inRange L z) (λ w. n (range-holds w))),
+    )
+  where
+    one-way : (t : Bool) → refuse (not t) 6 ≡ 6 → t ≡ true → ⊥
+    one-way true s w = omega arith
+    one-way false s w = clash (sym w)
+
+    other-way : (t : Bool) → (t ≡ true → ⊥) → refuse (not t) 6 ≡ 6
+    other-way true n = absurd (n refl)
+    other-way false n = refl
+
+-- "1,800,000,001 is still refused", and so is the next number past each other end
+pub past-the-ends :
+    {a : Arrangement} {k : ℕ} (L z : ℤ) → IsArrangement a → k ≤ 15 →
+    (fixRefusal a k (pos 1800000001) z ≡ 6) × (fixRefusal a k (negℤ (pos 1800000001)) z ≡ 6)
+    × (fixRefusal a k L (pos 1000000000000000001) ≡ 6) × (fixRefusal a k L (negℤ (pos 1000000000000000001)) ≡ 6)
+past-the-ends L z v h = (
+  six-exactly _ z v h .1 (λ w. w .east .le),
+  six-exactly _ z v h .1 (λ w. w .west .le),
+  six-exactly L _ v h .1 (λ w. w .high .le),
+  six-exactly L _ v h .1 (λ w. w .low .le),
+)
 
 -- ---- the resolutions agree: the cell one resolution coarser is the parent
 

@@ -9,7 +9,7 @@ use native.Mathlib.Omega.{arith}
 use lib.Dec.{T, le→leb, lt→ltb}
 use lib.IntN.{ℤ, pos, negsuc, negℤ, natAbs, subℕ, _+ℤ_, _-ℤ_, _*ℤ_}
 use lib.Signed.{leZ, ltZ, _≤ℤ_, _<ℤ_}
-use borrow.Author.Tests.{leb-true}
+use borrow.Author.Tests.{leb-true, ltb-true}
 use Rattle.ternary.specs.Laws.Powers.{power-pos}
 use Rattle.signed.specs.Laws.Sign.{pos-sub, negsuc-sub, sub-at, sub-same, sub-le, sub-lt, sub-sub, minus-plain}
 use Rattle.signed.specs.Laws.Times.{sub-times}
@@ -90,14 +90,15 @@ module _ (k n d : ℕ) (g : k ≤ 15) (p : 0 < d) where
       let s = mul-comm d (sideOf k) in
       omega (arith, scaled)
 
--- L + 1,800,000,000 is not negative
-east-is : (L : ℤ) → leZ (negℤ (pos 1800000000)) L ≡ true → L +ℤ pos 1800000000 ≡ pos (eastOf L)
+-- L + 1,800,000,000 is not negative, and below a full turn
+east-is : (L : ℤ) → leZ (negℤ (pos 1800000000)) L ≡ true → ltZ L (pos 1800000000) ≡ true → L +ℤ pos 1800000000 ≡ pos (eastOf L)
 unfolding eastOf
-east-is (pos a) l = refl
-east-is (negsuc a) l =
-    let h : a ≤ 1799999999 = leb-true a 1799999999 l in
+east-is (pos a) l h = let k : a < 1800000000 = ltb-true a 1800000000 h in ap pos (omega arith)
+east-is (negsuc a) l h =
+    let k : a ≤ 1799999999 = leb-true a 1799999999 l in
     let e = sub-at 1800000000 (suc a) (omega arith) in
-    e ∙ ap (λ (x : ℤ). pos (natAbs x)) (sym e)
+    let m : 1800000000 - suc a ≡ (1800000000 - suc a) % 3600000000 = omega arith in
+    e ∙ ap pos m ∙ ap (λ (x : ℤ). pos (natAbs x % 3600000000)) (sym e)
 
 -- z is a difference, and 2 x 10^18 - 3z is the offset
 offset-is : (z : ℤ) → isBelt z ≡ true → (p : ℕ) × (q : ℕ) × (z ≡ subℕ p q) × (offsetOf z + 3 * p ≡ 2 * 10 ^ 18 + 3 * q)
@@ -119,25 +120,28 @@ module _ (a : Arrangement) (k : ℕ) (L z : ℤ) (g : k ≤ 15) where
   depth-there l =
       ap (λ (x : ℕ). x + 3 ^ k * offsetOf z / (4 * 10 ^ 18) * sideOf k) (depth-belt {f = belt (eastOf L / quarter)} (eastOf L / quarter) (omega arith) refl)
 
-  in-belt-there : inRange L z ≡ true → isBelt z ≡ true → HeldInBelt a inThere L z
+  in-belt-there : inRange L z ≡ true → ltZ L (pos 1800000000) ≡ true → isBelt z ≡ true → HeldInBelt a inThere L z
   unfolding beltCell
-  in-belt-there r b =
+  in-belt-there r w b =
       let E : ℕ = eastOf L in
-      let l : E < 3600000000 = east-small L z r in
+      let l : E < 3600000000 = east-small L in
       let f = left-there l in
       let t = depth-there l in
-      let x = east-is L (longitude-low L z r) in
+      let x = east-is L (longitude-low L z r) w in
       let o = offset-is z b in
       let p : ℕ = o .0 in
       let q : ℕ = o .1 in
       let h = part-low k (E % quarter) quarter g (omega arith) in
       let i = part-high k (E % quarter) quarter g (omega arith) in
       let u = part-low k (offsetOf z) (4 * 10 ^ 18) g (omega arith) in
-      let w = part-high k (offsetOf z) (4 * 10 ^ 18) g (omega arith) in
+      let v = part-high k (offsetOf z) (4 * 10 ^ 18) g (omega arith) in
       held a inThere L z E p q x (o .2) (omega arith) (omega arith) (omega (arith, o .3)) (omega (arith, o .3))
 
-pub held-in-belt : (a : Arrangement) (k : ℕ) (L z : ℤ) → k ≤ 15 → inRange L z ≡ true → isBelt z ≡ true → HeldInBelt a (fixCell a k L z) L z
-held-in-belt a k L z g r b = subst (λ (c : Cell). HeldInBelt a c L z) (sym (fix-belt a k L z b)) (in-belt-there a k L z g r b)
+-- of every longitude but 1,800,000,000, whose cell is that of -1,800,000,000 (Laws/Fix, `antimeridian`)
+pub held-in-belt :
+    (a : Arrangement) (k : ℕ) (L z : ℤ) → k ≤ 15 → inRange L z ≡ true → ltZ L (pos 1800000000) ≡ true → isBelt z ≡ true →
+    HeldInBelt a (fixCell a k L z) L z
+held-in-belt a k L z g r w b = subst (λ (c : Cell). HeldInBelt a c L z) (sym (fix-belt a k L z b)) (in-belt-there a k L z g r w b)
 
 -- ---- the caps: with h = √t / 10^9 the end (p, q) lies M p h / 1,800,000,000 right of the middle of the cap and M q h / 1,800,000,000 above it
 

@@ -79,7 +79,7 @@ belt-again a {c} b v hb hf =
     let p : Placed m (c .row) z = placed m (c .row) m0 hm (v .rowed) z (floored (2000000000000000000 * m) (2000000000000000000 * (2 * c .row + 1)) (3 * m) (omega arith)) in (
       in-range x z (omega arith) (omega (arith, p .belt)),
       fix-belt a (c .resolution) (subℕ x 1800000000) z (in-belt-is z (p .belt))
-          ∙ ap (λ (e : ℕ). beltCell (c .resolution) e (offsetOf z)) (east-back x)
+          ∙ ap (λ (e : ℕ). beltCell (c .resolution) e (offsetOf z)) (east-back x (omega arith))
           ∙ (λ i. record {
             face = (ap belt (digits-div b sl) ∙ sym hf) i;
             resolution = c .resolution;

@@ -145,7 +145,8 @@ cap-again south a {c} r h e hn v hf s =
     subst (λ (u : ℤ). Names a c (subℕ x 1800000000) u) (sym (t .1)) (
       in-range x z (omega arith) (omega (arith, t .2 .within)),
       fix-cap south a k (subℕ x 1800000000) z (outside-is z (omega arith)) (sided-sign south w (omega arith) .0)
-          ∙ ap₂ (λ (l y : ℕ). capCell (capFace south) k (3 * (1000000000000000000 - l)) (seen south (turnedNorth (turnOf (y / quarter) n) (startNorth (y % quarter))))) size (east-back x)
+          ∙ ap₂ (λ (l y : ℕ). capCell (capFace south) k (3 * (1000000000000000000 - l)) (seen south (turnedNorth (turnOf (y / quarter) n) (startNorth (y % quarter))))) size
+          (east-back x (omega arith))
           ∙ ap₂ (λ (j y : ℕ). capCell (capFace south) k (3 * (1000000000000000000 - w)) (seen south (turnedNorth j (startNorth y))))
           (ap (λ (y : ℕ). turnOf y n) (digits-div f dl) ∙ turn-of-face n r hn (s .few)) (digits-mod f dl)
           ∙ ap (λ (y : ℕ). capCell y k (3 * (1000000000000000000 - w)) (seen south (turnedNorth r (startNorth d)))) (sym hf)
