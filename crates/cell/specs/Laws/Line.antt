@@ -2,6 +2,7 @@
 use mathlib.Core.Path.{_≡_, refl, sym, ap, subst, _∙_}
 use Prim.Native.Nat.{ℕ, zero, suc, _+_, _-_, _^_, _≤_, _<_}
 use native.Mathlib.Omega.{arith}
+use Rattle.cell.specs.declared.Cell.{Cell}
 use Rattle.cell.specs.declared.Arrangement.{Arrangement}
 use Rattle.cell.specs.Cell.{IsCell, IsArrangement}
 use Rattle.cell.specs.Neighbour.{rows, neighbourOf, backOf}
@@ -10,6 +11,10 @@ use Rattle.cell.specs.Laws.Neighbour.{neighbour-is-cell, neighbour-resol
 use Rattle.cell.specs.Internal.Faces.{IsWay, way}
 use Rattle.cell.specs.Internal.Crossing.{leftOf, behindOf, seen, left-small, behind-small, opposite-twice}
 use Rattle.cell.specs.Internal.Course.{on, round-on, apart-on}
+
+-- "from any cell, in any direction"
+pub any-heading : (c : Cell) (d : ℕ) → IsCell c → d < 4 → IsHeading (record { cell = c; direction = d })
+any-heading c d v l = record { cell = v; direction = l }
 
 module _ {a : Arrangement} (ok : IsArrangement a) where
   -- "leaving each by the edge opposite the one they entered by": that edge leads back to the cell that was left, and it is the only one
@@ -42,6 +47,13 @@ module _ {a : Arrangement} (ok : IsArrangement a) where
   unfolding line
   line-resolution h zero = refl
   line-resolution h (suc n) = neighbour-resolution a _ _ ∙ line-resolution h n
+
+  -- each move is to the neighbour in the direction in which the cell is left, and the next is left by the edge opposite the one it was entered by
+  pub line-move :
+      {h : Heading} (n : ℕ) → IsHeading h →
+      (line a h (suc n) .cell ≡ neighbourOf a (line a h n .cell) (line a h n .direction)) × Entered a (line a h n) (opposite (line a h (suc n) .direction))
+  unfolding line
+  line-move n v = (refl, entered (line-heading n v))
 
   module _ {h : Heading} (v : IsHeading h) where
     stands :
@@ -101,3 +113,7 @@ module _ {a : Arrangement} (ok : IsArrangement a) where
   line-reversed {h} i v l =
       let e : i + (lineLength h - i) ≡ lineLength h = omega arith in
       ap (λ (x : Heading). line a (reversed x) i) (sym (line-again v) ∙ ap (line a h) (sym e)) ∙ return i (lineLength h - i) v
+
+  -- of the cells alone
+  pub same-cells : {h : Heading} (i : ℕ) → IsHeading h → i ≤ lineLength h → line a (reversed h) i .cell ≡ line a h (lineLength h - i) .cell
+  same-cells i v l = ap (λ (x : Heading). x .cell) (line-reversed i v l)
