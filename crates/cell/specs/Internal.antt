@@ -1,2 +1,5 @@
+pub mod Course
+pub mod Crossing
+pub mod Faces
 pub mod Seams
 pub mod Towards

@@ -28,7 +28,7 @@ pub record Leads (a : Arrangement) (c : Cell) (d : ℕ) (x : Cell) (e : ℕ) : T
   pub there : neighbourOf a c d ≡ x
   pub back : backOf a c d ≡ e
 
-leads-inside : (a : Arrangement) (c : Cell) (d : ℕ) → leaves c d ≡ false → Leads a c d (withinFace c d) ((d + 2) % 4)
+pub leads-inside : (a : Arrangement) (c : Cell) (d : ℕ) → leaves c d ≡ false → Leads a c d (withinFace c d) ((d + 2) % 4)
 unfolding backOf
 leads-inside a c d h = record { there = step-within a c d h; back = rw h }
 
@@ -54,7 +54,7 @@ leads-belt a c d b l z h =
     let r : belt b - 1 ≡ b = omega arith in
     record { there = step-across a c d h ∙ rw (z, p, q, r); back = rw (h, z, p, q, r) }
 
-ends : {a : Arrangement} {c x y : Cell} {d e : ℕ} → x ≡ y → Leads a c d x e → Leads a c d y e
+pub ends : {a : Arrangement} {c x y : Cell} {d e : ℕ} → x ≡ y → Leads a c d x e → Leads a c d y e
 ends p l = record { there = l .there ∙ p; back = l .back }
 
 -- ---- a step to a cell, and the step home
