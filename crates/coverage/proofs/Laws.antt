@@ -53,34 +53,34 @@ unfolding coded
 as-refusal zero code r e = let z : _≡_ {A = ℕ} 0 1 = cc in absurd (omega arith)
 as-refusal (suc q) code r e = let k : suc q ≡ r = ap refusalIn e in (k, λ z. omega arith)
 
-module _ (line codes : List ℕ) (count : ℕ) (h : count ≤ length codes) {n : ℕ} (t : n ≡ length (trimmed line)) {x : Coded}
-    (e : x ≡ coded (nameRefusal (take n line)) (nameCode (take n line))) where
+module _ (a : Arrangement) (line codes : List ℕ) (count : ℕ) (h : count ≤ length codes) {n : ℕ} (t : n ≡ length (trimmed line)) {x : Coded}
+    (e : x ≡ coded (nameRefusal (take n line)) (nameCode a (take n line))) where
   name-text : take n line ≡ trimmed line
   name-text = ap (λ (i : ℕ). take i line) t ∙ trimmed-take line
 
-  named : x ≡ coded (nameRefusal (trimmed line)) (nameCode (trimmed line))
-  named = e ∙ ap (λ (l : List ℕ). coded (nameRefusal l) (nameCode l)) name-text
+  named : x ≡ coded (nameRefusal (trimmed line)) (nameCode a (trimmed line))
+  named = e ∙ ap (λ (l : List ℕ). coded (nameRefusal l) (nameCode a l)) name-text
 
   held : length (take count codes) ≡ count
   held = length-take-le count codes h
 
-  pub name-taken : (code : ℕ) → x ≡ coded-as.Code code → count < length codes → NameTaken line codes count (set codes count code) (taken-as.Count (count + 1))
+  pub name-taken : (code : ℕ) → x ≡ coded-as.Code code → count < length codes → NameTaken a line codes count (set codes count code) (taken-as.Count (count + 1))
   name-taken code f l =
-      let k = as-code (nameRefusal (trimmed line)) (nameCode (trimmed line)) code (sym named ∙ f) in (
+      let k = as-code (nameRefusal (trimmed line)) (nameCode a (trimmed line)) code (sym named ∙ f) in (
         passes _ (k .0) ∙ ap (λ (b : Bool). refuse b 13) (ap (leb (length codes)) held ∙ lt-leb (length codes) count l),
         rw (add-one count) (take-suc-set codes count code l) ∙ ap (λ (y : ℕ). take count codes ++ (y ∷ [])) (sym (k .1)),
         omega (arith, length-set codes count code),
         omega arith,
       )
 
-  pub name-full : (code : ℕ) → x ≡ coded-as.Code code → length codes ≤ count → NameTaken line codes count codes (taken-as.Refused 13)
+  pub name-full : (code : ℕ) → x ≡ coded-as.Code code → length codes ≤ count → NameTaken a line codes count codes (taken-as.Refused 13)
   name-full code f l =
-      let k = as-code (nameRefusal (trimmed line)) (nameCode (trimmed line)) code (sym named ∙ f) in
+      let k = as-code (nameRefusal (trimmed line)) (nameCode a (trimmed line)) code (sym named ∙ f) in
       (passes _ (k .0) ∙ ap (λ (b : Bool). refuse b 13) (ap (leb (length codes)) held ∙ le-leb (length codes) count l), λ z. omega arith)
 
-  pub name-refused : (r : ℕ) → x ≡ coded-as.Refused r → NameTaken line codes count codes (taken-as.Refused r)
+  pub name-refused : (r : ℕ) → x ≡ coded-as.Refused r → NameTaken a line codes count codes (taken-as.Refused r)
   name-refused r f =
-      let k = as-refusal (nameRefusal (trimmed line)) (nameCode (trimmed line)) r (sym named ∙ f) in
+      let k = as-refusal (nameRefusal (trimmed line)) (nameCode a (trimmed line)) r (sym named ∙ f) in
       (stops (nameRefusal (trimmed line)) _ (λ z. k .1 (sym (k .0) ∙ z)) ∙ k .0, k .1)
 
 -- ---- a line that was cut to its room
@@ -89,66 +89,66 @@ long-name : (y : List ℕ) → 18 ≤ length y → nameRefusal (trimmed y) ≡ 2
 unfolding nameRefusal _otherwise_
 long-name y h = rw (lt-ltb 16 (length (trimmed y)) (omega (arith, trimmed-length y))) refl
 
-stops-long : (size : ℕ) (codes y : List ℕ) → 18 ≤ length y → withName size (read codes) y ≡ stopped (suc (length codes)) 2
-stops-long size codes y h =
-    ap (λ (q : ℕ). namedOr q codes (nameCode (trimmed y))) (stops (nameRefusal (trimmed y)) _ (λ z. absurd (two (sym (long-name y h) ∙ z))) ∙ long-name y h)
+stops-long : (a : Arrangement) (size : ℕ) (codes y : List ℕ) → 18 ≤ length y → withName a size (read codes) y ≡ stopped (suc (length codes)) 2
+stops-long a size codes y h =
+    ap (λ (q : ℕ). namedOr q codes (nameCode a (trimmed y))) (stops (nameRefusal (trimmed y)) _ (λ z. absurd (two (sym (long-name y h) ∙ z))) ∙ long-name y h)
   where
     two : _≡_ {A = ℕ} 2 0 → ⊥
     two z = omega arith
 
-cut-name : (size room : ℕ) (codes x : List ℕ) → 18 ≤ room → withName size (read codes) (take room x) ≡ withName size (read codes) x
-cut-name size room codes x h =
+cut-name : (a : Arrangement) (size room : ℕ) (codes x : List ℕ) → 18 ≤ room → withName a size (read codes) (take room x) ≡ withName a size (read codes) x
+cut-name a size room codes x h =
     ⊎-elim
     (λ l.
-    let a : length (take room x) ≡ room = length-take-le room x (omega arith) in
-    stops-long size codes (take room x) (omega arith) ∙ sym (stops-long size codes x (omega arith)))
-    (λ l. ap (withName size (read codes)) (take-all room x l)) (lt-or room (length x))
+    let z : length (take room x) ≡ room = length-take-le room x (omega arith) in
+    stops-long a size codes (take room x) (omega arith) ∙ sym (stops-long a size codes x (omega arith)))
+    (λ l. ap (withName a size (read codes)) (take-all room x l)) (lt-or room (length x))
 
 -- ---- a line more
 
-module _ (room : List ℕ) (big : 18 ≤ length room) (codes later : List ℕ) (count n : ℕ) (o : OfEnded (withName (length codes)) (read []) (read (take count codes))) where
+module _ (a : Arrangement) (room : List ℕ) (big : 18 ≤ length room) (codes later : List ℕ) (count n : ℕ) (o : OfEnded (withName a (length codes)) (read []) (read (take count codes))) where
   -- what the line comes to
-  abbrev comes : (r : Taken) → NameTaken (take n room) codes count later r → Names
+  abbrev comes : (r : Taken) → NameTaken a (take n room) codes count later r → Names
   comes (taken-as.Count k) h = read (take k later)
   comes (taken-as.Refused r) h = stopped (suc (length (take count codes))) r
 
-  is : (r : Taken) (h : NameTaken (take n room) codes count later r) → withName (length codes) (read (take count codes)) (take n room) ≡ comes r h
-  is (taken-as.Count k) (e, f, i, j) = ap (λ (q : ℕ). namedOr q (take count codes) (nameCode (trimmed (take n room)))) e ∙ ap read (sym f)
-  is (taken-as.Refused r) (e, f) = ap (λ (q : ℕ). namedOr q (take count codes) (nameCode (trimmed (take n room)))) e ∙ some r f
+  is : (r : Taken) (h : NameTaken a (take n room) codes count later r) → withName a (length codes) (read (take count codes)) (take n room) ≡ comes r h
+  is (taken-as.Count k) (e, f, i, j) = ap (λ (q : ℕ). namedOr q (take count codes) (nameCode a (trimmed (take n room)))) e ∙ ap read (sym f)
+  is (taken-as.Refused r) (e, f) = ap (λ (q : ℕ). namedOr q (take count codes) (nameCode a (trimmed (take n room)))) e ∙ some r f
     where
-      some : (q : ℕ) → (q ≡ 0 → ⊥) → namedOr q (take count codes) (nameCode (trimmed (take n room))) ≡ stopped (suc (length (take count codes))) q
+      some : (q : ℕ) → (q ≡ 0 → ⊥) → namedOr q (take count codes) (nameCode a (trimmed (take n room))) ≡ stopped (suc (length (take count codes))) q
       some zero g = absurd (g refl)
       some (suc q) g = refl
 
-  whole : (x : List ℕ) → take n room ≡ take (length room) x → (r : Taken) (h : NameTaken (take n room) codes count later r) → withName (length codes) (read (take count codes)) x
+  whole : (x : List ℕ) → take n room ≡ take (length room) x → (r : Taken) (h : NameTaken a (take n room) codes count later r) → withName a (length codes) (read (take count codes)) x
       ≡ comes r h
   whole x f r h =
-      sym (cut-name (length codes) (length room) (take count codes) x big) ∙ ap (withName (length codes) (read (take count codes))) (sym f) ∙ is r h
+      sym (cut-name a (length codes) (length room) (take count codes) x big) ∙ ap (withName a (length codes) (read (take count codes))) (sym f) ∙ is r h
 
-  line-comes : (left bytes : List ℕ) (from end : ℕ) → Given left bytes room (Line n from end) → (r : Taken) (h : NameTaken (take n room) codes count later r) → OfEnded
-      (withName (length codes)) (read []) (comes r h)
-  line-comes left bytes from end (more, x, u, g, f, i, j, l) r h = subst (OfEnded (withName (length codes)) (read [])) (whole x f r h) (then-line (withName (length codes)) x u o)
+  line-comes : (left bytes : List ℕ) (from end : ℕ) → Given left bytes room (Line n from end) → (r : Taken) (h : NameTaken a (take n room) codes count later r) → OfEnded
+      (withName a (length codes)) (read []) (comes r h)
+  line-comes left bytes from end (more, x, u, g, f, i, j, l) r h = subst (OfEnded (withName a (length codes)) (read [])) (whole x f r h) (then-line (withName a (length codes)) x u o)
 
-  last-comes : (left bytes : List ℕ) → Given left bytes room (Last n) → (r : Taken) (h : NameTaken (take n room) codes count later r) → OfBytes (withName (length codes)) (read []) (comes r h)
-  last-comes left bytes (more, u, l, f, i) r h = subst (OfBytes (withName (length codes)) (read [])) (whole (left ++ more) f r h) (then-last (withName (length codes)) (left ++ more) u l o)
+  last-comes : (left bytes : List ℕ) → Given left bytes room (Last n) → (r : Taken) (h : NameTaken a (take n room) codes count later r) → OfBytes (withName a (length codes)) (read []) (comes r h)
+  last-comes left bytes (more, u, l, f, i) r h = subst (OfBytes (withName a (length codes)) (read [])) (whole (left ++ more) f r h) (then-last (withName a (length codes)) (left ++ more) u l o)
 
-  module _ {r : Taken} (h : NameTaken (take n room) codes count later r) where
+  module _ {r : Taken} (h : NameTaken a (take n room) codes count later r) where
     pub taken-more : (k : ℕ) → r ≡ taken-as.Count k → (k ≤ length later) × (suc count ≤ k)
-    taken-more k e = let g = subst (NameTaken (take n room) codes count later) e h in (g .2, g .3)
+    taken-more k e = let g = subst (NameTaken a (take n room) codes count later) e h in (g .2, g .3)
 
-    pub line-read : (left bytes : List ℕ) (from end k : ℕ) → Given left bytes room (Line n from end) → r ≡ taken-as.Count k → OfEnded (withName (length codes)) (read [])
+    pub line-read : (left bytes : List ℕ) (from end k : ℕ) → Given left bytes room (Line n from end) → r ≡ taken-as.Count k → OfEnded (withName a (length codes)) (read [])
         (read (take k later))
-    line-read left bytes from end k g e = line-comes left bytes from end g (taken-as.Count k) (subst (NameTaken (take n room) codes count later) e h)
+    line-read left bytes from end k g e = line-comes left bytes from end g (taken-as.Count k) (subst (NameTaken a (take n room) codes count later) e h)
 
-    pub line-stops : (left bytes : List ℕ) (from end q : ℕ) → Given left bytes room (Line n from end) → r ≡ taken-as.Refused q → AllTaken (length codes) later (read-as.Stopped q)
+    pub line-stops : (left bytes : List ℕ) (from end q : ℕ) → Given left bytes room (Line n from end) → r ≡ taken-as.Refused q → AllTaken a (length codes) later (read-as.Stopped q)
     line-stops left bytes from end q g e =
-        (_, then-none (withName (length codes)) (line-comes left bytes from end g (taken-as.Refused q) (subst (NameTaken (take n room) codes count later) e h)))
+        (_, then-none (withName a (length codes)) (line-comes left bytes from end g (taken-as.Refused q) (subst (NameTaken a (take n room) codes count later) e h)))
 
-    pub last-read : (left bytes : List ℕ) (k : ℕ) → Given left bytes room (Last n) → r ≡ taken-as.Count k → AllTaken (length codes) later (read-as.Count k)
-    last-read left bytes k g e = (last-comes left bytes g (taken-as.Count k) (subst (NameTaken (take n room) codes count later) e h), taken-more k e .0)
+    pub last-read : (left bytes : List ℕ) (k : ℕ) → Given left bytes room (Last n) → r ≡ taken-as.Count k → AllTaken a (length codes) later (read-as.Count k)
+    last-read left bytes k g e = (last-comes left bytes g (taken-as.Count k) (subst (NameTaken a (take n room) codes count later) e h), taken-more k e .0)
 
-    pub last-stops : (left bytes : List ℕ) (q : ℕ) → Given left bytes room (Last n) → r ≡ taken-as.Refused q → AllTaken (length codes) later (read-as.Stopped q)
-    last-stops left bytes q g e = (_, last-comes left bytes g (taken-as.Refused q) (subst (NameTaken (take n room) codes count later) e h))
+    pub last-stops : (left bytes : List ℕ) (q : ℕ) → Given left bytes room (Last n) → r ≡ taken-as.Refused q → AllTaken a (length codes) later (read-as.Stopped q)
+    last-stops left bytes q g e = (_, last-comes left bytes g (taken-as.Refused q) (subst (NameTaken a (take n room) codes count later) e h))
 
 -- ---- names printed part by part
 
@@ -184,8 +184,8 @@ listed-fits t room n e f =
     let l : length (codesOf t) ≤ room = ltb-false room (length (codesOf t)) (allowed 7 _ (both (textRefusal t) _ (k .0) .1)) in
     omega (arith, k .1)
 
-pub read-fits : (room : ℕ) (codes : List ℕ) (n : ℕ) {r : NamesRead} → AllTaken room codes r → r ≡ read-as.Count n → n ≤ length codes
-read-fits room codes n h e = (subst (AllTaken room codes) e h) .1
+pub read-fits : (a : Arrangement) (room : ℕ) (codes : List ℕ) (n : ℕ) {r : NamesRead} → AllTaken a room codes r → r ≡ read-as.Count n → n ≤ length codes
+read-fits a room codes n h e = (subst (AllTaken a room codes) e h) .1
 
 pub text-length : (a : Arrangement) (codes : List ℕ) (room : ℕ) (text : List ℕ) (n : ℕ) {r : Text} → TextWritten a codes room text r → r ≡ Length n → n ≤ length text
 text-length a codes room text n h e = (subst (TextWritten a codes room text) e h) .1

@@ -1,8 +1,10 @@
 // coverage check FILE, coverage list FILE, coverage ask FILE NAME, coverage write n s: reads and writes coverage texts.
 ghost use Prim.Native.Nat.{_≤_};
 ghost use lib.ListN.{length, take};
+ghost use Rattle.cell.specs.Cell.{IsArrangement};
 ghost use Rattle.console.specs.Input.{Fits};
 ghost use Rattle.coverage.specs.Names.{NameTaken, AllTaken};
+ghost use Rattle.coverage.specs.Own.{Own};
 ghost use Rattle.coverage.specs.Printed.{NamesWritten, TextWritten};
 use asking::Asked;
 use cell::Arrangement;
@@ -121,22 +123,22 @@ fn list_text(text: &[u8], codes: &mut [u64], out: &mut [u8])
     }
 }
 
-// Whether all of a cell is covered, in the text's own arrangement.
-fn ask_own(text: &[u8], code: u64) -> Asked {
+// The text's own arrangement. Where the text is refused any will do, for then asking refuses it whatever the code's is.
+fn own_arrangement(text: &[u8]) -> Arrangement
+    ensures { λ r. ⌜ Own (now (text .entry)) r ⌝ }
+{
     match reader::check(text) {
-        Checked::Text { north, south, .. } => {
-            asking::ask(Arrangement { north, south }, text, code)
-        }
-        Checked::Refused { refusal, place } => Asked::Refused { refusal, place },
+        Checked::Text { north, south, .. } => Arrangement { north, south },
+        Checked::Refused { .. } => Arrangement { north: 0, south: 0 },
     }
 }
 
 // ask: the name is tested first.
 fn ask_text(text: &[u8], name: &[u8]) {
     let mut out = [0u8; 21];
-    match name::name_code(name) {
+    match name::name_code(own_arrangement(text), name) {
         Coded::Code(code) => {
-            let asked = ask_own(text, code);
+            let asked = asking::ask(text, code);
             let end = report::put_asked(asked, &mut out);
             console::print_first(&out, end);
             let Asked::Refused { refusal, place } = asked else {
@@ -149,12 +151,13 @@ fn ask_text(text: &[u8], name: &[u8]) {
 }
 
 // One line: a name, whose code is put behind the others. One that is none, or that has no room, is said.
-fn take_name(line: &[u8], codes: &mut [u64], count: usize) -> Taken
+fn take_name(arrangement: Arrangement, line: &[u8], codes: &mut [u64], count: usize) -> Taken
+    requires { ⌜ IsArrangement arrangement ⌝ }
     requires { ⌜ count ≤ length (now codes) ⌝ }
-    ensures { λ r. ⌜ NameTaken (now (line .entry)) (now (codes .entry)) count (now (codes .exit)) r ⌝ }
+    ensures { λ r. ⌜ NameTaken arrangement (now (line .entry)) (now (codes .entry)) count (now (codes .exit)) r ⌝ }
 {
     let length = decimal::trimmed_length(line);
-    match name::name_code(&line[..length]) {
+    match name::name_code(arrangement, &line[..length]) {
         Coded::Code(code) => {
             if count < codes.len() {
                 codes[count] = code;
@@ -167,9 +170,15 @@ fn take_name(line: &[u8], codes: &mut [u64], count: usize) -> Taken
 }
 
 // All lines of the input, up to the first that stops it.
-fn take_all(bytes: &mut [u8], room: &mut [u8], codes: &mut [u64]) -> NamesRead
+fn take_all(
+    arrangement: Arrangement,
+    bytes: &mut [u8],
+    room: &mut [u8],
+    codes: &mut [u64],
+) -> NamesRead
+    requires { ⌜ IsArrangement arrangement ⌝ }
     requires { ⌜ 18 ≤ length (now room) ⌝ }
-    ensures { λ r. ⌜ AllTaken (length (now (codes .entry))) (now (codes .exit)) r ⌝ }
+    ensures { λ r. ⌜ AllTaken arrangement (length (now (codes .entry))) (now (codes .exit)) r ⌝ }
 {
     let mut from: usize = 0;
     let mut end: usize = 0;
@@ -181,7 +190,7 @@ fn take_all(bytes: &mut [u8], room: &mut [u8], codes: &mut [u64]) -> NamesRead
                 from: next,
                 end: stop,
             } => {
-                match take_name(&room[..length], codes, count) {
+                match take_name(arrangement, &room[..length], codes, count) {
                     Taken::Count(more) => {
                         count = more;
                         from = next;
@@ -194,7 +203,7 @@ fn take_all(bytes: &mut [u8], room: &mut [u8], codes: &mut [u64]) -> NamesRead
                 }
             }
             LineRead::Last { length } => {
-                match take_name(&room[..length], codes, count) {
+                match take_name(arrangement, &room[..length], codes, count) {
                     Taken::Count(more) => return NamesRead::Count(more),
                     Taken::Refused(refusal) => {
                         console::say_line(b"coverage", count as u64 + 1, refusal);
@@ -219,11 +228,13 @@ fn put_text(arrangement: Arrangement, codes: &[u64], count: usize, text: &mut [u
     }
 }
 
-fn write_text(arrangement: Arrangement) {
+fn write_text(arrangement: Arrangement)
+    requires { ⌜ IsArrangement arrangement ⌝ }
+{
     let mut bytes = [0u8; 65536];
     let mut room = [0u8; 64];
     let mut codes = [0u64; 65536];
-    let NamesRead::Count(count) = take_all(&mut bytes, &mut room, &mut codes) else {
+    let NamesRead::Count(count) = take_all(arrangement, &mut bytes, &mut room, &mut codes) else {
         return;
     };
     match put_text(arrangement, &codes, count, &mut bytes) {
