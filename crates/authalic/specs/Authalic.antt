@@ -50,12 +50,3 @@ pub record Authalic (answer : ℤ → ℕ → ℤ) : Type 0 where
 unfoldable pub sineAnswer : ℕ → ℤ → Sine
 sineAnswer zero z = Of z
 sineAnswer (suc r) z = Refused (suc r)
-
--- what each case of the answer stands for: the refusal number, and the sine, which is 0 with a refusal
-abbrev pub refusalIn : Sine → ℕ
-refusalIn (Of z) = 0
-refusalIn (Refused r) = r
-
-abbrev pub sineIn : Sine → ℤ
-sineIn (Of z) = z
-sineIn (Refused r) = pos 0

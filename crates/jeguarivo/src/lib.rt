@@ -14,7 +14,9 @@ ghost use Rattle.jeguarivo.specs.Texts.{checkNumbers, listNumbers, askNu
 ghost use Rattle.writing.specs.Write.{writeRefusal, textOf, textIn, written};
 ghost use Rattle.jeguarivo.specs.Entries.{arrangement, codedAnswer, codeAnswer, codeOfCell, codeCell, nameAnswer, writtenName, parentCode, childCode};
 ghost use Rattle.jeguarivo.specs.Entries.{cellSize, cellShape, cornerCount, cellSquare, cellNucleus, cellVertices, pointCode, neighbourCode, fixCode, groundFix};
+ghost use Rattle.jeguarivo.specs.Entries.{geodeticZ, geodeticCode};
 use asking::Asked;
+use authalic::Sine;
 use cell::Arrangement;
 use cell::Cell;
 use cell::Found;
@@ -86,6 +88,12 @@ pub struct PointAnswer {
     pub refusal: u64,
     pub x: i64,
     pub y: i64,
+}
+
+#[repr(C)]
+pub struct ZAnswer {
+    pub refusal: u64,
+    pub z: i64,
 }
 
 #[repr(C)]
@@ -369,6 +377,36 @@ pub extern "C" fn jgv_fix_code(
     found_answer(
         arrangement,
         locate::locate(arrangement, resolution, longitude, z),
+    )
+}
+
+// 6 where the sine or the squared eccentricity is out of range (02 W-203).
+#[no_mangle]
+pub extern "C" fn jgv_geodetic_z(sine: i64, eccentricity: u64) -> ZAnswer
+    ensures { λ r. ⌜ r ≡ geodeticZ sine eccentricity ⌝ }
+{
+    match authalic::sine_of(sine, eccentricity) {
+        Sine::Of(z) => ZAnswer { refusal: 0, z },
+        Sine::Refused(refusal) => ZAnswer { refusal, z: 0 },
+    }
+}
+
+// 5 where n or s is above 3, 2 where the resolution is above 15, 6 where the longitude, the sine or the squared eccentricity is out of range.
+#[no_mangle]
+pub extern "C" fn jgv_geodetic_code(
+    n: u64,
+    s: u64,
+    resolution: u64,
+    longitude: i64,
+    sine: i64,
+    eccentricity: u64,
+) -> CodeAnswer
+    ensures { λ r. ⌜ r ≡ geodeticCode n s resolution longitude sine eccentricity ⌝ }
+{
+    let arrangement = Arrangement { north: n, south: s }; // `geodetic::locate` tests it
+    found_answer(
+        arrangement,
+        geodetic::locate(arrangement, resolution, longitude, sine, eccentricity),
     )
 }
 

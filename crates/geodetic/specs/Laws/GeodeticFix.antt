@@ -23,11 +23,11 @@ use Rattle.geodetic.specs.GeodeticFix.{GeodeticRange, inGeodeticRange, g
 
 -- ---- the range
 
-range-tests : {L S : ℤ} {E : ℕ} → GeodeticRange L S E → inGeodeticRange L S E ≡ true
+pub range-tests : {L S : ℤ} {E : ℕ} → GeodeticRange L S E → inGeodeticRange L S E ≡ true
 unfolding inGeodeticRange
 range-tests {E = E} g = rw (within-range (g .fix), le-leb E 10000000000 (g .eccentricity))
 
-range-of : {L S : ℤ} {E : ℕ} → inGeodeticRange L S E ≡ true → GeodeticRange L S E
+pub range-of : {L S : ℤ} {E : ℕ} → inGeodeticRange L S E ≡ true → GeodeticRange L S E
 unfolding inGeodeticRange
 range-of {L = L} {S = S} {E = E} e =
     record { fix = range-holds (and-left (inRange L S) (leb E 10000000000) e); eccentricity = leb-true E 10000000000 (and-right (inRange L S) (leb E 10000000000) e) }
