@@ -2,7 +2,7 @@
 use mathlib.Core.Path.{_≡_}
 use mathlib.Core.Bool.{Bool, true, _&&_, not}
 use Prim.Native.Nat.{ℕ, zero, suc, _^_, _≤_}
-use lib.Dec.{leb}
+use lib.Dec.{leb, ltb}
 use lib.IntN.{ℤ, pos, negℤ, natAbs}
 use lib.Signed.{leZ, _≤ℤ_}
 use Rattle.logic.specs.Refusal.{refuse}
@@ -27,6 +27,10 @@ isGeodetic S E = isSine S && leb E 10000000000
 unfoldable pub sineRefusal : (S : ℤ) (E : ℕ) → ℕ
 unfolding isGeodetic isSine
 sineRefusal S E = refuse (not (isGeodetic S E)) 6
+
+-- of E alone, as it is held
+unfoldable pub eccentricityRefusal : (E : ℕ) → ℕ
+eccentricityRefusal E = refuse (ltb 10000000000 E) 6
 
 -- what an answer has to be, for every S and E in range
 pub record Authalic (answer : ℤ → ℕ → ℤ) : Type 0 where

@@ -2,7 +2,7 @@
 ghost use mathlib.Core.Path.{_≡_};
 ghost use Prim.Native.Nat.{_+_, _-_, _*_, _^_, _≤_, _<_};
 ghost use Rattle.wide.specs.High.{highWord};
-ghost use Rattle.authalic.specs.Authalic.{isGeodetic, sineRefusal, sineAnswer};
+ghost use Rattle.authalic.specs.Authalic.{isGeodetic, sineRefusal, eccentricityRefusal, sineAnswer};
 ghost use Rattle.authalic.specs.Computed.{eccentricityWord, pointWord, seriesWord, grown, shareWord, lessWord, sineWord, authalicSine};
 
 // The sine, or the number of a refusal.
@@ -10,6 +10,9 @@ pub enum Sine {
     Of(i64),
     Refused(u64),
 }
+
+// The greatest squared eccentricity.
+const GREATEST: u64 = 10_000_000_000;
 
 // The sine of the pole.
 const ONE: u64 = 1_000_000_000_000_000_000;
@@ -107,10 +110,17 @@ fn is_geodetic(sine: i64, eccentricity: u64) -> bool
 {
     if signed::at_most(-1_000_000_000_000_000_000, sine) {
         if signed::at_most(sine, 1_000_000_000_000_000_000) {
-            return eccentricity <= 10_000_000_000;
+            return eccentricity <= GREATEST;
         }
     }
     false
+}
+
+// 6 where a squared eccentricity is out of range, else 0.
+pub fn eccentricity_refusal(eccentricity: u64) -> u64
+    ensures { λ r. ⌜ r ≡ eccentricityRefusal eccentricity ⌝ }
+{
+    if eccentricity > GREATEST { 6 } else { 0 }
 }
 
 // The authalic sine of a geodetic sine in units of 10^-18, on the ellipsoid of that squared eccentricity in units of 10^-12, or the refusal.

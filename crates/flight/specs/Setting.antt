@@ -1,10 +1,18 @@
--- What a flight is recorded in: n, s and the resolution. Assumes nothing.
+-- What a flight is recorded in: n, s, the resolution, and what the second number of a line is. Assumes nothing.
 use Prim.Native.Nat.{ℕ}
 use lib.Dec.{ltb}
 use Rattle.logic.specs.Refusal.{refuse, _otherwise_}
 use Rattle.cell.specs.Cell.{arrangementRefusal}
+use Rattle.authalic.specs.Authalic.{eccentricityRefusal}
+use Rattle.flight.specs.declared.Latitude.{Latitude}
+use Rattle.flight.specs.declared.Latitude.the-variants.{Authalic, Geodetic}
 use Rattle.flight.specs.declared.Setting.{Setting}
+
+-- 6: E out of range (02, W-203)
+abbrev pub latitudeRefusal : Latitude → ℕ
+latitudeRefusal Authalic = 0
+latitudeRefusal (Geodetic E) = eccentricityRefusal E
 
 -- 5: n or s above 3. 2: resolution above 15
 unfoldable pub settingRefusal : Setting → ℕ
-settingRefusal s = arrangementRefusal (s .arrangement) otherwise refuse (ltb 15 (s .resolution)) 2
+settingRefusal s = arrangementRefusal (s .arrangement) otherwise refuse (ltb 15 (s .resolution)) 2 otherwise latitudeRefusal (s .latitude)

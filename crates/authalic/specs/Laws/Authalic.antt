@@ -2,13 +2,13 @@
 use mathlib.Core.Path.{_≡_, refl, sym, ap, ap₂, _∙_, subst}
 use mathlib.Core.Logic.{_↔_}
 use mathlib.Core.Bool.{Bool, true, false, not}
-use Prim.Native.Nat.{ℕ, zero, suc, _+_, _-_, _*_, _^_, _≤_, suc-le-suc}
+use Prim.Native.Nat.{ℕ, zero, suc, _+_, _-_, _*_, _^_, _≤_, _<_, suc-le-suc}
 use native.Mathlib.Nat.{le-trans, le-of-eq, mul-le-mul-left, mul-le-mul-right}
 use native.Mathlib.Omega.{arith}
-use lib.Dec.{T, leb, leb→le, le→leb, lit≤}
+use lib.Dec.{T, leb, ltb, leb→le, le→leb, lit≤}
 use lib.IntN.{ℤ, pos, negsuc, negℤ, natAbs, _-ℤ_, _*ℤ_, negℤ-negℤ, negℤ-+ℤ}
 use lib.Signed.{leZ, _≤ℤ_}
-use borrow.Author.Tests.{leb-true, le-leb}
+use borrow.Author.Tests.{leb-true, le-leb, ltb-true, lt-ltb}
 use Rattle.logic.specs.Laws.Bools.{and-left, and-right, clash}
 use Rattle.logic.specs.Refusal.{refuse}
 use Rattle.signed.specs.Sign.{negative, withSign}
@@ -19,7 +19,7 @@ use Rattle.authalic.specs.Internal.SumLaws.{above-is, above-odd, times-o
 use Rattle.authalic.specs.Internal.SeriesLaws.{exact}
 use Rattle.authalic.specs.Internal.AnswerLaws.{sine-near, sine-small, sine-zero, sine-pole, sine-sphere, sine-rises}
 use Rattle.authalic.specs.declared.Sine.the-variants.{Of, Refused}
-use Rattle.authalic.specs.Authalic.{Geodetic, isSine, isGeodetic, sineRefusal, Authalic, sineAnswer}
+use Rattle.authalic.specs.Authalic.{Geodetic, isSine, isGeodetic, sineRefusal, eccentricityRefusal, Authalic, sineAnswer}
 
 tested : (t : Bool) → T t → t ≡ true
 tested true h = refl
@@ -75,6 +75,15 @@ past-the-ends S E = (
   six-exactly _ E .1 (λ g. g .south .le),
   six-exactly S _ .1 (λ g. let h : 10000000001 ≤ 10000000000 = g .eccentricity in omega arith),
 )
+
+-- of E alone
+pub eccentricity-exactly : (E : ℕ) → (eccentricityRefusal E ≡ 6) ↔ (10000000000 < E)
+unfolding eccentricityRefusal
+eccentricity-exactly E = (λ r. ltb-true 10000000000 E (given (ltb 10000000000 E) r), λ h. ap (λ (t : Bool). refuse t 6) (lt-ltb 10000000000 E h))
+  where
+    given : (t : Bool) → refuse t 6 ≡ 6 → t ≡ true
+    given true r = refl
+    given false r = absurd (omega arith)
 
 pub sine-size : {S : ℤ} {E : ℕ} → Geodetic S E → natAbs S ≤ 10 ^ 18
 sine-size {S} g =
