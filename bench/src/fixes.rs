@@ -113,7 +113,7 @@ fn geodetic(plan: Plan, random: &mut Random, count: usize) -> Vec<Row> {
     sides.push(Side {
         name: "plain Rust, dividing u128",
         same: false,
-        goal: None,
+        goal: Some(1.1),
         pass: Box::new(move |turn| pass(black_box(divided), turn)),
     });
     #[cfg(proj)]

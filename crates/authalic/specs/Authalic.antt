@@ -1,13 +1,11 @@
 -- What W-203 asks of our answer, and where it is refused. Assumes nothing.
 use mathlib.Core.Path.{_≡_}
 use mathlib.Core.Bool.{Bool, true, _&&_, not}
-use Prim.Native.Nat.{ℕ, zero, suc, _^_, _≤_}
+use Prim.Native.Nat.{ℕ, _^_, _≤_}
 use lib.Dec.{leb, ltb}
-use lib.IntN.{ℤ, pos, negℤ, natAbs}
+use lib.IntN.{ℤ, pos, negℤ}
 use lib.Signed.{leZ, _≤ℤ_}
 use Rattle.logic.specs.Refusal.{refuse}
-use Rattle.authalic.specs.declared.Sine.{Sine}
-use Rattle.authalic.specs.declared.Sine.the-variants.{Of, Refused}
 use Rattle.authalic.specs.Sums.{Near}
 
 -- "the sine of the geodetic latitude, S, -10^18 to 10^18 .., and .. the squared eccentricity E .., from 0 to 10,000,000,000"
@@ -49,8 +47,3 @@ pub record Authalic (answer : ℤ → ℕ → ℤ) : Type 0 where
   pub sphere : (S : ℤ) → Geodetic S 0 → answer S 0 ≡ S
   -- two fixes never change order
   pub rises : (S T : ℤ) (E : ℕ) → Geodetic S E → Geodetic T E → S ≤ℤ T → answer S E ≤ℤ answer T E
-
--- the answer, or the number of the refusal
-unfoldable pub sineAnswer : ℕ → ℤ → Sine
-sineAnswer zero z = Of z
-sineAnswer (suc r) z = Refused (suc r)

@@ -1,15 +1,10 @@
 // The authalic sine of a geodetic latitude (02 W-203): two values of one series, and their quotient.
 ghost use mathlib.Core.Path.{_≡_};
+ghost use mathlib.Core.Bool.{true};
 ghost use Prim.Native.Nat.{_+_, _-_, _*_, _^_, _≤_, _<_};
 ghost use Rattle.wide.specs.High.{highWord};
-ghost use Rattle.authalic.specs.Authalic.{isGeodetic, sineRefusal, eccentricityRefusal, sineAnswer};
+ghost use Rattle.authalic.specs.Authalic.{isGeodetic, eccentricityRefusal};
 ghost use Rattle.authalic.specs.Computed.{eccentricityWord, pointWord, seriesWord, grown, shareWord, lessWord, sineWord, authalicSine};
-
-// The sine, or the number of a refusal.
-pub enum Sine {
-    Of(i64),
-    Refused(u64),
-}
 
 // The greatest squared eccentricity.
 const GREATEST: u64 = 10_000_000_000;
@@ -105,7 +100,7 @@ fn sine_word(eccentricity: u64, s: u64) -> u64
 }
 
 // "S, -10^18 to 10^18 .., and .. E .., from 0 to 10,000,000,000"
-fn is_geodetic(sine: i64, eccentricity: u64) -> bool
+pub fn is_geodetic(sine: i64, eccentricity: u64) -> bool
     ensures { λ r. ⌜ r ≡ isGeodetic sine eccentricity ⌝ }
 {
     if signed::at_most(-1_000_000_000_000_000_000, sine) {
@@ -123,16 +118,14 @@ pub fn eccentricity_refusal(eccentricity: u64) -> u64
     if eccentricity > GREATEST { 6 } else { 0 }
 }
 
-// The authalic sine of a geodetic sine in units of 10^-18, on the ellipsoid of that squared eccentricity in units of 10^-12, or the refusal.
-pub fn sine_of(sine: i64, eccentricity: u64) -> Sine
-    ensures { λ r. ⌜ r ≡ sineAnswer (sineRefusal sine eccentricity) (authalicSine sine eccentricity) ⌝ }
+// The authalic sine of a geodetic sine in units of 10^-18, on the ellipsoid of that squared eccentricity in units of 10^-12.
+pub fn sine_of(sine: i64, eccentricity: u64) -> i64
+    requires { ⌜ isGeodetic sine eccentricity ≡ true ⌝ }
+    ensures { λ r. ⌜ r ≡ authalicSine sine eccentricity ⌝ }
 {
-    if is_geodetic(sine, eccentricity) {
-        let size = sine_word(eccentricity, signed::magnitude(sine));
-        if signed::is_negative(sine) {
-            return Sine::Of(signed::difference(0, size));
-        }
-        return Sine::Of(signed::as_signed(size));
+    let size = sine_word(eccentricity, signed::magnitude(sine));
+    if signed::is_negative(sine) {
+        return signed::difference(0, size);
     }
-    Sine::Refused(6)
+    signed::as_signed(size)
 }

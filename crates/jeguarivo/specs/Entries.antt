@@ -23,9 +23,7 @@ use Rattle.plane.specs.declared.Point.{Point}
 use Rattle.plane.specs.declared.Vertices.{Vertices}
 use Rattle.plane.specs.Plane.{squareOf, nucleusOf, verticesOf, pointRefusal, pointCell}
 use Rattle.locate.specs.Fix.{fixCell, fixRefusal}
-use Rattle.authalic.specs.declared.Sine.{Sine}
-use Rattle.authalic.specs.declared.Sine.the-variants as sine-as
-use Rattle.authalic.specs.Authalic.{sineRefusal, sineAnswer}
+use Rattle.authalic.specs.Authalic.{sineRefusal}
 use Rattle.authalic.specs.Computed.{authalicSine}
 use Rattle.geodetic.specs.GeodeticFix.{geodeticRefusal, geodeticCell}
 use Rattle.nucleus.specs.declared.Fix.{Fix}
@@ -169,10 +167,7 @@ aFix fix = record { refusal = 0; longitude = fix .longitude; z = fix .z }
 unfoldable pub groundFix : ℕ → FixAnswer
 groundFix code = placedAnswer code (λ a c. aFix (groundNucleus a c)) noFix
 
--- an authalic sine, or its refusal, as numbers
-abbrev pub zNumbers : Sine → ZAnswer
-zNumbers (sine-as.Of z) = record { refusal = 0; z = z }
-zNumbers (sine-as.Refused refusal) = record { refusal = refusal; z = pos 0 }
-
+-- our answer to W-203
 unfoldable pub geodeticZ : (sine : ℤ) (eccentricity : ℕ) → ZAnswer
-geodeticZ sine eccentricity = zNumbers (sineAnswer (sineRefusal sine eccentricity) (authalicSine sine eccentricity))
+geodeticZ sine eccentricity =
+    record { refusal = sineRefusal sine eccentricity; z = given (sineRefusal sine eccentricity) (authalicSine sine eccentricity) (pos 0) }

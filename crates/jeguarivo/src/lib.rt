@@ -16,7 +16,6 @@ ghost use Rattle.jeguarivo.specs.Entries.{arrangement, codedAnswer, code
 ghost use Rattle.jeguarivo.specs.Entries.{cellSize, cellShape, cornerCount, cellSquare, cellNucleus, cellVertices, pointCode, neighbourCode, fixCode, groundFix};
 ghost use Rattle.jeguarivo.specs.Entries.{geodeticZ, geodeticCode};
 use asking::Asked;
-use authalic::Sine;
 use cell::Arrangement;
 use cell::Cell;
 use cell::Found;
@@ -385,9 +384,15 @@ pub extern "C" fn jgv_fix_code(
 pub extern "C" fn jgv_geodetic_z(sine: i64, eccentricity: u64) -> ZAnswer
     ensures { λ r. ⌜ r ≡ geodeticZ sine eccentricity ⌝ }
 {
-    match authalic::sine_of(sine, eccentricity) {
-        Sine::Of(z) => ZAnswer { refusal: 0, z },
-        Sine::Refused(refusal) => ZAnswer { refusal, z: 0 },
+    if authalic::is_geodetic(sine, eccentricity) {
+        return ZAnswer {
+            refusal: 0,
+            z: authalic::sine_of(sine, eccentricity),
+        };
+    }
+    ZAnswer {
+        refusal: 6,
+        z: 0, // of no sine
     }
 }
 

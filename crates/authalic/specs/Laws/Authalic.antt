@@ -18,8 +18,7 @@ use Rattle.authalic.specs.Computed.{sineWord, authalicSine}
 use Rattle.authalic.specs.Internal.SumLaws.{above-is, above-odd, times-opposite, opposite-times}
 use Rattle.authalic.specs.Internal.SeriesLaws.{exact}
 use Rattle.authalic.specs.Internal.AnswerLaws.{sine-near, sine-small, sine-zero, sine-pole, sine-sphere, sine-rises}
-use Rattle.authalic.specs.declared.Sine.the-variants.{Of, Refused}
-use Rattle.authalic.specs.Authalic.{Geodetic, isSine, isGeodetic, sineRefusal, eccentricityRefusal, Authalic, sineAnswer}
+use Rattle.authalic.specs.Authalic.{Geodetic, isSine, isGeodetic, sineRefusal, eccentricityRefusal, Authalic}
 
 tested : (t : Bool) → T t → t ≡ true
 tested true h = refl
@@ -204,21 +203,3 @@ authalic =
       sphere = sphere-sine;
       rises = sine-order;
     }
-
--- ---- what an answer says
-
-pub sine-allowed : (S : ℤ) (E : ℕ) (y z : ℤ) → Of z ≡ sineAnswer (sineRefusal S E) y → Geodetic S E × (z ≡ y)
-unfolding sineRefusal sineAnswer
-sine-allowed S E y z e = go (isGeodetic S E) refl e
-  where
-    go : (b : Bool) → isGeodetic S E ≡ b → Of z ≡ sineAnswer (refuse (not b) 6) y → Geodetic S E × (z ≡ y)
-    go true f h = (geodetic-range f, cc)
-    go false f h = let k : _≡_ {A = ℕ} 0 1 = cc in absurd (omega arith)
-
-pub sine-refused : (S : ℤ) (E : ℕ) (y : ℤ) (r : ℕ) → Refused r ≡ sineAnswer (sineRefusal S E) y → (isGeodetic S E ≡ false) × (r ≡ 6)
-unfolding sineRefusal sineAnswer
-sine-refused S E y r e = go (isGeodetic S E) refl e
-  where
-    go : (b : Bool) → isGeodetic S E ≡ b → Refused r ≡ sineAnswer (refuse (not b) 6) y → (isGeodetic S E ≡ false) × (r ≡ 6)
-    go true f h = let k : _≡_ {A = ℕ} 0 1 = cc in absurd (omega arith)
-    go false f h = (f, cc)

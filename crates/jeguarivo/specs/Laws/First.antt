@@ -30,8 +30,7 @@ use Rattle.name.specs.Name.{nameOf, firstLetter, isDigit, allDigits, nameRefusa
 use Rattle.plane.specs.Plane.{squareOf, nucleusOf, verticesOf, pointRefusal, pointCell, inImage, inBelt, inNorth, inSouth, faceSide, half, threeHalves}
 use Rattle.locate.specs.Fix.{InRange, fixRefusal, fixCell, inRange}
 use Rattle.locate.specs.Laws.Fix.{within-range, range-holds}
-use Rattle.authalic.specs.Authalic.{Geodetic, isGeodetic, sineRefusal, sineAnswer}
-use Rattle.authalic.specs.Computed.{authalicSine}
+use Rattle.authalic.specs.Authalic.{Geodetic, isGeodetic, sineRefusal}
 use Rattle.authalic.specs.Laws.Authalic.{geodetic-tests, geodetic-range}
 use Rattle.geodetic.specs.GeodeticFix.{GeodeticRange, inGeodeticRange, geodeticRefusal, geodeticCell}
 use Rattle.geodetic.specs.Laws.GeodeticFix.{range-tests, range-of}
@@ -52,7 +51,7 @@ use Rattle.jeguarivo.specs.declared.VerticesAnswer.{VerticesAnswer}
 use Rattle.jeguarivo.specs.declared.FixAnswer.{FixAnswer}
 use Rattle.jeguarivo.specs.Entries.{arrangement, codeAnswer, codeOfCell, nameAnswer, parentCode, childCode, pointCode, fixCode, geodeticCode, neighbourCode, codeCell}
 use Rattle.jeguarivo.specs.Entries.{cellNumbers, nameNumbers, writtenName, cellSize, cellShape, cornerCount, placedAnswer, cellSquare}
-use Rattle.jeguarivo.specs.Entries.{cellNucleus, cellVertices, groundFix, aSquare, noSquare, aPoint, noPoint, theVertices, noVertices, aFix, noFix, zNumbers, geodeticZ}
+use Rattle.jeguarivo.specs.Entries.{cellNucleus, cellVertices, groundFix, aSquare, noSquare, aPoint, noPoint, theVertices, noVertices, aFix, noFix, geodeticZ}
 use Rattle.jeguarivo.specs.Texts.{checkNumbers, listNumbers, askNumbers, writtenNumbers}
 use Rattle.jeguarivo.specs.Order.{Chain, NoneOf, FirstOf}
 use Rattle.jeguarivo.specs.Laws.Order.{Decides, last, then, twice, lt-decides, le-decides, eq-decides, ltZ-decides, leZ-decides, not-decides, and-decides, or-decides}
@@ -193,14 +192,9 @@ fix-code-first n s k L z =
 geodetic : (S : ℤ) (E : ℕ) → Decides (isGeodetic S E) (Geodetic S E)
 geodetic S E = record { holds = geodetic-range; fails = λ e g. clash (sym (geodetic-tests g) ∙ e) }
 
-sine-first : {xs : Chain} {r : ℕ} (z : ℤ) → FirstOf xs r → FirstOf xs (zNumbers (sineAnswer r z) .refusal)
-unfolding sineAnswer
-sine-first {r = zero} z f = f
-sine-first {r = suc r} z f = f
-
 pub z-first : (S : ℤ) (E : ℕ) → FirstOf (zTests S E) (geodeticZ S E .refusal)
 unfolding geodeticZ sineRefusal
-z-first S E = sine-first (authalicSine S E) (last 5 (not-decides (geodetic S E)))
+z-first S E = last 5 (not-decides (geodetic S E))
 
 -- jgv_geodetic_code
 geodetic-fix : (L S : ℤ) (E : ℕ) → Decides (inGeodeticRange L S E) (GeodeticRange L S E)
