@@ -16,7 +16,7 @@ square-near s =
     let h : 16 * s * (16 * s) ≤ (highWord (16 * s) (16 * s) + 1) * 2 ^ 64 = high-over (16 * s) (16 * s) in
     record { under = omega arith; over = omega arith }
 
--- the constant 2^223 / 10^48
+-- the constant 2^218 / 10^48
 constant-near : Approximates (2 ^ 218) 421249166674228746 1 1 (10 ^ 48)
 constant-near = record { under = lit≤ tt; over = lit≤ tt }
 

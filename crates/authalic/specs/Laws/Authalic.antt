@@ -75,6 +75,12 @@ past-the-ends S E = (
   six-exactly S _ .1 (λ g. let h : 10000000001 ≤ 10000000000 = g .eccentricity in omega arith),
 )
 
+-- the ends themselves are not
+pub ends-taken :
+    (sineRefusal (pos (10 ^ 18)) 10000000000 ≡ 0) × (sineRefusal (negℤ (pos (10 ^ 18))) 10000000000 ≡ 0) × (sineRefusal (pos 0) 0 ≡ 0)
+unfolding sineRefusal
+ends-taken = (refl, refl, refl)
+
 -- of E alone
 pub eccentricity-exactly : (E : ℕ) → (eccentricityRefusal E ≡ 6) ↔ (10000000000 < E)
 unfolding eccentricityRefusal

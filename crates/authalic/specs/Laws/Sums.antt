@@ -1,12 +1,14 @@
 -- The terms of Sums are those of the request, times one number. Assumes nothing.
 use mathlib.Core.Path.{_≡_, refl, sym, ap, ap₂, _∙_}
+use mathlib.Core.Bool.{true}
 use Prim.Native.Nat.{ℕ, zero, suc, _+_, _-_, _*_, _/_, _^_, _<_}
 use native.Mathlib.Nat.{mul-assoc, mul-comm, mul-left-comm}
 use native.Mathlib.Omega.{arith}
+use lib.Dec.{leb}
 use lib.Pow.{pow-add}
-use lib.IntN.{ℤ, pos, negsuc, negℤ, pow, _*ℤ_}
+use lib.IntN.{ℤ, pos, negsuc, negℤ, natAbs, pow, one, _*ℤ_}
 use Rattle.signed.specs.Laws.Times.{times-neg}
-use Rattle.authalic.specs.Sums.{term}
+use Rattle.authalic.specs.Sums.{term, sum, above, below, error}
 use Rattle.authalic.specs.Internal.SeriesLaws.{divides}
 use Rattle.authalic.specs.Internal.SumLaws.{power-power}
 
@@ -40,3 +42,12 @@ term-exact E S k h =
     sorted (2 * k + 1) ((10 ^ 12) ^ k) ((10 ^ 18) ^ (2 * k + 1)) (2 * k + 2) r (E ^ k) (10 ^ (48 * (9 - k)))
     ∙ ap₂ (λ (x y : ℕ). x * y * ((2 * k + 2) * E ^ k)) (divides k h) (tens k h)
     )
+
+-- A quotient worked out by fractions, near enough to tell one term more or less: on the flattest ellipsoid the sine 0.707106781186547525 has
+-- 704733546829349858.0122.. units. With nine terms it would be 58.3799.., with eleven 58.0086..
+pub worked-out :
+    let e : ℕ = 1000 * error 10000000000 (pos 707106781186547525) (pos 704733546829349858) in
+    let b : ℕ = natAbs (below 10000000000) in
+    (leb (12 * b) e ≡ true) × (leb e (13 * b) ≡ true)
+unfolding error below above sum term pow one
+worked-out = (refl, refl)

@@ -1,14 +1,13 @@
 -- How the refusals of such a fix follow from those of its sine and of the fix with z. Assumes nothing.
-use mathlib.Core.Path.{_≡_, refl, sym, ap, ap₂, _∙_}
+use mathlib.Core.Path.{_≡_, refl, sym, ap, _∙_}
 use mathlib.Core.Logic.{_↔_}
 use mathlib.Core.Bool.{Bool, true, false, _&&_, not}
-use Prim.Native.Nat.{ℕ, _^_, _≤_}
+use Prim.Native.Nat.{ℕ, _≤_}
 use native.Mathlib.Omega.{arith}
-use lib.Dec.{T, leb, ltb}
-use lib.IntN.{ℤ, pos, negℤ}
-use lib.Signed.{leZ}
+use lib.Dec.{leb, ltb}
+use lib.IntN.{ℤ}
 use borrow.Author.Tests.{leb-true, le-leb, le-ltb}
-use Rattle.logic.specs.Laws.Bools.{and-left, and-right, refuted, clash}
+use Rattle.logic.specs.Laws.Bools.{and-left, and-right, refuted, same-truth, clash}
 use Rattle.logic.specs.Refusal.{refuse, _otherwise_}
 use Rattle.logic.specs.Laws.Refusal.{passes, both, allowed}
 use Rattle.cell.specs.declared.Arrangement.{Arrangement}
@@ -58,21 +57,12 @@ six-exactly {a} {k} L S E v h =
 
 -- with S and E in range z is, and L decides: such a fix is refused as the fix with z
 in-range-both : (L S z : ℤ) (E : ℕ) → Geodetic S E → Geodetic z E → inRange L z ≡ inGeodeticRange L S E
-unfolding inRange inGeodeticRange
 in-range-both L S z E g h =
-    let w : Bool = leZ (negℤ (pos 1800000000)) L && leZ L (pos 1800000000) in
-    ends w _ _ (ranged z h) (ranged S g) (le-leb E 10000000000 (g .eccentricity))
-  where
-    tested : (t : Bool) → T t → t ≡ true
-    tested true x = refl
-    tested false x = absurd x
-
-    ranged : (x : ℤ) → Geodetic x E → (leZ (negℤ (pos (10 ^ 18))) x && leZ x (pos (10 ^ 18))) ≡ true
-    ranged x y = ap₂ _&&_ (tested (leZ (negℤ (pos (10 ^ 18))) x) (y .south .le)) (tested (leZ x (pos (10 ^ 18))) (y .north .le))
-
-    ends : (w t u : Bool) {v : Bool} → t ≡ true → u ≡ true → v ≡ true → (w && t) ≡ ((w && u) && v)
-    ends true t u p q r = p ∙ sym (ap₂ _&&_ q r)
-    ends false t u p q r = refl
+    same-truth (inRange L z) (inGeodeticRange L S E)
+    (λ e.
+    let r = range-holds {L = L} {z = z} e in
+    range-tests (record { fix = record { west = r .west; east = r .east; low = g .south; high = g .north }; eccentricity = g .eccentricity }))
+    (λ e. let r = range-of {L = L} {S = S} {E = E} e in within-range (record { west = r .fix .west; east = r .fix .east; low = h .south; high = h .north }))
 
 answered : {S : ℤ} {E : ℕ} → Geodetic S E → Geodetic (authalicSine S E) E
 answered {S} {E} g = record { south = authalic .low S E g; north = authalic .high S E g; eccentricity = g .eccentricity }
