@@ -54,7 +54,8 @@ less-word-requires : tie.Need-less-word-requires
 less-word-requires c κs =
     let s = c .before .before .before .before .before in
     let e : ℕ = s .args .eccentricity in
-    rw (above-is (c .before .before), below-is c) (s .pre .1, (value-least e (s .args .s) (s .pre .0) (s .pre .1), (value-rise e (s .args .s) (s .pre .0) (s .pre .1), value-most e (10 ^ 18) (s .pre .0) (le-refl (10 ^ 18)))))
+    rw (above-is (c .before .before), below-is c)
+    (s .pre .1, (value-least e (s .args .s) (s .pre .0) (s .pre .1), (value-rise e (s .args .s) (s .pre .0) (s .pre .1), value-most e (10 ^ 18) (s .pre .0) (le-refl (10 ^ 18)))))
 
 sub-result : tie.Need-sub-result
 sub-result c =

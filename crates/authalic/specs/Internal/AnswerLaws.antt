@@ -44,7 +44,8 @@ less-near s a b hs al ab bh =
     let d : ℕ = b - a in
     let w : ℕ = highWord (16 * s) (128 * d) in
     let w0 : w ≤ 14000000000000000000 = product-small s d hs (omega arith) in
-    rounded (2 ^ 64) s d b w (shareWord w b) (omega arith) (le-trans (high-under (16 * s) (128 * d)) (le-of-eq (scaled s d))) (le-trans (le-of-eq (sym (scaled s d))) (high-over (16 * s) (128 * d))) (share-near w b (omega arith) (omega arith) (omega arith))
+    rounded (2 ^ 64) s d b w (shareWord w b) (omega arith)
+    (le-trans (high-under (16 * s) (128 * d)) (le-of-eq (scaled s d))) (le-trans (le-of-eq (sym (scaled s d))) (high-over (16 * s) (128 * d))) (share-near w b (omega arith) (omega arith) (omega arith))
 
 -- it is not more than s
 less-small : (s d b c : ℕ) → 0 < b → 128 * d ≤ b → Less s d b c → c ≤ s
@@ -83,7 +84,9 @@ module _ (M Q s a b z H I : ℕ) (M0 : 0 < M) (f : Approximates M a 5 H Q) (g : 
       le-of-mul-le-mul-left {m = 6 * (s * H)} {n = 6 * (z * I) + 5 * I} {k = M} (omega arith) M0
 
 -- z = s - c is within 5/6 of s H / I: 1141/2048 for what c lacks, and 5/18.32 for what the two values lack
-quotient : (M Q s a b c H I : ℕ) → 0 < M → c ≤ s → a ≤ b → 30720 * s ≤ 1697 * b → Less s (b - a) b c → Approximates M a 5 H Q → Approximates M b 5 I Q → (6 * ((s - c) * I) ≤ 6 * (s * H) + 5 * I) × (6 * (s * H) ≤ 6 * ((s - c) * I) + 5 * I)
+quotient :
+    (M Q s a b c H I : ℕ) → 0 < M → c ≤ s → a ≤ b → 30720 * s ≤ 1697 * b → Less s (b - a) b c → Approximates M a 5 H Q → Approximates M b 5 I Q →
+    (6 * ((s - c) * I) ≤ 6 * (s * H) + 5 * I) × (6 * (s * H) ≤ 6 * ((s - c) * I) + 5 * I)
 quotient M Q s a b c H I M0 cs ab hs p f g =
     let d : ℕ = b - a in
     let z : ℕ = s - c in
@@ -148,7 +151,8 @@ module _ (E s : ℕ) (hE : E ≤ 10 ^ 10) (hs : s ≤ 10 ^ 18) where
       let b : ℕ = valueWord E (10 ^ 18) in
       let al : 18320000000000000000 ≤ a = value-least E s hE hs in
       let ab : a ≤ b = value-rise E s hE hs in
-      quotient 18320000000000000000 (14549535 * (10 ^ 48) ^ 9) s a b (lessWord s a b) (value E s) (value E (10 ^ 18)) (lit< tt) answer-fits ab (omega arith) answer-less (value-near E s hE hs) (value-near E (10 ^ 18) hE (le-refl (10 ^ 18)))
+      quotient 18320000000000000000 (14549535 * (10 ^ 48) ^ 9) s a b (lessWord s a b) (value E s) (value E (10 ^ 18)) (lit< tt) answer-fits ab (omega arith) answer-less
+      (value-near E s hE hs) (value-near E (10 ^ 18) hE (le-refl (10 ^ 18)))
 
 pub sine-small : (E s : ℕ) → sineWord E s ≤ s
 unfolding sineWord

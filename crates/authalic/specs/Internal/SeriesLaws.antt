@@ -85,7 +85,9 @@ module _ (x : ℕ) (small : 100 * x ≤ 2 ^ 64) where
 
   module _ (X N : ℕ) (near : Approximates (2 ^ 64) x 3 X N) where
     -- one step of Horner's rule
-    step-near : (n k g I : ℕ) → k < 10 → g ≤ 12400000000000000000 → Approximates 18320000000000000000 g 5 I (14549535 * N ^ n) → Approximates 18320000000000000000 (coefficient k + highWord x g) 5 (numerator k * N ^ suc n + X * I) (14549535 * N ^ suc n)
+    step-near :
+        (n k g I : ℕ) → k < 10 → g ≤ 12400000000000000000 → Approximates 18320000000000000000 g 5 I (14549535 * N ^ n) →
+        Approximates 18320000000000000000 (coefficient k + highWord x g) 5 (numerator k * N ^ suc n + X * I) (14549535 * N ^ suc n)
     step-near n k g I k9 s p =
         let e : N * (14549535 * N ^ n) ≡ 14549535 * N ^ suc n = mul-left-comm N 14549535 (N ^ n) ∙ ap (λ (z : ℕ). 14549535 * z) (sym (pow-succ' N n)) in
         let q : Approximates 18320000000000000000 (highWord x g) 4 (X * I) (N * (14549535 * N ^ n)) =
@@ -96,7 +98,8 @@ module _ (x : ℕ) (small : 100 * x ≤ 2 ^ 64) where
     unfolding series exact
     series-near zero k e =
         let p = coefficient-near k (omega arith) in
-        looser {t = 1} {u = 5} (omega arith) (subst (λ (z : ℕ). Approximates 18320000000000000000 (coefficient k) 1 (numerator k) z) (sym (ap (λ (z : ℕ). 14549535 * z) (pow-zero N) ∙ mul-one 14549535)) p)
+        looser {t = 1} {u = 5} (omega arith)
+        (subst (λ (z : ℕ). Approximates 18320000000000000000 (coefficient k) 1 (numerator k) z) (sym (ap (λ (z : ℕ). 14549535 * z) (pow-zero N) ∙ mul-one 14549535)) p)
     series-near (suc n) k e =
         step-near n k (series x (suc k) n) (exact N X (suc k) n) (omega arith) (series-small n (suc k) (omega arith)) (series-near n (suc k) (omega arith))
 

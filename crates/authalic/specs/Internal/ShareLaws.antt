@@ -78,7 +78,9 @@ share-near w b bl bh hw =
     let s1 : Shares (2 ^ 64) b w (2 ^ 64 - c) y 3 =
     step-shares (2 ^ 64) b w w a b (highWord w a) c (2 ^ 64 - c) 0 (lit< tt) (omega arith) (omega arith) (high-under w a) (high-over w a) (high-under a a) (high-over a a) bh hw (omega arith) s0 in
     let s2 : Shares (2 ^ 64) b w (2 ^ 64 - e) z 6 =
-    step-shares (2 ^ 64) b w y c (2 ^ 64 - c) (highWord y c) e (2 ^ 64 - e) 3 (lit< tt) (omega arith) (omega arith) (high-under y c) (high-over y c) (high-under c c) (high-over c c) bh hw (omega arith) s1 in
+    step-shares (2 ^ 64) b w y c (2 ^ 64 - c) (highWord y c) e (2 ^ 64 - e) 3 (lit< tt) (omega arith) (omega arith)
+    (high-under y c) (high-over y c) (high-under c c) (high-over c c) bh hw (omega arith) s1 in
     let s3 : Shares (2 ^ 64) b w (2 ^ 64 - f) (z + highWord z e) 9 =
-    step-shares (2 ^ 64) b w z e (2 ^ 64 - e) (highWord z e) f (2 ^ 64 - f) 6 (lit< tt) (omega arith) (omega arith) (high-under z e) (high-over z e) (high-under e e) (high-over e e) bh hw (omega arith) s2 in
+    step-shares (2 ^ 64) b w z e (2 ^ 64 - e) (highWord z e) f (2 ^ 64 - f) 6 (lit< tt) (omega arith) (omega arith)
+    (high-under z e) (high-over z e) (high-under e e) (high-over e e) bh hw (omega arith) s2 in
     finish (2 ^ 64) b w (z + highWord z e) f (2 ^ 64 - f) (omega arith) f0 hw s3

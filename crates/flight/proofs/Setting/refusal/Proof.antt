@@ -32,7 +32,8 @@ returns-3 c =
     let t = c .before in
     let l = t .before .before in
     let z = sym (l .before .refusal .ensures) ∙ l .if1 .left in
-    c .refusal2 .ensures ∙ sym (passes _ z ∙ ap (λ (b : Bool). refuse b 2 otherwise latitudeRefusal (l .before .before .args .self .latitude)) (le-ltb 15 (l .before .before .args .self .resolution) (t .if2 .left)))
+    c .refusal2 .ensures
+    ∙ sym (passes _ z ∙ ap (λ (b : Bool). refuse b 2 otherwise latitudeRefusal (l .before .before .args .self .latitude)) (le-ltb 15 (l .before .before .args .self .resolution) (t .if2 .left)))
 
 pub refusal-spec : {M : Type 1} → statement M
 refusal-spec = tie.close (tie.spec refusal-requires returns returns-2 refusal-requires-2 returns-3)
