@@ -45,7 +45,8 @@ less-near s a b hs al ab bh =
     let w : ℕ = highWord (16 * s) (128 * d) in
     let w0 : w ≤ 14000000000000000000 = product-small s d hs (omega arith) in
     rounded (2 ^ 64) s d b w (shareWord w b) (omega arith)
-    (le-trans (high-under (16 * s) (128 * d)) (le-of-eq (scaled s d))) (le-trans (le-of-eq (sym (scaled s d))) (high-over (16 * s) (128 * d))) (share-near w b (omega arith) (omega arith) (omega arith))
+    (le-trans (high-under (16 * s) (128 * d)) (le-of-eq (scaled s d))) (le-trans (le-of-eq (sym (scaled s d))) (high-over (16 * s) (128 * d)))
+    (share-near w b (omega arith) (omega arith) (omega arith))
 
 -- it is not more than s
 less-small : (s d b c : ℕ) → 0 < b → 128 * d ≤ b → Less s d b c → c ≤ s
