@@ -1,11 +1,16 @@
 // coverage check FILE, coverage list FILE, coverage ask FILE NAME, coverage write n s: reads and writes coverage texts.
+ghost use mathlib.Core.Path.{_≡_};
 ghost use Prim.Native.Nat.{_≤_};
 ghost use lib.ListN.{length, take};
 ghost use Rattle.cell.specs.Cell.{IsArrangement};
+ghost use Rattle.reader.specs.Check.{checkedOf};
+ghost use Rattle.listing.specs.List.{listingRefusal};
 ghost use Rattle.console.specs.Input.{Fits};
+ghost use Rattle.report.specs.Put.{Put};
+ghost use Rattle.report.specs.Lines.{checkLine, askedLine};
 ghost use Rattle.coverage.specs.Names.{NameTaken, AllTaken};
 ghost use Rattle.coverage.specs.Own.{Own};
-ghost use Rattle.coverage.specs.Printed.{NamesWritten, TextWritten};
+ghost use Rattle.coverage.specs.Printed.{askedName, NamesWritten, ListWritten, TextWritten};
 use asking::Asked;
 use cell::Arrangement;
 use code::Coded;
@@ -81,17 +86,19 @@ fn load(path: &mut [u8], text: &mut [u8]) -> BytesRead
     BytesRead::Count(count)
 }
 
-// check: what the reader reports.
-fn check_text(text: &[u8], out: &mut [u8])
+// check: the line of what the reader answers, in front: where it ends. A refusal is said.
+fn check_text(text: &[u8], out: &mut [u8]) -> usize
     requires { ⌜ 126 ≤ length (now out) ⌝ }
+    ensures { λ r. ⌜ Put 0 (checkLine (checkedOf (now (text .entry)))) (now (out .entry)) (now (out .exit)) r ⌝ }
+    ensures { λ r. ⌜ r ≤ 126 ⌝ }
 {
     let checked = reader::check(text);
     let end = report::put_check(checked, out);
-    console::print_first(out, end);
     let Checked::Refused { refusal, place } = checked else {
-        return;
+        return end;
     };
     console::say_text(b"coverage", refusal, place);
+    end
 }
 
 // The names of codes, one a line: what is left of them in front, behind what was printed.
@@ -110,16 +117,18 @@ fn put_all_names(codes: &[u64], out: &mut [u8]) -> usize
     end
 }
 
-// list: the names of the whole cells.
-fn list_text(text: &[u8], codes: &mut [u64], out: &mut [u8])
-    requires { ⌜ 17 ≤ length (now out) ⌝ }
+// list: the names of the whole cells, or the refusal's line: what is left of them in front, behind what was printed.
+fn list_text(text: &[u8], codes: &mut [u64], out: &mut [u8]) -> usize
+    requires { ⌜ 21 ≤ length (now out) ⌝ }
+    ensures { λ r. ⌜ ListWritten (listingRefusal (now (text .entry)) (length (now (codes .entry)))) (now (text .entry)) (now (out .exit)) r ⌝ }
+    ensures { λ r. ⌜ r ≤ length (now (out .exit)) ⌝ }
 {
     match listing::list(text, codes) {
-        Listed::Count(count) => {
-            let end = put_all_names(&codes[..count as usize], out);
-            console::print_first(out, end);
+        Listed::Count(count) => put_all_names(&codes[..count as usize], out),
+        Listed::Refused { refusal, place } => {
+            console::say_text(b"coverage", refusal, place);
+            report::put_line(refusal, out)
         }
-        Listed::Refused { refusal, place } => refuse(refusal, place),
     }
 }
 
@@ -133,21 +142,29 @@ fn own_arrangement(text: &[u8]) -> Arrangement
     }
 }
 
-// ask: the name is tested first.
-fn ask_text(text: &[u8], name: &[u8]) {
-    let mut out = [0u8; 21];
+// Whether the text covers the cell of a name. The name is tested first.
+fn ask_name(text: &[u8], name: &[u8]) -> Asked
+    ensures { λ r. ⌜ r ≡ askedName (now (text .entry)) (now (name .entry)) ⌝ }
+{
     match name::name_code(own_arrangement(text), name) {
-        Coded::Code(code) => {
-            let asked = asking::ask(text, code);
-            let end = report::put_asked(asked, &mut out);
-            console::print_first(&out, end);
-            let Asked::Refused { refusal, place } = asked else {
-                return;
-            };
-            console::say_text(b"coverage", refusal, place);
-        }
-        Coded::Refused(refusal) => refuse(refusal, 0),
+        Coded::Code(code) => asking::ask(text, code),
+        Coded::Refused(refusal) => Asked::Refused { refusal, place: 0 },
     }
+}
+
+// ask: the line of what is answered, in front: where it ends. A refusal is said.
+fn ask_text(text: &[u8], name: &[u8], out: &mut [u8]) -> usize
+    requires { ⌜ 21 ≤ length (now out) ⌝ }
+    ensures { λ r. ⌜ Put 0 (askedLine (askedName (now (text .entry)) (now (name .entry)))) (now (out .entry)) (now (out .exit)) r ⌝ }
+    ensures { λ r. ⌜ r ≤ 21 ⌝ }
+{
+    let asked = ask_name(text, name);
+    let end = report::put_asked(asked, out);
+    let Asked::Refused { refusal, place } = asked else {
+        return end;
+    };
+    console::say_text(b"coverage", refusal, place);
+    end
 }
 
 // One line: a name, whose code is put behind the others. One that is none, or that has no room, is said.
@@ -271,18 +288,22 @@ fn ask_file(text: &[u8]) {
         refuse(2, 0);
         return;
     }
-    ask_text(text, &word[..n]);
+    let mut out = [0u8; 21];
+    let end = ask_text(text, &word[..n], &mut out);
+    console::print_first(&out, end);
 }
 
 fn list_file(text: &[u8]) {
     let mut codes = [0u64; 65536];
     let mut out = [0u8; 65536];
-    list_text(text, &mut codes, &mut out);
+    let end = list_text(text, &mut codes, &mut out);
+    console::print_first(&out, end);
 }
 
 fn check_file(text: &[u8]) {
     let mut out = [0u8; 126];
-    check_text(text, &mut out);
+    let end = check_text(text, &mut out);
+    console::print_first(&out, end);
 }
 
 // The three commands that read a file.
