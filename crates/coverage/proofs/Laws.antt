@@ -29,6 +29,9 @@ use Rattle.report.specs.Laws.Names.{names-append, names-some}
 use Rattle.report.specs.Laws.Put.{put-taken}
 use Rattle.cell.specs.declared.Arrangement.{Arrangement}
 use Rattle.reader.specs.Check.{textRefusal}
+use Rattle.asking.specs.declared.Asked.{Asked}
+use Rattle.asking.specs.declared.Asked.the-variants as asked-as
+use Rattle.asking.specs.Ask.{askRefusal, asked}
 use Rattle.listing.specs.declared.Listed.{Listed}
 use Rattle.listing.specs.declared.Listed.the-variants.{Count}
 use Rattle.listing.specs.List.{codesOf, listingRefusal, listed}
@@ -39,6 +42,7 @@ use Rattle.coverage.specs.declared.Taken.{Taken}
 use Rattle.coverage.specs.declared.Taken.the-variants as taken-as
 use Rattle.coverage.specs.declared.NamesRead.the-variants as read-as
 use Rattle.coverage.specs.Names.{Names, read, stopped, namedOr, withName, NameTaken, AllTaken}
+use Rattle.coverage.specs.Own.{Own, askedOr, NameAsked}
 use Rattle.coverage.specs.Printed.{TextWritten}
 
 -- ---- one name
@@ -189,3 +193,20 @@ read-fits a room codes n h e = (subst (AllTaken a room codes) e h) .1
 
 pub text-length : (a : Arrangement) (codes : List ℕ) (room : ℕ) (text : List ℕ) (n : ℕ) {r : Text} → TextWritten a codes room text r → r ≡ Length n → n ≤ length text
 text-length a codes room text n h e = (subst (TextWritten a codes room text) e h) .1
+
+-- ---- a name that is asked for
+
+unasked : (q : ℕ) (t : List ℕ) (code : ℕ) → (q ≡ 0 → ⊥) → asked-as.Refused q 0 ≡ askedOr q t code
+unasked zero t code h = absurd (h refl)
+unasked (suc q) t code h = refl
+
+module _ {t : List ℕ} (name : List ℕ) {a : Arrangement} (o : Own t a) {x : Coded} (e : x ≡ coded (nameRefusal name) (nameCode a name)) where
+  pub name-asked : {c : ℕ} {r : Asked} → x ≡ coded-as.Code c → r ≡ asked (askRefusal t c) t c → NameAsked t name r
+  name-asked {c} h k =
+      let p = as-code (nameRefusal name) (nameCode a name) c (sym e ∙ h) in
+      (a, o, k ∙ ap (λ (y : ℕ). asked (askRefusal t y) t y) (sym (p .1)) ∙ sym (ap (λ (q : ℕ). askedOr q t (nameCode a name)) (p .0)))
+
+  pub name-unasked : {q : ℕ} → x ≡ coded-as.Refused q → NameAsked t name (asked-as.Refused q 0)
+  name-unasked {q} h =
+      let p = as-refusal (nameRefusal name) (nameCode a name) q (sym e ∙ h) in
+      (a, o, unasked q t (nameCode a name) (p .1) ∙ ap (λ (n : ℕ). askedOr n t (nameCode a name)) (sym (p .0)))

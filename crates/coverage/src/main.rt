@@ -4,7 +4,7 @@ ghost use lib.ListN.{length, take};
 ghost use Rattle.cell.specs.Cell.{IsArrangement};
 ghost use Rattle.console.specs.Input.{Fits};
 ghost use Rattle.coverage.specs.Names.{NameTaken, AllTaken};
-ghost use Rattle.coverage.specs.Own.{Own};
+ghost use Rattle.coverage.specs.Own.{Own, NameAsked};
 ghost use Rattle.coverage.specs.Printed.{NamesWritten, TextWritten};
 use asking::Asked;
 use cell::Arrangement;
@@ -133,21 +133,27 @@ fn own_arrangement(text: &[u8]) -> Arrangement
     }
 }
 
-// ask: the name is tested first.
+// What asking a text for a name answers. The name is tested first, and read in the text's own arrangement.
+fn ask_name(text: &[u8], name: &[u8]) -> Asked
+    ensures { λ r. ⌜ NameAsked (now (text .entry)) (now (name .entry)) r ⌝ }
+{
+    let arrangement = own_arrangement(text);
+    match name::name_code(arrangement, name) {
+        Coded::Code(code) => asking::ask(text, code),
+        Coded::Refused(refusal) => Asked::Refused { refusal, place: 0 },
+    }
+}
+
+// ask: `yes`, `no` or the refusal number.
 fn ask_text(text: &[u8], name: &[u8]) {
     let mut out = [0u8; 21];
-    match name::name_code(own_arrangement(text), name) {
-        Coded::Code(code) => {
-            let asked = asking::ask(text, code);
-            let end = report::put_asked(asked, &mut out);
-            console::print_first(&out, end);
-            let Asked::Refused { refusal, place } = asked else {
-                return;
-            };
-            console::say_text(b"coverage", refusal, place);
-        }
-        Coded::Refused(refusal) => refuse(refusal, 0),
-    }
+    let asked = ask_name(text, name);
+    let end = report::put_asked(asked, &mut out);
+    console::print_first(&out, end);
+    let Asked::Refused { refusal, place } = asked else {
+        return;
+    };
+    console::say_text(b"coverage", refusal, place);
 }
 
 // One line: a name, whose code is put behind the others. One that is none, or that has no room, is said.
