@@ -2,7 +2,11 @@
  *
  * Every entry takes any numbers and any bytes, and returns. An answer's first field is `refusal`: 0, or the number that says what was
  * wrong; every other field is 0 then (but `place` with 9), and no lent byte is changed. Read `refusal` first: 0 is also the code of the
- * cell N. A pointer whose length or room is 0 may be null. Memory that an entry writes must not overlap memory that it reads.
+ * cell N at n = s = 0. A pointer whose length or room is 0 may be null. Memory that an entry writes must not overlap memory that it reads.
+ *
+ * A code says its cell and its arrangement: it is 16 times the number (face x 9^15 + path x 9^(15-k)) x 16 + k of the cell, where path is
+ * the digits of its name read in base nine and k the resolution, plus 4n + s. Codes of two arrangements are never equal; among cells of
+ * one arrangement the order of codes is the byte order of names. The greatest code is 316,248,778,897,380,863. Names say no arrangement.
  *
  *    1  face above 5, empty name, first byte not N to S
  *    2  resolution above 15, name over 16 bytes
@@ -17,7 +21,7 @@
  *   11  list not strictly rising, or one cell inside another
  *   12  parent at resolution 0, child at 15
  *   13  text longer than 65,536 bytes, read or to be written
- *   14  asked arrangement differs from the heading's
+ *   14  a question of another arrangement than the text's heading has, or a list with a code of another arrangement than the asked one
  *
  * Where several apply, the order is 5, 2, 1, 3, 4, 6, 7, 12, 13, 10, 9, 14, 11, 8; in
  * writing 13 comes after 11. Faces 0 to 5 are N, O, P, Q, R, S; N lies above face n of O to R and S below
@@ -34,7 +38,8 @@ extern "C" {
 #endif
 
 typedef struct { uint64_t refusal, code; } jgv_code;
-typedef struct { uint64_t refusal, face, resolution, row, column; } jgv_cell;
+typedef struct { uint64_t refusal, n, s, face, resolution, row, column; } jgv_cell;
+typedef struct { uint64_t refusal, n, s, length; } jgv_name;
 typedef struct { uint64_t refusal, length; } jgv_length;
 typedef struct { uint64_t refusal, size; } jgv_size_answer;
 typedef struct { uint64_t refusal, shape; } jgv_shape_answer;
@@ -47,22 +52,23 @@ typedef struct { uint64_t refusal, place, n, s, cells, size; } jgv_check;
 typedef struct { uint64_t refusal, place, count; } jgv_list;
 typedef struct { uint64_t refusal, place, covered; } jgv_ask;
 
-/* The code of a cell. Refusals 2, 1, 3. */
-jgv_code jgv_cell_code(uint64_t face, uint64_t resolution, uint64_t row, uint64_t column);
+/* The code of a cell in an arrangement. Refusals 5, 2, 1, 3. */
+jgv_code jgv_cell_code(uint64_t n, uint64_t s, uint64_t face, uint64_t resolution, uint64_t row, uint64_t column);
 
-/* The cell of a code. Refusal 4. */
+/* The arrangement and the cell of a code. Refusal 4. */
 jgv_cell jgv_code_cell(uint64_t code);
 
-/* The code of a name: a face letter and a digit 0 to 8 for each resolution. Refusals 2, 1, 3. */
-jgv_code jgv_name_code(const uint8_t *name, size_t length);
+/* The code of a name in an arrangement: a face letter and a digit 0 to 8 for each resolution. Refusals 5, 2, 1, 3. */
+jgv_code jgv_name_code(uint64_t n, uint64_t s, const uint8_t *name, size_t length);
 
-/* The name of a code, written to the first bytes of `name` (16 are always enough; no zero byte follows). Refusals 4, 8. */
-jgv_length jgv_code_name(uint64_t code, uint8_t *name, size_t room);
+/* The arrangement and the name of a code; the name is written to the first bytes of `name` (16 are always enough; no zero byte follows).
+ * Refusals 4, 8. */
+jgv_name jgv_code_name(uint64_t code, uint8_t *name, size_t room);
 
-/* The parent of a cell. Refusals 4, 12. */
+/* The parent of a cell, in its arrangement. Refusals 4, 12. */
 jgv_code jgv_parent(uint64_t code);
 
-/* The child of a cell: 0 is top left, 8 bottom right. Refusals 3, 4, 12. */
+/* The child of a cell, in its arrangement: 0 is top left, 8 bottom right. Refusals 3, 4, 12. */
 jgv_code jgv_child(uint64_t code, uint64_t digit);
 
 /* The number of finest cells, those of resolution 15, in a cell. Refusal 4. */
@@ -75,14 +81,14 @@ jgv_shape_answer jgv_shape(uint64_t code);
 jgv_count jgv_corner_count(uint64_t code);
 
 /* The square of a cell in the plane. Here and in the next three a face side is 28,697,814 units; x runs east from the left edge of O, y up
- * from the equator. Refusals 5, 4. */
-jgv_square_answer jgv_square(uint64_t n, uint64_t s, uint64_t code);
+ * from the equator. Refusal 4. */
+jgv_square_answer jgv_square(uint64_t code);
 
-/* The middle of a cell in the plane. Refusals 5, 4. */
-jgv_point jgv_nucleus(uint64_t n, uint64_t s, uint64_t code);
+/* The middle of a cell in the plane. Refusal 4. */
+jgv_point jgv_nucleus(uint64_t code);
 
-/* The corners of a cell in the plane: top left, top right, bottom right, bottom left. Refusals 5, 4. */
-jgv_vertices_answer jgv_vertices(uint64_t n, uint64_t s, uint64_t code);
+/* The corners of a cell in the plane: top left, top right, bottom right, bottom left. Refusal 4. */
+jgv_vertices_answer jgv_vertices(uint64_t code);
 
 /* The cell of a resolution that owns a point of the plane. Refusals 5, 2, 7. */
 jgv_code jgv_point_code(uint64_t n, uint64_t s, uint64_t resolution, int64_t x, int64_t y);
@@ -92,25 +98,25 @@ jgv_code jgv_point_code(uint64_t n, uint64_t s, uint64_t resolution, int64_t x, 
  * of 10^-18. Refusals 5, 2, 6. */
 jgv_code jgv_fix_code(uint64_t n, uint64_t s, uint64_t resolution, int64_t longitude, int64_t z);
 
-/* The longitude and z of a cell's middle on the ground, each floored to a whole unit: a fix that lies in that cell. Refusals 5, 4. */
-jgv_fix jgv_ground_nucleus(uint64_t n, uint64_t s, uint64_t code);
+/* The longitude and z of a cell's middle on the ground, each floored to a whole unit: a fix that lies in that cell. Refusal 4. */
+jgv_fix jgv_ground_nucleus(uint64_t code);
 
-/* The neighbour of a cell: direction 0 is up, 1 right, 2 down, 3 left. Refusals 5, 3, 4. */
-jgv_code jgv_neighbour(uint64_t n, uint64_t s, uint64_t code, uint64_t direction);
+/* The neighbour of a cell, in its arrangement: direction 0 is up, 1 right, 2 down, 3 left. Refusals 3, 4. */
+jgv_code jgv_neighbour(uint64_t code, uint64_t direction);
 
 /* Checks a coverage text: the heading's n and s, the number of its whole cells and the sum of their sizes. Refusals 13, 10, 9. */
 jgv_check jgv_coverage_check(const uint8_t *text, size_t length);
 
-/* The codes of a text's whole cells, in rising order, written to the first of `codes`. A text has fewer whole cells than bytes, so a room of
- * `length` is enough. Refusals 13, 10, 9, 8. */
+/* The codes of a text's whole cells, of its heading's arrangement, in rising order, written to the first of `codes`. A text has fewer whole
+ * cells than bytes, so a room of `length` is enough. Refusals 13, 10, 9, 8. */
 jgv_list jgv_coverage_list(const uint8_t *text, size_t length, uint64_t *codes, size_t room);
 
-/* The coverage text of rising codes, none inside another, with nine whole siblings merged upwards. A room of 65,536 bytes is always
- * enough. Refusals 5, 4, 11, 13, 8. */
+/* The coverage text of rising codes of the arrangement (n, s), none inside another, with nine whole siblings merged upwards. A room of
+ * 65,536 bytes is always enough. Refusals 5, 4, 14, 11, 13, 8. */
 jgv_length jgv_coverage_write(uint64_t n, uint64_t s, const uint64_t *codes, size_t count, uint8_t *text, size_t room);
 
-/* Whether a text covers all finest cells of a cell: 1 or 0. Refusals 5, 4, 13, 10, 9, 14. */
-jgv_ask jgv_coverage_ask(uint64_t n, uint64_t s, const uint8_t *text, size_t length, uint64_t code);
+/* Whether a text covers all finest cells of a cell of its arrangement: 1 or 0. Refusals 4, 13, 10, 9, 14. */
+jgv_ask jgv_coverage_ask(const uint8_t *text, size_t length, uint64_t code);
 
 #ifdef __cplusplus
 }

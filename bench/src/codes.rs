@@ -1,6 +1,6 @@
 //! Codes to cells and names and back, and neighbours.
 
-use crate::inputs::{code, codes, Random};
+use crate::inputs::{arrangement, code, codes, Random};
 use crate::library::{CellCode, CodeCell, CodeName, Fold, NameCode, Neighbour};
 use crate::measure::{compare, pair, Plan, Row, Work};
 use crate::plain::codes::{cell_code, code_cell, code_name, name_code};
@@ -10,8 +10,8 @@ use jeguarivo::{jgv_cell_code, jgv_code_cell, jgv_code_name, jgv_name_code, jgv_
 pub fn run(plan: Plan, random: &mut Random) -> Vec<Row> {
     let count = plan.count(10_000_000);
     let mixed = codes(random, count);
-    let finest: Vec<u64> = (0..plan.count(1_000_000))
-        .map(|_| code(random, 15))
+    let finest: Vec<u64> = (0..plan.count(1_000_000) as u64)
+        .map(|i| code(random, 15) | arrangement(i))
         .collect();
     let mut rows = cells(plan, "code to cell and back", &mixed, Some(1.0));
     rows.extend(cells(plan, "the same, only resolution 15", &finest, None));
@@ -55,7 +55,14 @@ fn cells(plan: Plan, work: &str, codes: &[u64], goal: Option<f64>) -> Vec<Row> {
     let sides = pair(goal, library, plain, |(out, back), turn| {
         part(codes, turn).iter().fold(0, |sum, &code| {
             let cell = out(code);
-            let again = back(cell.face, cell.resolution, cell.row, cell.column);
+            let again = back(
+                cell.n,
+                cell.s,
+                cell.face,
+                cell.resolution,
+                cell.row,
+                cell.column,
+            );
             again.fold(cell.fold(sum))
         })
     });
@@ -71,24 +78,20 @@ fn names(plan: Plan, work: &str, codes: &[u64], goal: Option<f64>) -> Vec<Row> {
         let mut name = [0; 16];
         part(codes, turn).iter().fold(0, |sum, &code| {
             let written = unsafe { out(code, name.as_mut_ptr(), name.len()) };
-            let again = unsafe { back(name.as_ptr(), written.length as usize) };
+            let again =
+                unsafe { back(written.n, written.s, name.as_ptr(), written.length as usize) };
             again.fold(written.fold(sum))
         })
     });
     compare(plan, in_parts(work, codes, 1), sides)
 }
 
-/// All four directions, in the arrangement that the code's place in the list says.
+/// All four directions, in the code's arrangement.
 fn neighbours(plan: Plan, work: &str, codes: &[u64], goal: Option<f64>) -> Vec<Row> {
     let sides = pair::<Neighbour>(goal, jgv_neighbour, neighbour, |step, turn| {
-        part(codes, turn)
-            .iter()
-            .zip(0..)
-            .fold(0, |sum, (&code, i)| {
-                (0..4).fold(sum, |sum, direction| {
-                    step(i & 3, i >> 2 & 3, code, direction).fold(sum)
-                })
-            })
+        part(codes, turn).iter().fold(0, |sum, &code| {
+            (0..4).fold(sum, |sum, direction| step(code, direction).fold(sum))
+        })
     });
     compare(plan, in_parts(work, codes, 4), sides)
 }

@@ -88,7 +88,7 @@ fn list(plan: Plan, at: &Text) -> Vec<Row> {
 fn ask(plan: Plan, at: &Text) -> Vec<Row> {
     let sides = pair::<CoverageAsk>(GOAL, jgv_coverage_ask, coverage_ask, |ask, _| {
         at.asked.iter().fold(0, |sum, &code| {
-            unsafe { ask(0, 0, at.text.as_ptr(), at.text.len(), code) }.fold(sum)
+            unsafe { ask(at.text.as_ptr(), at.text.len(), code) }.fold(sum)
         })
     });
     let name = format!("ask {} KiB, a byte", at.size);

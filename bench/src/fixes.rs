@@ -91,9 +91,7 @@ fn others<'a>(points: &'a Points, goal: impl Fn(f64) -> Option<f64>, sides: &mut
 fn nucleus(plan: Plan, random: &mut Random, count: usize) -> Vec<Row> {
     let codes = codes(random, count);
     let sides = pair::<GroundNucleus>(Some(1.1), jgv_ground_nucleus, ground_nucleus, |entry, _| {
-        codes
-            .iter()
-            .fold(0, |sum, &code| entry(0, 0, code).fold(sum))
+        codes.iter().fold(0, |sum, &code| entry(code).fold(sum))
     });
     compare(
         plan,

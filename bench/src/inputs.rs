@@ -66,18 +66,23 @@ impl Points {
     }
 }
 
-/// A code, uniform over the cells of a resolution.
+/// A code, uniform over the cells of a resolution, at n = s = 0.
 pub fn code(random: &mut Random, resolution: u64) -> u64 {
     let unit = NINE[15 - resolution as usize];
-    ((random.below(6 * NINE[resolution as usize]) * unit) << 4) | resolution
+    ((random.below(6 * NINE[resolution as usize]) * unit) << 8) | (resolution << 4)
 }
 
-/// Codes of all resolutions alike.
+/// The 4n + s of a code in a list: n and s go round with its place.
+pub fn arrangement(place: u64) -> u64 {
+    place % 4 * 4 + place / 4 % 4
+}
+
+/// Codes of all resolutions and arrangements alike.
 pub fn codes(random: &mut Random, count: usize) -> Vec<u64> {
-    (0..count)
-        .map(|_| {
+    (0..count as u64)
+        .map(|i| {
             let resolution = random.below(16);
-            code(random, resolution)
+            code(random, resolution) | arrangement(i)
         })
         .collect()
 }
@@ -112,7 +117,7 @@ pub fn swath(random: &mut Random, resolution: u64, longest: usize) -> (Vec<u64>,
 }
 
 fn next(code: u64, direction: u64) -> u64 {
-    neighbour::neighbour(0, 0, code, direction).code
+    neighbour::neighbour(code, direction).code
 }
 
 /// A survey: legs to and fro over a field, each a little north of the last, with some drift; lines `longitude z`.

@@ -1,19 +1,19 @@
 //! The entries, of the library and of the plain Rust beside it, and a sum over their answers.
 
-use jeguarivo::{Ask, Cell, Check, Code, Fix, Length, List};
+use jeguarivo::{Ask, Cell, Check, Code, Fix, Length, List, Name};
 
-pub type CellCode = extern "C" fn(u64, u64, u64, u64) -> Code;
+pub type CellCode = extern "C" fn(u64, u64, u64, u64, u64, u64) -> Code;
 pub type CodeCell = extern "C" fn(u64) -> Cell;
-pub type NameCode = unsafe extern "C" fn(*const u8, usize) -> Code;
-pub type CodeName = unsafe extern "C" fn(u64, *mut u8, usize) -> Length;
+pub type NameCode = unsafe extern "C" fn(u64, u64, *const u8, usize) -> Code;
+pub type CodeName = unsafe extern "C" fn(u64, *mut u8, usize) -> Name;
 pub type FixCode = extern "C" fn(u64, u64, u64, i64, i64) -> Code;
-pub type GroundNucleus = extern "C" fn(u64, u64, u64) -> Fix;
-pub type Neighbour = extern "C" fn(u64, u64, u64, u64) -> Code;
+pub type GroundNucleus = extern "C" fn(u64) -> Fix;
+pub type Neighbour = extern "C" fn(u64, u64) -> Code;
 pub type CoverageCheck = unsafe extern "C" fn(*const u8, usize) -> Check;
 pub type CoverageList = unsafe extern "C" fn(*const u8, usize, *mut u64, usize) -> List;
 pub type CoverageWrite =
     unsafe extern "C" fn(u64, u64, *const u64, usize, *mut u8, usize) -> Length;
-pub type CoverageAsk = unsafe extern "C" fn(u64, u64, *const u8, usize, u64) -> Ask;
+pub type CoverageAsk = unsafe extern "C" fn(*const u8, usize, u64) -> Ask;
 
 /// A sum that depends on every field and on the order of answers.
 pub trait Fold {
@@ -36,7 +36,8 @@ macro_rules! folds {
 
 folds! {
     Code { code }
-    Cell { face, resolution, row, column }
+    Cell { n, s, face, resolution, row, column }
+    Name { n, s, length }
     Length { length }
     Fix { longitude, z }
     Check { place, n, s, cells, size }

@@ -32,12 +32,13 @@ pub fn run(random: &mut Random, count: usize) {
     eprintln!("bench: {count} inputs of each number entry and {} texts and lists, good and bad: the same answers", count / 100);
 }
 
-/// Mostly a good code.
+/// Mostly a good code, half of them at n = s = 0.
 fn any_code(random: &mut Random) -> u64 {
     let resolution = random.below(16);
     match random.below(8) {
-        0 => random.below(20_000_000_000_000_000),
+        0 => random.below(320_000_000_000_000_000),
         1 => random.word(),
+        2..=4 => code(random, resolution) | random.below(16),
         _ => code(random, resolution),
     }
 }
@@ -53,8 +54,8 @@ fn numbers(random: &mut Random) {
     );
     same(
         "cell to code",
-        jgv_cell_code(face, k, row, column),
-        cell_code(face, k, row, column),
+        jgv_cell_code(n, s, face, k, row, column),
+        cell_code(n, s, face, k, row, column),
     );
     same("code to cell", jgv_code_cell(code), code_cell(code));
     same(
@@ -64,13 +65,13 @@ fn numbers(random: &mut Random) {
     );
     same(
         "ground nucleus",
-        jgv_ground_nucleus(n, s, code),
-        ground_nucleus(n, s, code),
+        jgv_ground_nucleus(code),
+        ground_nucleus(code),
     );
     same(
         "neighbour",
-        jgv_neighbour(n, s, code, direction),
-        neighbour(n, s, code, direction),
+        jgv_neighbour(code, direction),
+        neighbour(code, direction),
     );
     edges(random, n, s, k);
     ends(random, n, s, k);
@@ -113,13 +114,14 @@ fn names(random: &mut Random) {
         code_name(code, plain.as_mut_ptr(), room),
     );
     same("name", (lengths.0, library), (lengths.1, plain));
+    let (n, s) = (random.below(9) / 2, random.below(9) / 2);
     if random.below(2) == 0 {
         library[random.below(18) as usize] = BYTES[random.below(BYTES.len() as u64) as usize];
     }
     same(
         "name to code",
-        lent::name_code(&library[..room]),
-        name_code(library.as_ptr(), room),
+        lent::name_code(n, s, &library[..room]),
+        name_code(n, s, library.as_ptr(), room),
     );
 }
 
@@ -146,12 +148,7 @@ fn texts(random: &mut Random) {
         text[6] = b'0' + random.below(4) as u8;
     }
     spoil(random, &mut text);
-    let (at, length, n, room) = (
-        text.as_ptr(),
-        text.len(),
-        random.below(5),
-        random.below(400) as usize,
-    );
+    let (at, length, room) = (text.as_ptr(), text.len(), random.below(400) as usize);
     let code = any_code(random);
     let (mut library, mut plain) = ([7; 400], [7; 400]);
     same(
@@ -161,8 +158,8 @@ fn texts(random: &mut Random) {
     );
     same(
         "ask",
-        lent::coverage_ask(n / 4, n / 3, &text, code),
-        coverage_ask(n / 4, n / 3, at, length, code),
+        lent::coverage_ask(&text, code),
+        coverage_ask(at, length, code),
     );
     let counts = (
         lent::coverage_list(&text, &mut library[..room]),
@@ -174,15 +171,24 @@ fn texts(random: &mut Random) {
 fn lists(random: &mut Random) {
     let resolution = 5 + random.below(11);
     let (mut codes, text) = swath(random, resolution, 2_000);
+    let both = random.below(16);
+    codes.iter_mut().for_each(|code| *code |= both);
     if random.below(2) == 0 {
         let at = random.below(codes.len() as u64) as usize;
-        codes[at] = any_code(random);
+        codes[at] = match random.below(2) {
+            0 => any_code(random),
+            _ => codes[at] ^ random.below(16),
+        };
     }
-    let (n, room) = (random.below(5), text.len() - random.below(2) as usize);
+    let n = match random.below(4) {
+        0 => random.below(5),
+        _ => both >> 2,
+    };
+    let (s, room) = (both & 3, text.len() - random.below(2) as usize);
     let (mut library, mut plain) = ([7; 2_000], [7; 2_000]);
     let lengths = (
-        lent::coverage_write(n, 1, &codes, &mut library[..room]),
-        coverage_write(n, 1, codes.as_ptr(), codes.len(), plain.as_mut_ptr(), room),
+        lent::coverage_write(n, s, &codes, &mut library[..room]),
+        coverage_write(n, s, codes.as_ptr(), codes.len(), plain.as_mut_ptr(), room),
     );
     same("write", (lengths.0, library), (lengths.1, plain));
 }

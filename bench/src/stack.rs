@@ -1,6 +1,6 @@
 //! The greatest stack depth of each entry: it runs on a painted stack, over many inputs, and the deepest byte that changed counts.
 
-use crate::inputs::{code, swath, Points, Random};
+use crate::inputs::{arrangement, code, swath, Points, Random};
 use crate::plain::coverage::coverage_list;
 use crate::plain::NINE;
 use jeguarivo::*;
@@ -53,8 +53,10 @@ struct Inputs {
 
 fn inputs(random: &mut Random, check: bool) -> Inputs {
     let count = if check { 2_000 } else { 100_000 };
-    let mut codes: Vec<u64> = (0..count).map(|i| code(random, i % 16)).collect();
-    codes.extend([u64::MAX, 19, 1 << 60]);
+    let mut codes: Vec<u64> = (0..count)
+        .map(|i| code(random, i % 16) | arrangement(i))
+        .collect();
+    codes.extend([u64::MAX, 19 << 4, 1 << 60]);
     let points = Points::new(random, count as usize, |_| true).fixes;
     let (mut texts, mut lists) = (deep_texts(), vec![Vec::new()]);
     for resolution in [9, 12, 15] {
@@ -64,9 +66,9 @@ fn inputs(random: &mut Random, check: bool) -> Inputs {
     }
     lists.push(listed(&texts[0]));
     // siblings that merge through five levels, and cells that share no list
-    lists.push((0..NINE[5]).map(|i| (i << 4) | 15).collect());
+    lists.push((0..NINE[5]).map(|i| (i << 8) | 15 << 4).collect());
     let apart = NINE[13] / 100;
-    lists.push((0..1_000).map(|i| ((i * apart) << 4) | 15).collect());
+    lists.push((0..1_000).map(|i| ((i * apart) << 8) | 15 << 4).collect());
     Inputs {
         codes,
         points,
@@ -127,22 +129,22 @@ fn numbers(inputs: &Inputs) -> Vec<(&'static str, usize)> {
     let (codes, points) = (&inputs.codes, &inputs.points);
     let mut name = [0; 16];
     depths! {
-        jgv_cell_code: codes, &code => (code % 7, code >> 8 & 15, code % 20_000_000 / 3, code % 10_000_019);
+        jgv_cell_code: codes, &code => (code & 3, code >> 2 & 3, code % 7, code >> 12 & 15, code % 20_000_000 / 3, code % 10_000_019);
         jgv_code_cell: codes, &code => (code);
-        jgv_name_code: codes, &code => (name.as_ptr(), 1 + (code & 15) as usize);
+        jgv_name_code: codes, &code => (code & 3, code >> 2 & 3, name.as_ptr(), 1 + (code >> 4 & 15) as usize);
         jgv_code_name: codes, &code => (code, name.as_mut_ptr(), 16);
         jgv_parent: codes, &code => (code);
-        jgv_child: codes, &code => (code, code >> 8 & 7);
+        jgv_child: codes, &code => (code, code >> 12 & 7);
         jgv_size: codes, &code => (code);
         jgv_shape: codes, &code => (code);
         jgv_corner_count: codes, &code => (code);
-        jgv_square: codes, &code => (0, 0, code);
-        jgv_nucleus: codes, &code => (0, 0, code);
-        jgv_vertices: codes, &code => (0, 0, code);
+        jgv_square: codes, &code => (code);
+        jgv_nucleus: codes, &code => (code);
+        jgv_vertices: codes, &code => (code);
         jgv_point_code: points, &(x, z) => (0, 0, z as u64 & 15, x.abs() % 114_791_256, z % 43_046_721);
         jgv_fix_code: points, &(longitude, z) => (z as u64 & 3, 0, longitude as u64 & 15, longitude, z);
-        jgv_ground_nucleus: codes, &code => (1, 2, code);
-        jgv_neighbour: codes, &code => (1, 2, code, code >> 8 & 3);
+        jgv_ground_nucleus: codes, &code => (code);
+        jgv_neighbour: codes, &code => (code, code >> 12 & 3);
     }
 }
 
@@ -153,6 +155,6 @@ fn texts(inputs: &Inputs) -> Vec<(&'static str, usize)> {
         jgv_coverage_check: texts, text => (text.as_ptr(), text.len());
         jgv_coverage_list: texts, text => (text.as_ptr(), text.len(), codes.as_mut_ptr(), codes.len());
         jgv_coverage_write: lists, list => (0, 0, list.as_ptr(), list.len(), room.as_mut_ptr(), room.len());
-        jgv_coverage_ask: texts, text => (0, 0, text.as_ptr(), text.len(), 15);
+        jgv_coverage_ask: texts, text => (text.as_ptr(), text.len(), 15 << 4);
     }
 }

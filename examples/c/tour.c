@@ -7,7 +7,7 @@
 #include <stdlib.h>
 #include <string.h>
 
-/* Read `refusal` first: where it isn't 0, every other field is 0, and 0 is also the code of the cell N. */
+/* Read `refusal` first: where it isn't 0, every other field is 0, and 0 is also the code of the cell N at n = s = 0. */
 static void expect_answer(uint64_t refusal) {
     if (refusal) {
         fprintf(stderr, "tour: refused with %" PRIu64 "\n", refusal);
@@ -20,8 +20,13 @@ static uint64_t code_in(jgv_code answer) {
     return answer.code;
 }
 
+/* A name says no arrangement, a code does. */
+static uint64_t code_at(uint64_t n, uint64_t s, const char *name) {
+    return code_in(jgv_name_code(n, s, (const uint8_t *)name, strlen(name)));
+}
+
 static uint64_t code_of(const char *name) {
-    return code_in(jgv_name_code((const uint8_t *)name, strlen(name)));
+    return code_at(0, 0, name);
 }
 
 typedef struct {
@@ -35,22 +40,23 @@ static cell_name name_of(uint64_t code) {
     return name;
 }
 
-/* A cell is a face, a resolution, a row from the top and a column from the left. It has one code and one name. */
+/* A cell is a face, a resolution, a row from the top and a column from the left. It has one name, and one code in each arrangement. */
 static void codes_and_names(void) {
-    uint64_t n1 = code_in(jgv_cell_code(0, 1, 0, 1));
-    printf("cell_code: face 0, resolution 1, row 0, column 1 -> %" PRIu64 "\n", n1);
+    uint64_t n1 = code_in(jgv_cell_code(2, 1, 0, 1, 0, 1));
+    printf("cell_code: n 2, s 1, face 0, resolution 1, row 0, column 1 -> %" PRIu64 "\n", n1);
     jgv_cell cell = jgv_code_cell(n1);
     expect_answer(cell.refusal);
-    printf("code_cell: %" PRIu64 " -> face %" PRIu64 ", resolution %" PRIu64 ", row %" PRIu64 ", column %" PRIu64 "\n", n1, cell.face,
-           cell.resolution, cell.row, cell.column);
+    printf("code_cell: %" PRIu64 " -> n %" PRIu64 ", s %" PRIu64 ", face %" PRIu64, n1, cell.n, cell.s, cell.face);
+    printf(", resolution %" PRIu64 ", row %" PRIu64 ", column %" PRIu64 "\n", cell.resolution, cell.row, cell.column);
     printf("code_name: %" PRIu64 " -> %s\n", n1, name_of(n1).text);
 
     static const char *const names[] = {"N", "N0", "N1", "O", "S888888888888888"};
     for (size_t i = 0; i < 5; i++)
         printf("name_code: %s -> %" PRIu64 "\n", names[i], code_of(names[i]));
+    printf("name_code: S888888888888888, n 3, s 3 -> %" PRIu64 "\n", code_at(3, 3, "S888888888888888"));
 
     /* Bad input is refused with a number; the header says what each number means. */
-    jgv_code bad = jgv_name_code((const uint8_t *)"X1", 2);
+    jgv_code bad = jgv_name_code(0, 0, (const uint8_t *)"X1", 2);
     printf("name_code: X1 -> refused with %" PRIu64 "\n", bad.refusal);
 }
 
@@ -82,13 +88,13 @@ static void shapes(void) {
 }
 
 static void print_square(uint64_t n, uint64_t s, const char *name, const char *shown) {
-    jgv_square_answer square = jgv_square(n, s, code_of(name));
+    jgv_square_answer square = jgv_square(code_at(n, s, name));
     expect_answer(square.refusal);
     printf("square: %s -> left %" PRId64 ", top %" PRId64 ", side %" PRId64 "\n", shown, square.left, square.top, square.side);
 }
 
 static jgv_point print_nucleus(uint64_t s, const char *name, const char *shown) {
-    jgv_point nucleus = jgv_nucleus(0, s, code_of(name));
+    jgv_point nucleus = jgv_nucleus(code_at(0, s, name));
     expect_answer(nucleus.refusal);
     printf("nucleus: %s -> (%" PRId64 ", %" PRId64 ")\n", shown, nucleus.x, nucleus.y);
     return nucleus;
@@ -96,7 +102,7 @@ static jgv_point print_nucleus(uint64_t s, const char *name, const char *shown) 
 
 /* The corners, owned or not: top left, top right, bottom right, bottom left. */
 static jgv_vertices_answer print_vertices(const char *name) {
-    jgv_vertices_answer corners = jgv_vertices(0, 0, code_of(name));
+    jgv_vertices_answer corners = jgv_vertices(code_of(name));
     expect_answer(corners.refusal);
     printf("vertices: %s ->", name);
     for (size_t i = 0; i < 4; i++)
@@ -135,7 +141,7 @@ static void print_fix(uint64_t n, uint64_t resolution, int64_t longitude, int64_
 }
 
 static void print_ground_nucleus(const char *name) {
-    jgv_fix fix = jgv_ground_nucleus(0, 0, code_of(name));
+    jgv_fix fix = jgv_ground_nucleus(code_of(name));
     expect_answer(fix.refusal);
     printf("ground_nucleus: %s -> longitude %" PRId64 ", z %" PRId64 "\n", name, fix.longitude, fix.z);
 }
@@ -161,7 +167,8 @@ static void ground(void) {
 static void neighbours(void) {
     static const char *const directions[] = {"up", "right", "down", "left"};
     for (uint64_t direction = 0; direction < 4; direction++)
-        printf("neighbour: P0, %s -> %s\n", directions[direction], name_of(code_in(jgv_neighbour(0, 0, code_of("P0"), direction))).text);
+        printf("neighbour: P0, %s -> %s\n", directions[direction], name_of(code_in(jgv_neighbour(code_of("P0"), direction))).text);
+    printf("neighbour: P0, up, n 1 -> %s\n", name_of(code_in(jgv_neighbour(code_at(1, 0, "P0"), 0))).text);
 }
 
 /* Writes the text of rising cells to `text` and shows its bytes; answers its length. No text is longer than 65,536 bytes. */
@@ -182,9 +189,23 @@ static size_t write_text(const char *const *names, size_t count, uint8_t *text, 
 }
 
 static void print_ask(const uint8_t *text, size_t length, const char *name) {
-    jgv_ask answer = jgv_coverage_ask(0, 0, text, length, code_of(name));
+    jgv_ask answer = jgv_coverage_ask(text, length, code_of(name));
     expect_answer(answer.refusal);
     printf("coverage_ask: %s, %s -> %s\n", "P(34(1))", name, answer.covered ? "yes" : "no");
+}
+
+/* One place flown by two crews, in two arrangements: N8 in the first is N6 in the second. Codes of two arrangements are not taken together. */
+static void two_arrangements(void) {
+    const uint64_t ours = code_in(jgv_fix_code(0, 0, 1, -900000000, 880000000000000000));
+    const uint64_t theirs = code_in(jgv_fix_code(1, 0, 1, -900000000, 880000000000000000));
+    const uint64_t both[] = {theirs, ours};
+    uint8_t text[32];
+    jgv_length mixed = jgv_coverage_write(0, 0, both, 2, text, sizeof text);
+    printf("coverage_write: N6, n 1, and N8, n 0 -> refused with %" PRIu64 "\n", mixed.refusal);
+    jgv_length written = jgv_coverage_write(0, 0, &ours, 1, text, sizeof text);
+    expect_answer(written.refusal);
+    jgv_ask asked = jgv_coverage_ask(text, (size_t)written.length, theirs);
+    printf("coverage_ask: N(8), N6, n 1 -> refused with %" PRIu64 "\n", asked.refusal);
 }
 
 /* A text that is not of the grammar is refused with 9; `place` says how much of it some good text begins with. */
@@ -231,5 +252,6 @@ int main(void) {
     ground();
     neighbours();
     coverage();
+    two_arrangements();
     return 0;
 }

@@ -4,7 +4,7 @@
 
 JEGUARIVO_SO names the shared object; without it, the one that examples/tour builds is taken.
 
-A cell is given as its code, a whole number. Each function answers the value, or raises Refused with the header's number. A
+A cell is given as its code, a whole number that says its arrangement too. Each function answers the value, or raises Refused with the header's number. A
 number that does not fit in 64 bits raises ctypes.ArgumentError: ctypes alone would cut it in silence.
 """
 
@@ -33,7 +33,7 @@ REASONS = {
     11: "a list of codes that does not rise strictly, or with one cell inside another",
     12: "the parent of a cell of resolution 0, or a child of one of resolution 15",
     13: "a text longer than 65,536 bytes",
-    14: "the asked arrangement differs from the text's",
+    14: "a question of another arrangement than the text's, or a list with a code of another arrangement than the asked one",
 }
 
 
@@ -47,6 +47,8 @@ class Refused(ValueError):
 
 
 class Cell(NamedTuple):
+    n: int
+    s: int
     face: int
     resolution: int
     row: int
@@ -82,7 +84,8 @@ def _struct(name: str, kind: type, *fields: str) -> type:
 
 
 _Code = _struct("jgv_code", c_uint64, "code")
-_Cell = _struct("jgv_cell", c_uint64, "face", "resolution", "row", "column")
+_Cell = _struct("jgv_cell", c_uint64, "n", "s", "face", "resolution", "row", "column")
+_Name = _struct("jgv_name", c_uint64, "n", "s", "length")
 _Length = _struct("jgv_length", c_uint64, "length")
 _Size = _struct("jgv_size_answer", c_uint64, "size")
 _Shape = _struct("jgv_shape_answer", c_uint64, "shape")
@@ -136,47 +139,47 @@ def _entry(name: str, answer: type, *arguments):
     return call
 
 
-_cell_code = _entry("jgv_cell_code", _Code, _U64, _U64, _U64, _U64)
+_cell_code = _entry("jgv_cell_code", _Code, _U64, _U64, _U64, _U64, _U64, _U64)
 _code_cell = _entry("jgv_code_cell", _Cell, _U64)
-_name_code = _entry("jgv_name_code", _Code, _BYTES, c_size_t)
-_code_name = _entry("jgv_code_name", _Length, _U64, _ROOM, c_size_t)
+_name_code = _entry("jgv_name_code", _Code, _U64, _U64, _BYTES, c_size_t)
+_code_name = _entry("jgv_code_name", _Name, _U64, _ROOM, c_size_t)
 _parent = _entry("jgv_parent", _Code, _U64)
 _child = _entry("jgv_child", _Code, _U64, _U64)
 _size = _entry("jgv_size", _Size, _U64)
 _shape = _entry("jgv_shape", _Shape, _U64)
 _corner_count = _entry("jgv_corner_count", _Count, _U64)
-_square = _entry("jgv_square", _Square, _U64, _U64, _U64)
-_nucleus = _entry("jgv_nucleus", _Point, _U64, _U64, _U64)
-_vertices = _entry("jgv_vertices", _Vertices, _U64, _U64, _U64)
+_square = _entry("jgv_square", _Square, _U64)
+_nucleus = _entry("jgv_nucleus", _Point, _U64)
+_vertices = _entry("jgv_vertices", _Vertices, _U64)
 _point_code = _entry("jgv_point_code", _Code, _U64, _U64, _U64, _I64, _I64)
 _fix_code = _entry("jgv_fix_code", _Code, _U64, _U64, _U64, _I64, _I64)
-_ground_nucleus = _entry("jgv_ground_nucleus", _Fix, _U64, _U64, _U64)
-_neighbour = _entry("jgv_neighbour", _Code, _U64, _U64, _U64, _U64)
+_ground_nucleus = _entry("jgv_ground_nucleus", _Fix, _U64)
+_neighbour = _entry("jgv_neighbour", _Code, _U64, _U64)
 _coverage_check = _entry("jgv_coverage_check", _Check, _BYTES, c_size_t)
 _coverage_list = _entry("jgv_coverage_list", _List, _BYTES, c_size_t, _CODES, c_size_t)
 _coverage_write = _entry("jgv_coverage_write", _Length, _U64, _U64, _CODES, c_size_t, _ROOM, c_size_t)
-_coverage_ask = _entry("jgv_coverage_ask", _Ask, _U64, _U64, _BYTES, c_size_t, _U64)
+_coverage_ask = _entry("jgv_coverage_ask", _Ask, _BYTES, c_size_t, _U64)
 
 
-def cell_code(face: int, resolution: int, row: int, column: int) -> int:
-    """The code of a cell."""
-    return _cell_code(face, resolution, row, column).code
+def cell_code(n: int, s: int, face: int, resolution: int, row: int, column: int) -> int:
+    """The code of a cell in an arrangement."""
+    return _cell_code(n, s, face, resolution, row, column).code
 
 
 def code_cell(code: int) -> Cell:
-    """The face, resolution, row and column of a code."""
+    """The arrangement n and s, and the face, resolution, row and column of a code."""
     got = _code_cell(code)
-    return Cell(got.face, got.resolution, got.row, got.column)
+    return Cell(got.n, got.s, got.face, got.resolution, got.row, got.column)
 
 
-def name_code(name: Union[str, bytes]) -> int:
-    """The code of a name, such as "P41"."""
+def name_code(n: int, s: int, name: Union[str, bytes]) -> int:
+    """The code of a name, such as "P41", in an arrangement."""
     name = name.encode() if isinstance(name, str) else bytes(name)
-    return _name_code(name, len(name)).code
+    return _name_code(n, s, name, len(name)).code
 
 
 def code_name(code: int) -> str:
-    """The name of a code."""
+    """The name of a code; `code_cell` answers its arrangement."""
     room = ctypes.create_string_buffer(LONGEST_NAME)
     length = _code_name(code, room, LONGEST_NAME).length
     return room.raw[:length].decode("ascii")
@@ -207,21 +210,21 @@ def corner_count(code: int) -> int:
     return _corner_count(code).count
 
 
-def square(n: int, s: int, code: int) -> Square:
+def square(code: int) -> Square:
     """The square of a cell in the plane."""
-    got = _square(n, s, code)
+    got = _square(code)
     return Square(got.left, got.top, got.side)
 
 
-def nucleus(n: int, s: int, code: int) -> Point:
+def nucleus(code: int) -> Point:
     """The middle of a cell in the plane."""
-    got = _nucleus(n, s, code)
+    got = _nucleus(code)
     return Point(got.x, got.y)
 
 
-def vertices(n: int, s: int, code: int) -> Tuple[Point, ...]:
+def vertices(code: int) -> Tuple[Point, ...]:
     """The corners of a cell in the plane: top left, top right, bottom right, bottom left."""
-    got = _vertices(n, s, code)
+    got = _vertices(code)
     return tuple(map(Point, got.x, got.y))
 
 
@@ -235,15 +238,15 @@ def fix_code(n: int, s: int, resolution: int, longitude: int, z: int) -> int:
     return _fix_code(n, s, resolution, longitude, z).code
 
 
-def ground_nucleus(n: int, s: int, code: int) -> Fix:
+def ground_nucleus(code: int) -> Fix:
     """The fix of a cell's middle, each number floored."""
-    got = _ground_nucleus(n, s, code)
+    got = _ground_nucleus(code)
     return Fix(got.longitude, got.z)
 
 
-def neighbour(n: int, s: int, code: int, direction: int) -> int:
-    """The neighbour of a cell: UP, RIGHT, DOWN or LEFT."""
-    return _neighbour(n, s, code, direction).code
+def neighbour(code: int, direction: int) -> int:
+    """The neighbour of a cell, in its arrangement: UP, RIGHT, DOWN or LEFT."""
+    return _neighbour(code, direction).code
 
 
 def coverage_check(text: bytes) -> Check:
@@ -253,19 +256,19 @@ def coverage_check(text: bytes) -> Check:
 
 
 def coverage_list(text: bytes) -> List[int]:
-    """The codes of a text's whole cells, rising. A text has fewer whole cells than bytes."""
+    """The codes of a text's whole cells, of its own arrangement, rising. A text has fewer whole cells than bytes."""
     codes = (c_uint64 * len(text))()
     return codes[: _coverage_list(text, len(text), codes, len(text)).count]
 
 
 def coverage_write(n: int, s: int, codes: Iterable[int]) -> bytes:
-    """The coverage text of rising codes, none inside another."""
+    """The coverage text of rising codes of an arrangement, none inside another."""
     given = [_U64.from_param(code) for code in codes]
     room = ctypes.create_string_buffer(LONGEST_TEXT)
     length = _coverage_write(n, s, (c_uint64 * len(given))(*given), len(given), room, LONGEST_TEXT).length
     return room.raw[:length]
 
 
-def coverage_ask(n: int, s: int, text: bytes, code: int) -> bool:
-    """Whether a text covers all finest cells of a cell."""
-    return _coverage_ask(n, s, text, len(text), code).covered == 1
+def coverage_ask(text: bytes, code: int) -> bool:
+    """Whether a text covers all finest cells of a cell of its arrangement."""
+    return _coverage_ask(text, len(text), code).covered == 1

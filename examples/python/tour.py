@@ -4,51 +4,58 @@ Each line begins with the entry's name, without jgv_. The arrangement (n, s) is 
 """
 
 import jeguarivo as jgv
-from jeguarivo import code_name, name_code
+from jeguarivo import code_name
+
+
+def code_of(name, n=0, s=0):
+    """A name says no arrangement, a code does."""
+    return jgv.name_code(n, s, name)
 
 
 def codes_and_names():
-    """A cell is a face, a resolution, a row from the top and a column from the left. It has one code and one name."""
-    n1 = jgv.cell_code(face=0, resolution=1, row=0, column=1)
-    print(f"cell_code: face 0, resolution 1, row 0, column 1 -> {n1}")
+    """A cell is a face, a resolution, a row from the top and a column from the left. It has one name, and one code in each arrangement."""
+    n1 = jgv.cell_code(n=2, s=1, face=0, resolution=1, row=0, column=1)
+    print(f"cell_code: n 2, s 1, face 0, resolution 1, row 0, column 1 -> {n1}")
     cell = jgv.code_cell(n1)
-    print(f"code_cell: {n1} -> face {cell.face}, resolution {cell.resolution}, row {cell.row}, column {cell.column}")
+    place = f"face {cell.face}, resolution {cell.resolution}, row {cell.row}, column {cell.column}"
+    print(f"code_cell: {n1} -> n {cell.n}, s {cell.s}, {place}")
     print(f"code_name: {n1} -> {code_name(n1)}")
     for name in ("N", "N0", "N1", "O", "S888888888888888"):
-        print(f"name_code: {name} -> {name_code(name)}")
+        print(f"name_code: {name} -> {code_of(name)}")
+    print(f"name_code: S888888888888888, n 3, s 3 -> {code_of('S888888888888888', 3, 3)}")
     try:  # bad input is refused with a number; jgv.REASONS says what each number means
-        print(f"name_code: X1 -> {name_code('X1')}")
+        print(f"name_code: X1 -> {code_of('X1')}")
     except jgv.Refused as refused:
         print(f"name_code: X1 -> refused with {refused.number}")
 
 
 def families():
     """Each cell but the finest has nine children, 0 top left to 8 bottom right. The size is the number of finest cells inside."""
-    print(f"parent: P41 -> {code_name(jgv.parent(name_code('P41')))}")
-    print(f"child: P, digit 0 -> {code_name(jgv.child(name_code('P'), 0))}")
+    print(f"parent: P41 -> {code_name(jgv.parent(code_of('P41')))}")
+    print(f"child: P, digit 0 -> {code_name(jgv.child(code_of('P'), 0))}")
     for name in ("O", "N1", "S888888888888888"):
-        print(f"size: {name} -> {jgv.size(name_code(name))}")
+        print(f"size: {name} -> {jgv.size(code_of(name))}")
 
 
 def shapes():
     """Four shapes of cells; a dart has one corner neighbour less than the others."""
     for name in ("P0", "N4", "N0", "N1"):
-        print(f"shape: {name} -> {jgv.shape(name_code(name))}")
-        print(f"corner_count: {name} -> {jgv.corner_count(name_code(name))}")
+        print(f"shape: {name} -> {jgv.shape(code_of(name))}")
+        print(f"corner_count: {name} -> {jgv.corner_count(code_of(name))}")
 
 
 def plane():
     """The plane, in whole units: x runs east from the left edge of O, y up from the equator. N lies above face n, S below face s."""
     for n, s, name, shown in ((0, 0, "N", "N, n 0"), (3, 0, "N", "N, n 3"), (0, 2, "S", "S, s 2"), (0, 0, "P0", "P0")):
-        square = jgv.square(n, s, name_code(name))
+        square = jgv.square(code_of(name, n, s))
         print(f"square: {shown} -> left {square.left}, top {square.top}, side {square.side}")
 
-    middle, south = jgv.nucleus(0, 0, name_code("P0")), jgv.nucleus(0, 2, name_code("S"))
+    middle, south = jgv.nucleus(code_of("P0")), jgv.nucleus(code_of("S", 0, 2))
     print(f"nucleus: P0 -> ({middle.x}, {middle.y})")
     print(f"nucleus: S, s 2 -> ({south.x}, {south.y})")
-    corners = jgv.vertices(0, 0, name_code("P0"))  # owned or not: top left, top right, bottom right, bottom left
+    corners = jgv.vertices(code_of("P0"))  # owned or not: top left, top right, bottom right, bottom left
     print("vertices: P0 ->", *(f"({x}, {y})" for x, y in corners))
-    print("vertices: P8 ->", *(f"({x}, {y})" for x, y in jgv.vertices(0, 0, name_code("P8"))))
+    print("vertices: P8 ->", *(f"({x}, {y})" for x, y in jgv.vertices(code_of("P8"))))
 
     # A cell owns its left and top edges: the top left corner of P0 is in P0, the bottom right one in P4.
     for x, y in (middle, corners[0], corners[2]):
@@ -79,18 +86,19 @@ def ground():
 
     # Back from a cell to the fix of its middle; both numbers are floored, so P6 is no mirror of P0.
     for name in ("Q", "P0", "P6", "N4"):
-        fix = jgv.ground_nucleus(0, 0, name_code(name))
+        fix = jgv.ground_nucleus(code_of(name))
         print(f"ground_nucleus: {name} -> longitude {fix.longitude}, z {fix.z}")
 
 
 def neighbours():
     for direction, word in ((jgv.UP, "up"), (jgv.RIGHT, "right"), (jgv.DOWN, "down"), (jgv.LEFT, "left")):
-        print(f"neighbour: P0, {word} -> {code_name(jgv.neighbour(0, 0, name_code('P0'), direction))}")
+        print(f"neighbour: P0, {word} -> {code_name(jgv.neighbour(code_of('P0'), direction))}")
+    print(f"neighbour: P0, up, n 1 -> {code_name(jgv.neighbour(code_of('P0', 1, 0), jgv.UP))}")
 
 
 def write_text(names):
     """The text of rising cells; shows its bytes."""
-    text = jgv.coverage_write(0, 0, map(name_code, names))
+    text = jgv.coverage_write(0, 0, map(code_of, names))
     print(f"coverage_write: {' '.join(names)} -> {text.hex(' ').upper()}")
     return text
 
@@ -103,7 +111,7 @@ def coverage():
     print(f"coverage_check: P(34(1)) -> n {check.n}, s {check.s}, {check.cells} whole cells, size {check.size}")
     print("coverage_list: P(34(1)) ->", *map(code_name, jgv.coverage_list(text)))
     for name in ("P3", "P41", "P418", "P4"):  # P4 is covered in part only: no
-        covered = jgv.coverage_ask(0, 0, text, name_code(name))
+        covered = jgv.coverage_ask(text, code_of(name))
         print(f"coverage_ask: P(34(1)), {name} -> {'yes' if covered else 'no'}")
 
     # A text that is not of the grammar is refused with 9; `place` says how much of it some good text begins with.
@@ -114,6 +122,23 @@ def coverage():
             print(f"coverage_check: {body} -> refused with {refused.number} at place {refused.place}")
 
 
+def refusal(call, *values):
+    """A call that should be refused, as the tour shows it."""
+    try:
+        call(*values)
+        return "an answer"
+    except jgv.Refused as refused:
+        return f"refused with {refused.number}"
+
+
+def two_arrangements():
+    """One place flown by two crews, in two arrangements: N8 in the first is N6 in the second. Codes of two arrangements are not taken together."""
+    ours, theirs = (jgv.fix_code(n, 0, 1, -900_000_000, 880_000_000_000_000_000) for n in (0, 1))
+    print(f"coverage_write: N6, n 1, and N8, n 0 -> {refusal(jgv.coverage_write, 0, 0, [theirs, ours])}")
+    text = jgv.coverage_write(0, 0, [ours])
+    print(f"coverage_ask: N(8), N6, n 1 -> {refusal(jgv.coverage_ask, text, theirs)}")
+
+
 if __name__ == "__main__":
-    for part in (codes_and_names, families, shapes, plane, ground, neighbours, coverage):
+    for part in (codes_and_names, families, shapes, plane, ground, neighbours, coverage, two_arrangements):
         part()

@@ -1,5 +1,6 @@
 /* Calls every entry through the header alone, with good and with refused input, and checks every field of the answers and what lent
- * memory holds afterwards. What is expected comes from the scope paper ("01"), never from what the library answers.
+ * memory holds afterwards. What is expected comes from the scope paper ("01") and the change requests ("02"), never from what the library
+ * answers.
  * Each number that an entry takes is also given one that 32 bits don't hold, which a narrower declaration would change. */
 #include "jeguarivo.h"
 
@@ -20,8 +21,9 @@
 #define ANSWER(type, size) ASSERT(sizeof(type) == (size)); UNSIGNED(type, refusal, 0)
 
 ANSWER(jgv_code, 16); UNSIGNED(jgv_code, code, 8);
-ANSWER(jgv_cell, 40); UNSIGNED(jgv_cell, face, 8); UNSIGNED(jgv_cell, resolution, 16);
-UNSIGNED(jgv_cell, row, 24); UNSIGNED(jgv_cell, column, 32);
+ANSWER(jgv_cell, 56); UNSIGNED(jgv_cell, n, 8); UNSIGNED(jgv_cell, s, 16); UNSIGNED(jgv_cell, face, 24);
+UNSIGNED(jgv_cell, resolution, 32); UNSIGNED(jgv_cell, row, 40); UNSIGNED(jgv_cell, column, 48);
+ANSWER(jgv_name, 32); UNSIGNED(jgv_name, n, 8); UNSIGNED(jgv_name, s, 16); UNSIGNED(jgv_name, length, 24);
 ANSWER(jgv_length, 16); UNSIGNED(jgv_length, length, 8);
 ANSWER(jgv_size_answer, 16); UNSIGNED(jgv_size_answer, size, 8);
 ANSWER(jgv_shape_answer, 16); UNSIGNED(jgv_shape_answer, shape, 8);
@@ -58,23 +60,26 @@ static void check(uint64_t got, uint64_t want, const char *what, int line) {
 #define CODE(call, want) CHECK_ONE(jgv_code, code, call, 0, want)
 #define NO_CODE(call, number) CHECK_ONE(jgv_code, code, call, number, 0)
 
-/* What 01 says of numbers. */
+/* What 01 and 02 say of numbers. */
 #define NINE_15 UINT64_C(205891132094649)
 #define NINE_14 UINT64_C(22876792454961)
 #define NINE_13 UINT64_C(2541865828329)
-#define GREATEST UINT64_C(19765548681086303)
+#define GREATEST UINT64_C(316248778897380863) /* of S888888888888888 at n = s = 3 */
+#define LAST UINT64_C(316248778897380848) /* of the same at n = s = 0 */
 #define SIDE INT64_C(28697814) /* M, of a face */
 #define ONE INT64_C(1000000000000000000) /* z at the north pole */
 #define WIDE (UINT64_C(1) << 32)
 static const uint64_t no_code = GREATEST + 1;
 
-/* 01: "(face x 9^15 + path x 9^(15-k)) x 16 + k, where path is the digits read in base nine". */
-static uint64_t code(const char *name) {
+/* 01: "(face x 9^15 + path x 9^(15-k)) x 16 + k, where path is the digits read in base nine"; 02: "16 times the old code, plus 4n + s". */
+static uint64_t code_at(uint64_t n, uint64_t s, const char *name) {
     uint64_t k = strlen(name) - 1, path = 0;
     for (uint64_t i = 1; i <= 15; i++)
         path = 9 * path + (i <= k ? (uint64_t)(name[i] - '0') : 0);
-    return ((uint64_t)(name[0] - 'N') * NINE_15 + path) * 16 + k;
+    return (((uint64_t)(name[0] - 'N') * NINE_15 + path) * 16 + k) * 16 + 4 * n + s;
 }
+
+static uint64_t code(const char *name) { return code_at(0, 0, name); }
 
 /* Lent memory: guards before and after, all filled with a byte that no name and no text has. */
 enum { GUARD = 16, ROOM = 64, FILL = 0xA5 };
@@ -109,31 +114,41 @@ static size_t code_strays(size_t count) {
 }
 
 static void cell_code(void) {
-    CODE(jgv_cell_code(0, 0, 0, 0), 0);
-    CODE(jgv_cell_code(0, 1, 0, 0), 1);
-    CODE(jgv_cell_code(0, 1, 0, 1), UINT64_C(366028679279377));
-    CODE(jgv_cell_code(1, 0, 0, 0), UINT64_C(3294258113514384));
-    CODE(jgv_cell_code(5, 15, 14348906, 14348906), GREATEST);
-    CODE(jgv_cell_code(2, 2, 3, 4), code("P41")); /* rows 1 0 and columns 1 1 in base three: digits 4 and 1 */
-    NO_CODE(jgv_cell_code(6, 0, 0, 0), 1);
-    NO_CODE(jgv_cell_code(256, 0, 0, 0), 1);
-    NO_CODE(jgv_cell_code(WIDE, 0, 0, 0), 1);
-    NO_CODE(jgv_cell_code(0, 16, 0, 0), 2);
-    NO_CODE(jgv_cell_code(0, WIDE, 0, 0), 2);
-    NO_CODE(jgv_cell_code(0, 1, 3, 0), 3);
-    NO_CODE(jgv_cell_code(0, 1, 0, 3), 3);
-    NO_CODE(jgv_cell_code(0, 15, 14348907, 0), 3);
-    NO_CODE(jgv_cell_code(0, 1, WIDE, 0), 3);
-    NO_CODE(jgv_cell_code(0, 1, 0, WIDE), 3);
-    NO_CODE(jgv_cell_code(6, 16, 3, 3), 2); /* the order is 2, 1, 3 */
-    NO_CODE(jgv_cell_code(6, 1, 3, 3), 1);
-    NO_CODE(jgv_cell_code(UINT64_MAX, UINT64_MAX, UINT64_MAX, UINT64_MAX), 2);
+    CODE(jgv_cell_code(0, 0, 0, 0, 0, 0), 0);
+    CODE(jgv_cell_code(0, 0, 0, 1, 0, 0), 16); /* 02: "N0 at n = s = 0 is 16" */
+    CODE(jgv_cell_code(0, 0, 0, 1, 0, 1), 16 * UINT64_C(366028679279377));
+    CODE(jgv_cell_code(0, 0, 1, 0, 0, 0), 16 * UINT64_C(3294258113514384));
+    CODE(jgv_cell_code(0, 0, 5, 15, 14348906, 14348906), LAST);
+    CODE(jgv_cell_code(3, 3, 5, 15, 14348906, 14348906), GREATEST);
+    CODE(jgv_cell_code(0, 0, 2, 2, 3, 4), code("P41")); /* rows 1 0 and columns 1 1 in base three: digits 4 and 1 */
+    for (uint64_t both = 0; both < 16; both++)
+        CODE(jgv_cell_code(both / 4, both % 4, 0, 1, 0, 0), 16 + both);
+    NO_CODE(jgv_cell_code(0, 0, 6, 0, 0, 0), 1);
+    NO_CODE(jgv_cell_code(0, 0, 256, 0, 0, 0), 1);
+    NO_CODE(jgv_cell_code(0, 0, WIDE, 0, 0, 0), 1);
+    NO_CODE(jgv_cell_code(0, 0, 0, 16, 0, 0), 2);
+    NO_CODE(jgv_cell_code(0, 0, 0, WIDE, 0, 0), 2);
+    NO_CODE(jgv_cell_code(0, 0, 0, 1, 3, 0), 3);
+    NO_CODE(jgv_cell_code(0, 0, 0, 1, 0, 3), 3);
+    NO_CODE(jgv_cell_code(0, 0, 0, 15, 14348907, 0), 3);
+    NO_CODE(jgv_cell_code(0, 0, 0, 1, WIDE, 0), 3);
+    NO_CODE(jgv_cell_code(0, 0, 0, 1, 0, WIDE), 3);
+    NO_CODE(jgv_cell_code(4, 0, 0, 0, 0, 0), 5);
+    NO_CODE(jgv_cell_code(0, 4, 0, 0, 0, 0), 5);
+    NO_CODE(jgv_cell_code(WIDE, 0, 0, 0, 0, 0), 5);
+    NO_CODE(jgv_cell_code(0, WIDE, 0, 0, 0, 0), 5);
+    NO_CODE(jgv_cell_code(4, 0, 6, 16, 3, 3), 5); /* the order is 5, 2, 1, 3 */
+    NO_CODE(jgv_cell_code(0, 0, 6, 16, 3, 3), 2);
+    NO_CODE(jgv_cell_code(0, 0, 6, 1, 3, 3), 1);
+    NO_CODE(jgv_cell_code(UINT64_MAX, UINT64_MAX, UINT64_MAX, UINT64_MAX, UINT64_MAX, UINT64_MAX), 5);
 }
 
-#define CELL(call, want_refusal, want_face, want_resolution, want_row, want_column) \
+#define CELL(call, want_refusal, want_n, want_s, want_face, want_resolution, want_row, want_column) \
     do {                                                                            \
         jgv_cell got = (call);                                                      \
         CHECK(got.refusal, want_refusal, #call ": refusal");                        \
+        CHECK(got.n, want_n, #call ": n");                                          \
+        CHECK(got.s, want_s, #call ": s");                                          \
         CHECK(got.face, want_face, #call ": face");                                 \
         CHECK(got.resolution, want_resolution, #call ": resolution");               \
         CHECK(got.row, want_row, #call ": row");                                    \
@@ -141,33 +156,47 @@ static void cell_code(void) {
     } while (0)
 
 static void code_cell(void) {
-    CELL(jgv_code_cell(0), 0, 0, 0, 0, 0);
-    CELL(jgv_code_cell(1), 0, 0, 1, 0, 0);
-    CELL(jgv_code_cell(UINT64_C(366028679279377)), 0, 0, 1, 0, 1);
-    CELL(jgv_code_cell(UINT64_C(3294258113514384)), 0, 1, 0, 0, 0);
-    CELL(jgv_code_cell(code("P41")), 0, 2, 2, 3, 4);
-    CELL(jgv_code_cell(GREATEST), 0, 5, 15, 14348906, 14348906);
-    CELL(jgv_code_cell(no_code), 4, 0, 0, 0, 0);
-    CELL(jgv_code_cell(16), 4, 0, 0, 0, 0);
-    CELL(jgv_code_cell(code("O") + WIDE), 4, 0, 0, 0, 0);
-    CELL(jgv_code_cell(UINT64_MAX), 4, 0, 0, 0, 0);
+    CELL(jgv_code_cell(0), 0, 0, 0, 0, 0, 0, 0);
+    CELL(jgv_code_cell(1), 0, 0, 1, 0, 0, 0, 0); /* N at s = 1 */
+    CELL(jgv_code_cell(16), 0, 0, 0, 0, 1, 0, 0);
+    CELL(jgv_code_cell(27), 0, 2, 3, 0, 1, 0, 0); /* N0 at n = 2 and s = 3 */
+    CELL(jgv_code_cell(16 * UINT64_C(366028679279377)), 0, 0, 0, 0, 1, 0, 1);
+    CELL(jgv_code_cell(16 * UINT64_C(3294258113514384) + 4), 0, 1, 0, 1, 0, 0, 0);
+    CELL(jgv_code_cell(code_at(3, 2, "P41")), 0, 3, 2, 2, 2, 3, 4);
+    CELL(jgv_code_cell(GREATEST), 0, 3, 3, 5, 15, 14348906, 14348906);
+    CELL(jgv_code_cell(no_code), 4, 0, 0, 0, 0, 0, 0);
+    CELL(jgv_code_cell(256), 4, 0, 0, 0, 0, 0, 0);
+    CELL(jgv_code_cell(257), 4, 0, 0, 0, 0, 0, 0);
+    CELL(jgv_code_cell(code("O") + WIDE), 4, 0, 0, 0, 0, 0, 0);
+    CELL(jgv_code_cell(UINT64_MAX), 4, 0, 0, 0, 0, 0, 0);
 }
 
-static jgv_code named(const char *name) {
+static jgv_code named_at(uint64_t n, uint64_t s, const char *name) {
     memcpy(lend(), name, strlen(name));
-    jgv_code answer = jgv_name_code(lent + GUARD, strlen(name));
+    jgv_code answer = jgv_name_code(n, s, lent + GUARD, strlen(name));
     CHECK(memcmp(lent + GUARD, name, strlen(name)), 0, "jgv_name_code: the name afterwards");
     CHECK(strays(strlen(name)), 0, "jgv_name_code: bytes about the name");
     return answer;
 }
 
+static jgv_code named(const char *name) { return named_at(0, 0, name); }
+
 static void name_code(void) {
     CODE(named("N"), 0);
-    CODE(named("N0"), 1);
-    CODE(named("N1"), UINT64_C(366028679279377));
-    CODE(named("O"), UINT64_C(3294258113514384));
+    CODE(named("N0"), 16);
+    CODE(named("N1"), 16 * UINT64_C(366028679279377));
+    CODE(named("O"), 16 * UINT64_C(3294258113514384));
     CODE(named("P41"), code("P41"));
-    CODE(named("S888888888888888"), GREATEST);
+    CODE(named("S888888888888888"), LAST);
+    CODE(named_at(3, 3, "S888888888888888"), GREATEST);
+    CODE(named_at(2, 1, "N0"), 25);
+    CODE(named_at(1, 2, "N0"), 22);
+    NO_CODE(named_at(4, 0, "N0"), 5);
+    NO_CODE(named_at(0, 4, "N0"), 5);
+    NO_CODE(named_at(WIDE, 0, "N0"), 5);
+    NO_CODE(named_at(0, WIDE, "N0"), 5);
+    NO_CODE(named_at(4, 4, "X0000000000000009"), 5); /* the order is 5, 2, 1, 3 */
+    NO_CODE(named_at(0, 4, ""), 5);
     NO_CODE(named(""), 1);
     NO_CODE(named("M"), 1);
     NO_CODE(named("T"), 1);
@@ -178,22 +207,26 @@ static void name_code(void) {
     NO_CODE(named("S88888888888888O"), 3);
     NO_CODE(named("S0000000000000000"), 2);
     NO_CODE(named("X0000000000000009"), 2);
-    NO_CODE(jgv_name_code((const uint8_t *)"N\0", 2), 3);
-    NO_CODE(jgv_name_code((const uint8_t *)"N", 0), 1);
-    NO_CODE(jgv_name_code(NULL, 0), 1);
+    NO_CODE(jgv_name_code(0, 0, (const uint8_t *)"N\0", 2), 3);
+    NO_CODE(jgv_name_code(0, 0, (const uint8_t *)"N", 0), 1);
+    NO_CODE(jgv_name_code(0, 0, NULL, 0), 1);
 }
 
-static void written_name(uint64_t of, const char *name, size_t room) {
-    jgv_length got = jgv_code_name(of, lend(), room);
+static void written_name(uint64_t n, uint64_t s, const char *name, size_t room) {
+    jgv_name got = jgv_code_name(code_at(n, s, name), lend(), room);
     CHECK(got.refusal, 0, "jgv_code_name: refusal");
+    CHECK(got.n, n, "jgv_code_name: n");
+    CHECK(got.s, s, "jgv_code_name: s");
     CHECK(got.length, strlen(name), "jgv_code_name: length");
     CHECK(memcmp(lent + GUARD, name, strlen(name)), 0, "jgv_code_name: the name");
     CHECK(strays(strlen(name)), 0, "jgv_code_name: bytes about the name");
 }
 
 static void no_name(uint64_t of, size_t room, uint64_t refusal) {
-    jgv_length got = jgv_code_name(of, lend(), room);
+    jgv_name got = jgv_code_name(of, lend(), room);
     CHECK(got.refusal, refusal, "jgv_code_name: refusal");
+    CHECK(got.n, 0, "jgv_code_name: n");
+    CHECK(got.s, 0, "jgv_code_name: s");
     CHECK(got.length, 0, "jgv_code_name: length");
     CHECK(strays(0), 0, "jgv_code_name: lent bytes");
 }
@@ -201,28 +234,33 @@ static void no_name(uint64_t of, size_t room, uint64_t refusal) {
 static void code_name(void) {
     static const char *const names[] = {"N", "N0", "N1", "O", "P41", "Q333333333333333", "S888888888888888"};
     for (size_t i = 0; i < sizeof names / sizeof *names; i++) {
-        written_name(code(names[i]), names[i], strlen(names[i]));
-        written_name(code(names[i]), names[i], ROOM);
-        no_name(code(names[i]), strlen(names[i]) - 1, 8);
+        for (uint64_t both = 0; both < 16; both++) {
+            written_name(both / 4, both % 4, names[i], strlen(names[i]));
+            written_name(both / 4, both % 4, names[i], ROOM);
+            no_name(code_at(both / 4, both % 4, names[i]), strlen(names[i]) - 1, 8);
+        }
     }
     no_name(no_code, 16, 4);
     no_name(no_code, 0, 4); /* the order is 4, 8 */
     no_name(UINT64_MAX, ROOM, 4);
     no_name(code("O") + WIDE, ROOM, 4);
-    CHECK_ONE(jgv_length, length, jgv_code_name(0, NULL, 0), 8, 0);
+    CHECK_ONE(jgv_name, length, jgv_code_name(0, NULL, 0), 8, 0);
 }
 
 static void families(void) {
     CODE(jgv_parent(code("N1")), 0);
     CODE(jgv_parent(code("P41")), code("P4"));
-    CODE(jgv_parent(GREATEST), code("S88888888888888"));
+    CODE(jgv_parent(GREATEST), code_at(3, 3, "S88888888888888"));
+    CODE(jgv_parent(code_at(2, 1, "P41")), code_at(2, 1, "P4"));
+    NO_CODE(jgv_parent(code_at(2, 1, "O")), 12);
     NO_CODE(jgv_parent(code("O")), 12);
     NO_CODE(jgv_parent(no_code), 4);
     NO_CODE(jgv_parent(code("O1") + WIDE), 4);
-    CODE(jgv_child(0, 0), 1);
-    CODE(jgv_child(0, 1), UINT64_C(366028679279377));
+    CODE(jgv_child(0, 0), 16);
+    CODE(jgv_child(0, 1), 16 * UINT64_C(366028679279377));
     CODE(jgv_child(code("P4"), 1), code("P41"));
-    CODE(jgv_child(code("S88888888888888"), 8), GREATEST);
+    CODE(jgv_child(code_at(1, 3, "P4"), 1), code_at(1, 3, "P41"));
+    CODE(jgv_child(code_at(3, 3, "S88888888888888"), 8), GREATEST);
     NO_CODE(jgv_child(0, 9), 3);
     NO_CODE(jgv_child(0, WIDE), 3);
     NO_CODE(jgv_child(no_code, 0), 4);
@@ -241,6 +279,7 @@ static void shapes(void) {
     SIZE(jgv_size(code("N1")), 0, NINE_14);
     SIZE(jgv_size(code("P41")), 0, NINE_13);
     SIZE(jgv_size(GREATEST), 0, 1);
+    SIZE(jgv_size(code_at(1, 2, "P41")), 0, NINE_13);
     SIZE(jgv_size(no_code), 4, 0);
     SIZE(jgv_size(code("O") + WIDE), 4, 0);
     SHAPE(jgv_shape(code("P0")), 0, 0);
@@ -250,6 +289,7 @@ static void shapes(void) {
     SHAPE(jgv_shape(code("S42")), 0, 2);
     SHAPE(jgv_shape(code("N1")), 0, 3);
     SHAPE(jgv_shape(code("S45")), 0, 3);
+    SHAPE(jgv_shape(code_at(3, 1, "S45")), 0, 3);
     SHAPE(jgv_shape(no_code), 4, 0);
     SHAPE(jgv_shape(code("N1") + WIDE), 4, 0);
     COUNT(jgv_corner_count(code("P0")), 0, 4);
@@ -278,33 +318,26 @@ static void shapes(void) {
 
 /* Half a side is 14,348,907 units, a third 9,565,938, a sixth 4,782,969. */
 static void squares(void) {
-    SQUARE(jgv_square(0, 0, code("O")), 0, 0, 14348907, SIDE);
-    SQUARE(jgv_square(0, 0, code("P0")), 0, 28697814, 14348907, 9565938);
-    SQUARE(jgv_square(0, 0, code("N")), 0, 0, 43046721, SIDE);
-    SQUARE(jgv_square(3, 0, code("N")), 0, 86093442, 43046721, SIDE);
-    SQUARE(jgv_square(0, 2, code("S")), 0, 57395628, -14348907, SIDE);
-    SQUARE(jgv_square(0, 0, GREATEST), 0, SIDE - 2, -43046719, 2);
-    SQUARE(jgv_square(4, 0, code("O")), 5, 0, 0, 0);
-    SQUARE(jgv_square(0, 4, code("O")), 5, 0, 0, 0);
-    SQUARE(jgv_square(WIDE, 0, code("O")), 5, 0, 0, 0);
-    SQUARE(jgv_square(0, WIDE, code("O")), 5, 0, 0, 0);
-    SQUARE(jgv_square(0, 0, no_code), 4, 0, 0, 0);
-    SQUARE(jgv_square(0, 0, code("O") + WIDE), 4, 0, 0, 0);
-    SQUARE(jgv_square(4, 0, no_code), 5, 0, 0, 0);
-    POINT(jgv_nucleus(0, 0, code("O")), 0, 14348907, 0);
-    POINT(jgv_nucleus(0, 0, code("P0")), 0, 33480783, 9565938);
-    POINT(jgv_nucleus(1, 0, code("N4")), 0, 43046721, SIDE);
-    POINT(jgv_nucleus(0, 3, code("S")), 0, 100442349, -SIDE);
-    POINT(jgv_nucleus(4, 0, code("O")), 5, 0, 0);
-    POINT(jgv_nucleus(WIDE, 0, code("O")), 5, 0, 0);
-    POINT(jgv_nucleus(0, WIDE, code("O")), 5, 0, 0);
-    POINT(jgv_nucleus(0, 0, no_code), 4, 0, 0);
-    POINT(jgv_nucleus(0, 0, code("O") + WIDE), 4, 0, 0);
-    POINT(jgv_nucleus(0, 4, no_code), 5, 0, 0);
+    SQUARE(jgv_square(code("O")), 0, 0, 14348907, SIDE);
+    SQUARE(jgv_square(code("P0")), 0, 28697814, 14348907, 9565938);
+    SQUARE(jgv_square(code_at(3, 2, "P0")), 0, 28697814, 14348907, 9565938);
+    SQUARE(jgv_square(code("N")), 0, 0, 43046721, SIDE);
+    SQUARE(jgv_square(code_at(3, 0, "N")), 0, 86093442, 43046721, SIDE);
+    SQUARE(jgv_square(code_at(0, 2, "S")), 0, 57395628, -14348907, SIDE);
+    SQUARE(jgv_square(LAST), 0, SIDE - 2, -43046719, 2);
+    SQUARE(jgv_square(GREATEST), 0, 4 * SIDE - 2, -43046719, 2);
+    SQUARE(jgv_square(no_code), 4, 0, 0, 0);
+    SQUARE(jgv_square(code("O") + WIDE), 4, 0, 0, 0);
+    POINT(jgv_nucleus(code("O")), 0, 14348907, 0);
+    POINT(jgv_nucleus(code("P0")), 0, 33480783, 9565938);
+    POINT(jgv_nucleus(code_at(1, 0, "N4")), 0, 43046721, SIDE);
+    POINT(jgv_nucleus(code_at(0, 3, "S")), 0, 100442349, -SIDE);
+    POINT(jgv_nucleus(no_code), 4, 0, 0);
+    POINT(jgv_nucleus(code("O") + WIDE), 4, 0, 0);
 }
 
-static void corners(uint64_t n, uint64_t s, uint64_t of, int64_t left, int64_t top, int64_t side) {
-    jgv_vertices_answer got = jgv_vertices(n, s, of);
+static void corners(uint64_t of, int64_t left, int64_t top, int64_t side) {
+    jgv_vertices_answer got = jgv_vertices(of);
     CHECK(got.refusal, 0, "jgv_vertices: refusal");
     CHECK(got.x[0], left, "jgv_vertices: top left x");
     CHECK(got.y[0], top, "jgv_vertices: top left y");
@@ -325,15 +358,11 @@ static void no_corners(jgv_vertices_answer got, uint64_t refusal) {
 }
 
 static void vertices(void) {
-    corners(0, 0, code("P0"), 28697814, 14348907, 9565938);
-    corners(3, 0, code("N"), 86093442, 43046721, SIDE);
-    corners(0, 2, code("S"), 57395628, -14348907, SIDE);
-    no_corners(jgv_vertices(4, 0, code("O")), 5);
-    no_corners(jgv_vertices(WIDE, 0, code("O")), 5);
-    no_corners(jgv_vertices(0, WIDE, code("O")), 5);
-    no_corners(jgv_vertices(0, 0, no_code), 4);
-    no_corners(jgv_vertices(0, 0, code("O") + WIDE), 4);
-    no_corners(jgv_vertices(0, 4, no_code), 5);
+    corners(code("P0"), 28697814, 14348907, 9565938);
+    corners(code_at(3, 0, "N"), 86093442, 43046721, SIDE);
+    corners(code_at(0, 2, "S"), 57395628, -14348907, SIDE);
+    no_corners(jgv_vertices(no_code), 4);
+    no_corners(jgv_vertices(code("O") + WIDE), 4);
 }
 
 static void point_code(void) {
@@ -343,8 +372,9 @@ static void point_code(void) {
     CODE(jgv_point_code(0, 0, 1, 38263752, 4782969), code("P4")); /* the bottom right one of P0 is not */
     CODE(jgv_point_code(0, 0, 1, 0, -half), code("O6")); /* the bottom edge of a face is */
     CODE(jgv_point_code(0, 0, 1, half, SIDE), code("N4"));
-    CODE(jgv_point_code(2, 0, 1, 2 * SIDE + 1, half + 1), code("N6"));
-    CODE(jgv_point_code(0, 3, 1, 4 * SIDE - 1, -half - 1), code("S2"));
+    CODE(jgv_point_code(2, 0, 1, 2 * SIDE + 1, half + 1), code_at(2, 0, "N6"));
+    CODE(jgv_point_code(0, 3, 1, 4 * SIDE - 1, -half - 1), code_at(0, 3, "S2"));
+    CODE(jgv_point_code(2, 3, 1, 0, -half), code_at(2, 3, "O6")); /* a cell of the belt says them too */
     CODE(jgv_point_code(0, 0, 15, 0, 0), code("O333333333333333"));
     NO_CODE(jgv_point_code(0, 0, 0, 4 * SIDE, 0), 7); /* line 12 of the proved table */
     NO_CODE(jgv_point_code(0, 0, 0, -1, 0), 7);
@@ -371,12 +401,13 @@ static void fix_code(void) {
     CODE(jgv_fix_code(0, 0, 1, -1350000000, 666666666666666666), code("O1"));
     CODE(jgv_fix_code(0, 0, 1, -1350000000, 666666666666666667), code("N7"));
     CODE(jgv_fix_code(0, 0, 1, -900000000, 880000000000000000), code("N8"));
-    CODE(jgv_fix_code(1, 0, 1, -900000000, 880000000000000000), code("N6"));
+    CODE(jgv_fix_code(1, 0, 1, -900000000, 880000000000000000), code_at(1, 0, "N6"));
     CODE(jgv_fix_code(0, 0, 1, -900000000, -880000000000000000), code("S2"));
     CODE(jgv_fix_code(0, 0, 2, -1350000000, 970000000000000000), code("N47"));
-    CODE(jgv_fix_code(2, 0, 1, -900000000, 880000000000000000), code("N0"));
-    CODE(jgv_fix_code(0, 1, 1, -900000000, -880000000000000000), code("S0"));
-    CODE(jgv_fix_code(0, 3, 1, -900000000, -880000000000000000), code("S8"));
+    CODE(jgv_fix_code(2, 0, 1, -900000000, 880000000000000000), code_at(2, 0, "N0"));
+    CODE(jgv_fix_code(0, 1, 1, -900000000, -880000000000000000), code_at(0, 1, "S0"));
+    CODE(jgv_fix_code(0, 3, 1, -900000000, -880000000000000000), code_at(0, 3, "S8"));
+    CODE(jgv_fix_code(1, 3, 2, 0, 0), code_at(1, 3, "Q33"));
     CODE(jgv_fix_code(0, 0, 1, -1350000000, 962962962962962962), code("N7"));
     CODE(jgv_fix_code(0, 0, 1, -1350000000, 962962962962962963), code("N4"));
     CODE(jgv_fix_code(0, 0, 1, -1350000000, -962962962962962962), code("S1"));
@@ -414,29 +445,25 @@ static void no_fix_code(void) {
 
 /* In the belt z is (2m - 4i - 2)/(3m); the middles of the outer cells of a cap at resolution 1 have h = 2/3, z = 23/27. All floored. */
 static void ground_nucleus(void) {
-    GROUND(jgv_ground_nucleus(0, 0, code("Q")), 0, 450000000, 0);
-    GROUND(jgv_ground_nucleus(0, 0, code("P0")), 0, -750000000, 444444444444444444);
-    GROUND(jgv_ground_nucleus(0, 0, code("P6")), 0, -750000000, -444444444444444445);
-    GROUND(jgv_ground_nucleus(0, 0, code("O000")), 0, -1783333334, 641975308641975308);
-    GROUND(jgv_ground_nucleus(0, 0, code("N")), 0, -1800000000, ONE);
-    GROUND(jgv_ground_nucleus(2, 1, code("N4")), 0, -1800000000, ONE);
-    GROUND(jgv_ground_nucleus(1, 2, code("S44")), 0, -1800000000, -ONE);
-    GROUND(jgv_ground_nucleus(0, 0, code("N7")), 0, -1350000000, 851851851851851851);
-    GROUND(jgv_ground_nucleus(0, 0, code("S1")), 0, -1350000000, -851851851851851852);
-    GROUND(jgv_ground_nucleus(0, 0, code("N8")), 0, -900000000, 851851851851851851); /* on the seam of O and P: the edge of P */
-    GROUND(jgv_ground_nucleus(1, 0, code("N8")), 0, 0, 851851851851851851);
-    GROUND(jgv_ground_nucleus(0, 0, code("S2")), 0, -900000000, -851851851851851852);
-    GROUND(jgv_ground_nucleus(4, 0, code("O")), 5, 0, 0);
-    GROUND(jgv_ground_nucleus(WIDE, 0, code("O")), 5, 0, 0);
-    GROUND(jgv_ground_nucleus(0, WIDE, code("O")), 5, 0, 0);
-    GROUND(jgv_ground_nucleus(0, 0, no_code), 4, 0, 0);
-    GROUND(jgv_ground_nucleus(0, 0, code("O") + WIDE), 4, 0, 0);
-    GROUND(jgv_ground_nucleus(0, 4, no_code), 5, 0, 0);
+    GROUND(jgv_ground_nucleus(code("Q")), 0, 450000000, 0);
+    GROUND(jgv_ground_nucleus(code("P0")), 0, -750000000, 444444444444444444);
+    GROUND(jgv_ground_nucleus(code("P6")), 0, -750000000, -444444444444444445);
+    GROUND(jgv_ground_nucleus(code("O000")), 0, -1783333334, 641975308641975308);
+    GROUND(jgv_ground_nucleus(code("N")), 0, -1800000000, ONE);
+    GROUND(jgv_ground_nucleus(code_at(2, 1, "N4")), 0, -1800000000, ONE);
+    GROUND(jgv_ground_nucleus(code_at(1, 2, "S44")), 0, -1800000000, -ONE);
+    GROUND(jgv_ground_nucleus(code("N7")), 0, -1350000000, 851851851851851851);
+    GROUND(jgv_ground_nucleus(code("S1")), 0, -1350000000, -851851851851851852);
+    GROUND(jgv_ground_nucleus(code("N8")), 0, -900000000, 851851851851851851); /* on the seam of O and P: the edge of P */
+    GROUND(jgv_ground_nucleus(code_at(1, 0, "N8")), 0, 0, 851851851851851851);
+    GROUND(jgv_ground_nucleus(code("S2")), 0, -900000000, -851851851851851852);
+    GROUND(jgv_ground_nucleus(no_code), 4, 0, 0);
+    GROUND(jgv_ground_nucleus(code("O") + WIDE), 4, 0, 0);
 }
 
 static void about(uint64_t n, uint64_t s, const char *name, const char *const *names) {
     for (uint64_t direction = 0; direction < 4; direction++)
-        CODE(jgv_neighbour(n, s, code(name), direction), code(names[direction]));
+        CODE(jgv_neighbour(code_at(n, s, name), direction), code_at(n, s, names[direction]));
 }
 
 static void neighbour(void) {
@@ -452,15 +479,11 @@ static void neighbour(void) {
     about(0, 0, "N0", n0);
     about(0, 0, "S8", s8);
     about(3, 2, "R5", r5);
-    NO_CODE(jgv_neighbour(0, 0, code("P0"), 4), 3);
-    NO_CODE(jgv_neighbour(0, 0, code("P0"), WIDE), 3);
-    NO_CODE(jgv_neighbour(4, 0, code("P0"), 0), 5);
-    NO_CODE(jgv_neighbour(WIDE, 0, code("P0"), 0), 5);
-    NO_CODE(jgv_neighbour(0, WIDE, code("P0"), 0), 5);
-    NO_CODE(jgv_neighbour(0, 0, no_code, 0), 4);
-    NO_CODE(jgv_neighbour(0, 0, code("P0") + WIDE, 0), 4);
-    NO_CODE(jgv_neighbour(0, 4, no_code, 4), 5); /* the order is 5, 3, 4 */
-    NO_CODE(jgv_neighbour(0, 0, no_code, 4), 3);
+    NO_CODE(jgv_neighbour(code("P0"), 4), 3);
+    NO_CODE(jgv_neighbour(code("P0"), WIDE), 3);
+    NO_CODE(jgv_neighbour(no_code, 0), 4);
+    NO_CODE(jgv_neighbour(code("P0") + WIDE, 0), 4);
+    NO_CODE(jgv_neighbour(no_code, 4), 3); /* the order is 3, 4 */
 }
 
 /* Coverage texts. HEAD is the heading of version 1 and (0, 0). */
@@ -520,15 +543,16 @@ static void coverage_check(void) {
     TEXT_ANSWER(jgv_coverage_check(long_text, LONGEST + 1), 13, 0, 0, 0, 0, 0);
 }
 
-/* Lists the text into lent codes and checks the answer, the codes and their guards. */
+/* Lists the text into lent codes and checks the answer, the codes, of the heading's arrangement, and their guards. */
 static void lists(const uint8_t *text, size_t length, size_t room, const char *const *names, size_t count) {
     memcpy(lend(), text, length);
     jgv_list got = jgv_coverage_list(lent + GUARD, length, lend_codes(), room);
     CHECK(got.refusal, 0, "jgv_coverage_list: refusal");
     CHECK(got.place, 0, "jgv_coverage_list: place");
     CHECK(got.count, count, "jgv_coverage_list: count");
+    const uint64_t n = (uint64_t)(text[5] - '0'), s = (uint64_t)(text[6] - '0');
     for (size_t i = 0; i < count; i++)
-        CHECK(lent_codes[GUARD + i], code(names[i]), "jgv_coverage_list: a code");
+        CHECK(lent_codes[GUARD + i], code_at(n, s, names[i]), "jgv_coverage_list: a code");
     CHECK(code_strays(count), 0, "jgv_coverage_list: bytes about the codes");
     CHECK(memcmp(lent + GUARD, text, length), 0, "jgv_coverage_list: the text afterwards");
     CHECK(strays(length), 0, "jgv_coverage_list: bytes about the text");
@@ -565,11 +589,19 @@ static void coverage_list(void) {
     CHECK(got.place, 0, "jgv_coverage_list of no memory: place");
 }
 
-/* Fills the lent codes with those of the names and writes their text to the lent bytes; the codes have to stay as they are. */
+/* Fills the lent codes with those of the names and writes their text to the lent bytes; the codes have to stay as they are. A name is in
+ * the arrangement that is asked, unless two digits stand before it. */
 static jgv_length writing(uint64_t n, uint64_t s, const char *const *names, size_t count, size_t room) {
     lend_codes();
-    for (size_t i = 0; i < count; i++)
-        lent_codes[GUARD + i] = strcmp(names[i], "none") ? code(names[i]) : no_code;
+    for (size_t i = 0; i < count; i++) {
+        const char *name = names[i];
+        uint64_t of = no_code;
+        if (name[0] < 'N')
+            of = code_at((uint64_t)(name[0] - '0'), (uint64_t)(name[1] - '0'), name + 2);
+        else if (strcmp(name, "none"))
+            of = code_at(n & 3, s & 3, name);
+        lent_codes[GUARD + i] = of;
+    }
     static uint64_t before[GUARD + ROOM + GUARD];
     memcpy(before, lent_codes, sizeof before);
     jgv_length got = jgv_coverage_write(n, s, lent_codes + GUARD, count, lend(), room);
@@ -607,11 +639,22 @@ static void coverage_write(void) {
     writes_nothing(0, 0, two, 0, 6, 8);
     writes_nothing(0, 0, falling, 2, ROOM, 11);
     writes_nothing(0, 0, twice, 2, ROOM, 11);
-    writes_nothing(0, 0, inside, 2, 0, 11); /* the order is 5, 4, 11, 13, 8 */
+    writes_nothing(0, 0, inside, 2, 0, 11); /* the order is 5, 4, 14, 11, 13, 8 */
     writes_nothing(0, 0, bad, 2, 0, 4);
     writes_nothing(0, 0, bad_falling, 3, ROOM, 4);
     writes_nothing(4, 0, bad, 2, ROOM, 5);
     writes_nothing(0, 4, two, 2, ROOM, 5);
+    /* codes of two arrangements in one list, and a list of another arrangement than the asked one */
+    static const char *const mixed[] = {"P3", "01P41"}, *const others[] = {"21P3", "21P41"};
+    static const char *const mixed_falling[] = {"10P41", "P3", "P3"}, *const mixed_bad[] = {"10P41", "P3", "none"};
+    writes_nothing(0, 0, mixed, 2, ROOM, 14);
+    writes_nothing(0, 0, mixed, 2, 0, 14);
+    writes_nothing(0, 0, others, 2, ROOM, 14);
+    writes_nothing(1, 2, others, 2, ROOM, 14);
+    writes(2, 1, others, 2, TEXT("CVR\0\1" "21" "P(34(1))"));
+    writes_nothing(0, 0, mixed_falling, 3, ROOM, 14);
+    writes_nothing(0, 0, mixed_bad, 3, ROOM, 4);
+    writes_nothing(0, 4, mixed, 2, ROOM, 5);
     const uint64_t wide = code("O") + WIDE;
     CHECK_ONE(jgv_length, length, jgv_coverage_write(WIDE, 0, &wide, 1, lend(), ROOM), 5, 0);
     CHECK_ONE(jgv_length, length, jgv_coverage_write(0, WIDE, &wide, 1, lend(), ROOM), 5, 0);
@@ -628,42 +671,44 @@ static void coverage_write(void) {
         CHECK(got.covered, want_covered, #call ": covered");   \
     } while (0)
 
-static jgv_ask asked(uint64_t n, uint64_t s, const uint8_t *text, size_t length, uint64_t of) {
+static jgv_ask asked(const uint8_t *text, size_t length, uint64_t of) {
     memcpy(lend(), text, length);
-    jgv_ask got = jgv_coverage_ask(n, s, lent + GUARD, length, of);
+    jgv_ask got = jgv_coverage_ask(lent + GUARD, length, of);
     CHECK(memcmp(lent + GUARD, text, length), 0, "jgv_coverage_ask: the text afterwards");
     CHECK(strays(length), 0, "jgv_coverage_ask: bytes about the text");
     return got;
 }
 
 static void coverage_ask(void) {
-    ASK(asked(0, 0, TEXT(HEAD "P(34(1))"), code("P3")), 0, 0, 1);
-    ASK(asked(0, 0, TEXT(HEAD "P(34(1))"), code("P41")), 0, 0, 1);
-    ASK(asked(0, 0, TEXT(HEAD "P(34(1))"), code("P418")), 0, 0, 1);
-    ASK(asked(0, 0, TEXT(HEAD "P(34(1))"), code("P4")), 0, 0, 0); /* covered in part */
-    ASK(asked(0, 0, TEXT(HEAD "P(34(1))"), code("P")), 0, 0, 0);
-    ASK(asked(0, 0, TEXT(HEAD "P(34(1))"), code("P40")), 0, 0, 0);
-    ASK(asked(0, 0, TEXT(HEAD), 0), 0, 0, 0);
-    ASK(asked(3, 2, TEXT("CVR\0\1" "32" "NS"), GREATEST), 0, 0, 1);
-    ASK(asked(4, 0, TEXT(HEAD "P"), no_code), 5, 0, 0); /* the order is 5, 4, 13, 10, 9, 14 */
-    ASK(asked(WIDE, 0, TEXT(HEAD "P"), code("P")), 5, 0, 0);
-    ASK(asked(0, WIDE, TEXT(HEAD "P"), code("P")), 5, 0, 0);
-    ASK(asked(0, 0, TEXT(HEAD "O()"), no_code), 4, 0, 0);
-    ASK(asked(0, 0, TEXT(HEAD "P"), code("P") + WIDE), 4, 0, 0);
-    ASK(jgv_coverage_ask(0, 0, long_text, LONGEST + 1, no_code), 4, 0, 0);
-    ASK(jgv_coverage_ask(0, 0, long_text, LONGEST + 1, code("P")), 13, 0, 0);
-    ASK(asked(1, 0, TEXT("CVR\0\2" "00P"), code("P")), 10, 0, 0);
-    ASK(asked(1, 0, TEXT(HEAD "O()"), code("P")), 9, 9, 0);
-    ASK(asked(0, 0, TEXT(HEAD "O(012345678)"), code("P")), 9, 18, 0);
-    ASK(asked(1, 0, TEXT(HEAD "P"), code("P")), 14, 0, 0);
-    ASK(asked(0, 1, TEXT(HEAD "P"), code("P")), 14, 0, 0);
-    ASK(jgv_coverage_ask(0, 0, NULL, 0, code("P")), 9, 0, 0);
+    ASK(asked(TEXT(HEAD "P(34(1))"), code("P3")), 0, 0, 1);
+    ASK(asked(TEXT(HEAD "P(34(1))"), code("P41")), 0, 0, 1);
+    ASK(asked(TEXT(HEAD "P(34(1))"), code("P418")), 0, 0, 1);
+    ASK(asked(TEXT(HEAD "P(34(1))"), code("P4")), 0, 0, 0); /* covered in part */
+    ASK(asked(TEXT(HEAD "P(34(1))"), code("P")), 0, 0, 0);
+    ASK(asked(TEXT(HEAD "P(34(1))"), code("P40")), 0, 0, 0);
+    ASK(asked(TEXT(HEAD), 0), 0, 0, 0);
+    ASK(asked(TEXT("CVR\0\1" "33" "NS"), GREATEST), 0, 0, 1);
+    ASK(asked(TEXT("CVR\0\1" "32" "P(34(1))"), code_at(3, 2, "P418")), 0, 0, 1);
+    ASK(asked(TEXT("CVR\0\1" "32" "P(34(1))"), code_at(3, 2, "P4")), 0, 0, 0); /* the order is 4, 13, 10, 9, 14 */
+    ASK(asked(TEXT(HEAD "O()"), no_code), 4, 0, 0);
+    ASK(asked(TEXT(HEAD "P"), code("P") + WIDE), 4, 0, 0);
+    ASK(jgv_coverage_ask(long_text, LONGEST + 1, no_code), 4, 0, 0);
+    ASK(jgv_coverage_ask(long_text, LONGEST + 1, code_at(1, 0, "P")), 13, 0, 0);
+    ASK(asked(TEXT("CVR\0\2" "00P"), code_at(1, 0, "P")), 10, 0, 0);
+    ASK(asked(TEXT(HEAD "O()"), code_at(1, 0, "P")), 9, 9, 0);
+    ASK(asked(TEXT(HEAD "O(012345678)"), code("P")), 9, 18, 0);
+    ASK(asked(TEXT(HEAD "P"), code_at(1, 0, "P")), 14, 0, 0);
+    ASK(asked(TEXT(HEAD "P"), code_at(0, 1, "P")), 14, 0, 0);
+    ASK(asked(TEXT("CVR\0\1" "12" "P"), code_at(2, 1, "P")), 14, 0, 0);
+    for (uint64_t both = 0; both < 16; both++)
+        ASK(asked(TEXT("CVR\0\1" "12" "P"), code_at(both / 4, both % 4, "P3")), both == 6 ? 0 : 14, 0, both == 6);
+    ASK(jgv_coverage_ask(NULL, 0, code("P")), 9, 0, 0);
 }
 
 /* Finest cells of N without the last child of any: nothing merges, each eight take eleven bytes and more, `d(01234567)`. */
 static void long_lists(void) {
     for (uint64_t i = 0; i < TOO_MANY; i++)
-        many[i] = (i / 8 * 9 + i % 8) * 16 + 15;
+        many[i] = ((i / 8 * 9 + i % 8) * 16 + 15) * 16;
     memset(long_text, FILL, sizeof long_text);
     uint8_t *text = long_text + GUARD;
     CHECK_ONE(jgv_length, length, jgv_coverage_write(0, 0, many, TOO_MANY, text, LONGEST + 1), 13, 0);

@@ -63,6 +63,22 @@ for n in 0 1 2 3; do
         try "each arrangement checked" 'coverage check other.cvr' "0 0 $n $s 1 $((9 ** 15))\n" ''
     done
 done
+# two crews at one place, in two arrangements: each text is read in its own, and names say none
+echo -900000000 880000000000000000 >place
+try "the first crew" 'record 0 0 1 <place | tee first.cvr' "${H}N(8)" ''
+try "the second crew" 'record 1 0 1 <place | tee second.cvr' 'CVR\x00\x0110N(6)' ''
+try "the first text asked" 'coverage ask first.cvr N8' 'yes\n' ''
+try "the second text asked for the first crew's name" 'coverage ask second.cvr N8' 'no\n' ''
+try "the second text asked for its own" 'coverage ask second.cvr N6' 'yes\n' ''
+for n in 0 1 2 3; do
+    for s in 0 1 2 3; do
+        printf '%b' "CVR\x00\x01$n${s}N(8)P(34(1))" >other.cvr
+        try "each arrangement listed" 'coverage list other.cvr' 'N8\nP3\nP41\n' ''
+        try "each arrangement asked" 'coverage ask other.cvr P418' 'yes\n' ''
+        try "each arrangement asked for what is covered in part" 'coverage ask other.cvr P4' 'no\n' ''
+        try "each arrangement written again" "coverage list other.cvr | coverage write $n $s" @other.cvr ''
+    done
+done
 for name in "''" T M n p 0 9 "' '" "' P3'" '-' "$'\xff'" '-1'; do try "no letter N to S" "coverage ask two.cvr $name" '1\n' 1; done
 try "an empty name" "coverage ask two.cvr ''" '1\n' 1
 for name in P9 P3x P-1 "'P3 '" P33333333333339 "$'P\xff'" P34:; do try "no digit 0 to 8" "coverage ask two.cvr $name" '3\n' 3; done

@@ -1,6 +1,6 @@
 //! Coverage texts, read in one pass with a stack of levels: check, list and ask.
 
-use super::codes::parts;
+use super::codes::{arrangement, parts};
 use super::NINE;
 use jeguarivo::{Ask, Check, List};
 
@@ -153,9 +153,10 @@ pub extern "C" fn coverage_list(
     }
     let mut codes =
         unsafe { std::slice::from_raw_parts_mut(codes, check.cells as usize) }.iter_mut();
+    let both = (check.n << 2) | check.s;
     walk(text, |depth, start| {
         if let Some(code) = codes.next() {
-            *code = (start << 4) | depth as u64;
+            *code = (start << 8) | (depth as u64) << 4 | both;
         }
     });
     List {
@@ -167,15 +168,13 @@ pub extern "C" fn coverage_list(
 
 /// No list holds nine whole nodes, so a cell is covered exactly where one whole cell holds it.
 #[inline(never)]
-pub extern "C" fn coverage_ask(n: u64, s: u64, text: *const u8, length: usize, code: u64) -> Ask {
+pub extern "C" fn coverage_ask(text: *const u8, length: usize, code: u64) -> Ask {
     let text = unsafe { std::slice::from_raw_parts(text, length) };
-    if n > 3 || s > 3 {
-        return Ask::refused(5);
-    }
     if parts(code).is_none() {
         return Ask::refused(4);
     }
-    let (first, size) = (code >> 4, NINE[15 - (code & 15) as usize]);
+    let (n, s) = arrangement(code);
+    let (first, size) = (code >> 8, NINE[15 - (code >> 4 & 15) as usize]);
     let mut covered = false;
     let read = read(text, |depth, start| {
         covered |= start <= first && first + size <= start + NINE[15 - depth];

@@ -1,6 +1,6 @@
 //! The cell of a fix and the ground nucleus, in whole numbers up to u128.
 
-use super::codes::{cell_of, code_of};
+use super::codes::{arrangement, cell_of, code_of};
 use super::{Place, THREE};
 use jeguarivo::{Code, Fix};
 
@@ -32,7 +32,7 @@ pub extern "C" fn fix_code(n: u64, s: u64, resolution: u64, longitude: i64, z: i
     };
     Code {
         refusal: 0,
-        code: code_of(place),
+        code: code_of(n, s, place),
     }
 }
 
@@ -110,13 +110,11 @@ fn wide_product(x: u128, y: u128) -> (u128, u128) {
 }
 
 #[inline(never)]
-pub extern "C" fn ground_nucleus(n: u64, s: u64, code: u64) -> Fix {
-    if n > 3 || s > 3 {
-        return Fix::refused(5);
-    }
+pub extern "C" fn ground_nucleus(code: u64) -> Fix {
     let Some(cell) = cell_of(code) else {
         return Fix::refused(4);
     };
+    let (n, s) = arrangement(code);
     match cell.face {
         0 => cap_nucleus(cell, n, false),
         5 => cap_nucleus(cell, s, true),

@@ -1,21 +1,19 @@
 //! Neighbours: out of a code, one step, and into a code again.
 
-use super::codes::{cell_of, code_of};
+use super::codes::{arrangement, cell_of, code_of};
 use super::{Place, THREE};
 use jeguarivo::Code;
 
 #[inline(never)]
-pub extern "C" fn neighbour(n: u64, s: u64, code: u64, direction: u64) -> Code {
-    if n > 3 || s > 3 {
-        return Code::refused(5);
-    }
+pub extern "C" fn neighbour(code: u64, direction: u64) -> Code {
     if direction > 3 {
         return Code::refused(3);
     }
+    let (n, s) = arrangement(code);
     match cell_of(code) {
         Some(cell) => Code {
             refusal: 0,
-            code: code_of(step(n, s, cell, direction)),
+            code: code_of(n, s, step(n, s, cell, direction)),
         },
         None => Code::refused(4),
     }

@@ -1,19 +1,22 @@
 //! Writing a coverage text: nine whole siblings are merged on a stack, then the cells are written list by list.
 
-use super::codes::parts;
+use super::codes::{arrangement, parts};
 use super::coverage::LONGEST;
 use super::NINE;
 use jeguarivo::Length;
 
 /// The first finest cell and the one after the last.
 fn range(code: u64) -> (u64, u64) {
-    let first = code >> 4;
-    (first, first + NINE[15 - (code & 15) as usize])
+    let first = code >> 8;
+    (first, first + NINE[15 - (code >> 4 & 15) as usize])
 }
 
-fn refusal(codes: &[u64]) -> u64 {
+fn refusal(n: u64, s: u64, codes: &[u64]) -> u64 {
     if codes.iter().any(|&code| parts(code).is_none()) {
         return 4;
+    }
+    if codes.iter().any(|&code| arrangement(code) != (n, s)) {
+        return 14;
     }
     if codes
         .windows(2)
@@ -24,11 +27,11 @@ fn refusal(codes: &[u64]) -> u64 {
     0
 }
 
-/// The whole cells of the text: a stack on which nine siblings become their parent.
+/// The whole cells of the text, as codes without n and s: a stack on which nine siblings become their parent.
 fn merged(codes: &[u64]) -> Vec<u64> {
     let mut stack = Vec::with_capacity(codes.len());
     for &code in codes {
-        stack.push(code);
+        stack.push(code >> 4);
         while let Some(parent) = full_parent(&stack) {
             stack.truncate(stack.len() - 9);
             stack.push(parent);
@@ -109,7 +112,7 @@ pub extern "C" fn coverage_write(
     if n > 3 || s > 3 {
         return Length::refused(5);
     }
-    match refusal(codes) {
+    match refusal(n, s, codes) {
         0 => {}
         refusal => return Length::refused(refusal),
     }

@@ -4,7 +4,7 @@ ghost use mathlib.Core.Bool.{true};
 ghost use Rattle.code.specs.Code.{isCode, cellOf};
 ghost use Rattle.reading.specs.Ground.{wholeCells};
 ghost use Rattle.reading.specs.TextReading.{isText, nodesOf, bodyStart};
-ghost use Rattle.asking.specs.Ask.{anyWithin, askRefusal, asked, askedAs};
+ghost use Rattle.asking.specs.Ask.{anyWithin, askRefusal, asked};
 use cell::Arrangement;
 use reader::Checked;
 
@@ -50,41 +50,10 @@ fn is_covered(text: &[u8], body: usize, code: u64) -> bool
     false
 }
 
-// The answer of a text that was read, for the asked arrangement: 14 where its heading has another.
-fn answered(
-    arrangement: Arrangement,
-    north: u64,
-    south: u64,
-    text: &[u8],
-    body: usize,
-    code: u64,
-) -> Asked
-    requires { ⌜ (isText (now text) ≡ true) × (body ≡ bodyStart (now text)) × (isCode code ≡ true) ⌝ }
-    ensures { λ r. ⌜ r ≡ askedAs arrangement north south (anyWithin (wholeCells (nodesOf (now (text .entry)))) (cellOf code)) ⌝ }
+// Asking any bytes of any code: 4, 13, 10, 9 and 14, in that order.
+pub fn ask(text: &[u8], code: u64) -> Asked
+    ensures { λ r. ⌜ r ≡ asked (askRefusal (now (text .entry)) code) (now (text .entry)) code ⌝ }
 {
-    if arrangement.north != north {
-        return Asked::Refused {
-            refusal: 14,
-            place: 0,
-        };
-    }
-    if arrangement.south != south {
-        return Asked::Refused {
-            refusal: 14,
-            place: 0,
-        };
-    }
-    Asked::Covered(is_covered(text, body, code))
-}
-
-// Asking any bytes of any code: 5, 4, 13, 10, 9 and 14, in that order.
-pub fn ask(arrangement: Arrangement, text: &[u8], code: u64) -> Asked
-    ensures { λ r. ⌜ r ≡ asked (askRefusal arrangement (now (text .entry)) code) (now (text .entry)) code ⌝ }
-{
-    let refusal = arrangement.refusal();
-    if refusal != 0 {
-        return Asked::Refused { refusal, place: 0 };
-    }
     if !code::is_code(code) {
         return Asked::Refused {
             refusal: 4,
@@ -99,6 +68,15 @@ pub fn ask(arrangement: Arrangement, text: &[u8], code: u64) -> Asked
             cells: _,
             size: _,
             body,
-        } => answered(arrangement, north, south, text, body, code),
+        } => {
+            let arrangement = Arrangement { north, south };
+            if !code::is_of(arrangement, code) {
+                return Asked::Refused {
+                    refusal: 14, // of another arrangement
+                    place: 0,
+                };
+            }
+            Asked::Covered(is_covered(text, body, code))
+        }
     }
 }

@@ -35,12 +35,3 @@ arrangementRefusal a = refuse (ltb 3 (a .north)) 5 otherwise refuse (ltb 3 (a .s
 unfoldable pub found : ℕ → Cell → Found
 found zero c = At c
 found (suc r) c = Refused (suc r)
-
--- what each case of the answer stands for: the refusal number, and the cell, whose numbers are 0 with a refusal
-abbrev pub refusalIn : Found → ℕ
-refusalIn (At c) = 0
-refusalIn (Refused r) = r
-
-abbrev pub cellIn : Found → Cell
-cellIn (At c) = c
-cellIn (Refused r) = record { face = 0; resolution = 0; row = 0; column = 0 }

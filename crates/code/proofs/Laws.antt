@@ -5,16 +5,17 @@ use Prim.Native.Nat.{ℕ, zero, suc, _+_, _-_, _*_, _/_, _%_, _^_, _≤_, _<_}
 use native.Mathlib.Nat.{div-add-mod', dvd-mul-right, mod-mod-of-dvd}
 use native.Mathlib.Omega.{arith}
 use lib.Dec.{eqb, ltb}
-use borrow.Author.Tests.{lt-ltb, le-ltb, eq-eqb, ne-eqb}
+use borrow.Author.Tests.{lt-ltb, le-ltb, eq-eqb, ne-eqb, eqb-true, eqb-false}
 use Rattle.ternary.specs.Laws.Powers.{power-le, nine-le, nine-split}
 use Rattle.ternary.specs.Weave.{weave, rowIn, columnIn}
 use Rattle.ternary.specs.Laws.Weave.{weave-more, row-more, column-more}
 use Rattle.cell.specs.declared.Cell.{Cell}
-use Rattle.cell.specs.Cell.{IsCell}
+use Rattle.cell.specs.declared.Arrangement.{Arrangement}
+use Rattle.cell.specs.Cell.{IsCell, IsArrangement}
 use Rattle.code.specs.declared.Coded.the-variants.{Code, Refused}
 use Rattle.code.specs.declared.Split.the-variants as split-as
-use Rattle.code.specs.Code.{coded, split, isCode, codeRefusal, pathOf, pathIn}
-use Rattle.code.specs.Laws.Code.{path-weave, path-in-small, code-passes, code-stops}
+use Rattle.code.specs.Code.{coded, cellSplit, arrangementOf, isOf, isCellCode, cellCodeRefusal, pathOf, pathIn}
+use Rattle.code.specs.Laws.Code.{path-weave, path-in-small, cell-code-passes, cell-code-stops}
 
 refusal : (r code : ℕ) → (r ≡ 0 → ⊥) → Refused r ≡ coded r code
 unfolding coded
@@ -54,7 +55,7 @@ module _ (c : Cell) (v : IsCell c) where
       ap (λ (x : ℕ). weave x (c .row) (c .column)) (sixteen (c .resolution) (v .fine))
       ∙ weave-more (c .resolution) (16 - c .resolution) (c .row) (c .column) (v .rowed) (v .columned) ∙ sym (path-weave c)
 
-module _ (code : ℕ) (t : isCode code ≡ true) where
+module _ (code : ℕ) (t : isCellCode code ≡ true) where
   fine : code % 16 ≤ 15
   fine = omega arith
 
@@ -73,18 +74,18 @@ module _ (code : ℕ) (t : isCode code ≡ true) where
 -- ---- what is answered
 
 -- 4 where a number is no code
-pub no-code : (code : ℕ) → isCode code ≡ false → split-as.Refused 4 ≡ split (codeRefusal code) code
-unfolding split
-no-code code e = sym (ap (λ (r : ℕ). split r code) (code-stops code e))
+pub no-code : (code : ℕ) → isCellCode code ≡ false → split-as.Refused 4 ≡ cellSplit (cellCodeRefusal code) code
+unfolding cellSplit
+no-code code e = sym (ap (λ (r : ℕ). cellSplit r code) (cell-code-stops code e))
 
 -- and else its parts
-pub a-code : (code : ℕ) {p : ℕ} → isCode code ≡ true → p ≡ pathIn code → split-as.Parts (code / 16 / 205891132094649) (code % 16) p ≡ split (codeRefusal code) code
-unfolding split
-a-code code e h = ap (split-as.Parts (code / 16 / 205891132094649) (code % 16)) h ∙ sym (ap (λ (r : ℕ). split r code) (code-passes code e))
+pub a-cell-code : (code : ℕ) {p : ℕ} → isCellCode code ≡ true → p ≡ pathIn code → split-as.Parts (code / 16 / 205891132094649) (code % 16) p ≡ cellSplit (cellCodeRefusal code) code
+unfolding cellSplit
+a-cell-code code e h = ap (split-as.Parts (code / 16 / 205891132094649) (code % 16)) h ∙ sym (ap (λ (r : ℕ). cellSplit r code) (cell-code-passes code e))
 
 -- a number is no code where its face is none of the six
-pub no-face : (code : ℕ) → 6 ≤ code / 16 / 205891132094649 → isCode code ≡ false
-unfolding isCode
+pub no-face : (code : ℕ) → 6 ≤ code / 16 / 205891132094649 → isCellCode code ≡ false
+unfolding isCellCode
 no-face code h = ap (λ (b : Bool). b && eqb (code / 16 % 9 ^ 15 % 9 ^ (15 - code % 16)) 0) (le-ltb (code / 16 / 9 ^ 15) 6 h)
 
 and-false : (b : Bool) → (b && false) ≡ false
@@ -93,19 +94,32 @@ and-false false = refl
 
 -- or where its place in the face is no multiple of its size; otherwise it is one
 module _ (code : ℕ) {size : ℕ} (e : size ≡ 9 ^ (15 - code % 16)) where
-  pub a-rest : (code / 16 % 205891132094649 / size * size ≡ code / 16 % 205891132094649 → ⊥) → isCode code ≡ false
-  unfolding isCode
+  pub a-rest : (code / 16 % 205891132094649 / size * size ≡ code / 16 % 205891132094649 → ⊥) → isCellCode code ≡ false
+  unfolding isCellCode
   a-rest h =
       let x = code / 16 % 205891132094649 in
       let n = 9 ^ (15 - code % 16) in
       let z : x % n ≡ 0 → x / size * size ≡ x = λ r. ap (λ (y : ℕ). x / y * y) e ∙ (let d = div-add-mod' x n in omega arith) in
       ap (λ (b : Bool). ltb (code / 16 / 9 ^ 15) 6 && b) (ne-eqb (x % n) 0 (λ r. h (z r))) ∙ and-false (ltb (code / 16 / 9 ^ 15) 6)
 
-  pub no-rest : code / 16 / 205891132094649 < 6 → code / 16 % 205891132094649 / size * size ≡ code / 16 % 205891132094649 → isCode code ≡ true
-  unfolding isCode
+  pub no-rest : code / 16 / 205891132094649 < 6 → code / 16 % 205891132094649 / size * size ≡ code / 16 % 205891132094649 → isCellCode code ≡ true
+  unfolding isCellCode
   no-rest f h =
       let x = code / 16 % 205891132094649 in
       let n = 9 ^ (15 - code % 16) in
       let g : x / n * n ≡ x = sym (ap (λ (y : ℕ). x / y * y) e) ∙ h in
       let z : x % n ≡ 0 = let d = div-add-mod' x n in omega arith in
       ap₂ _&&_ (lt-ltb (code / 16 / 9 ^ 15) 6 f) (eq-eqb (x % n) 0 z)
+
+-- ---- the arrangement is what is left of a code by 16
+
+pub arranged : {a : Arrangement} → IsArrangement a → (code : ℕ) → eqb (code % 16) (4 * a .north + a .south) ≡ isOf a code
+unfolding isOf arrangementOf
+arranged {a} g code = go (eqb (code / 4 % 4) (a .north)) refl (eqb (code % 4) (a .south)) refl
+  where
+    go :
+        (n : Bool) → eqb (code / 4 % 4) (a .north) ≡ n → (s : Bool) → eqb (code % 4) (a .south) ≡ s →
+        eqb (code % 16) (4 * a .north + a .south) ≡ (n && s)
+    go true e true f = eq-eqb (code % 16) (4 * a .north + a .south) (omega (arith, eqb-true (code / 4 % 4) (a .north) e, eqb-true (code % 4) (a .south) f))
+    go true e false f = ne-eqb (code % 16) (4 * a .north + a .south) (λ h. eqb-false (code % 4) (a .south) f (omega (arith, g .southern)))
+    go false e s f = ne-eqb (code % 16) (4 * a .north + a .south) (λ h. eqb-false (code / 4 % 4) (a .north) e (omega (arith, g .southern)))

@@ -2,7 +2,8 @@
 -- shows that its code and its first finest cell are these. Assumes nothing.
 use Prim.Native.Nat.{ℕ, _+_, _-_, _*_, _^_}
 use Rattle.cell.specs.declared.Cell.{Cell}
-use Rattle.code.specs.Code.{pathOf, cellOf}
+use Rattle.cell.specs.declared.Arrangement.{Arrangement}
+use Rattle.code.specs.Code.{pathOf, cellCoded}
 
 unfoldable pub numberOf : Cell → ℕ
 numberOf c = c .face * 9 ^ c .resolution + pathOf c
@@ -15,10 +16,13 @@ startAs k n = n * 9 ^ (15 - k)
 unfoldable pub endAs : (k n : ℕ) → ℕ
 endAs k n = startAs k n + 9 ^ (15 - k)
 
--- the code
-unfoldable pub codeAs : (k n : ℕ) → ℕ
-codeAs k n = startAs k n * 16 + k
+-- the cell's part of the code, and the code
+unfoldable pub cellCodeAs : (k n : ℕ) → ℕ
+cellCodeAs k n = startAs k n * 16 + k
+
+unfoldable pub codeAs : Arrangement → (k n : ℕ) → ℕ
+codeAs a k n = 16 * cellCodeAs k n + (4 * a .north + a .south)
 
 -- the cell
 abbrev pub cellAs : (k n : ℕ) → Cell
-cellAs k n = cellOf (codeAs k n)
+cellAs k n = cellCoded (cellCodeAs k n)

@@ -1,11 +1,14 @@
-// Codes and names of cells. How a code is made is known here only.
+// Codes: a cell and the arrangement that it is of. How a code is made is known here only.
 ghost use mathlib.Core.Path.{_≡_};
 ghost use mathlib.Core.Bool.{true};
-ghost use Prim.Native.Nat.{_+_, _-_, _^_, _≤_, _<_};
-ghost use Rattle.cell.specs.Cell.{IsCell, cellRefusal, cellIn, found};
-ghost use Rattle.code.specs.Code.{codeAt, codeOf, isCode, cellOf, codeRefusal, sizeOf, coded, foundCode, split};
+ghost use Prim.Native.Nat.{_+_, _-_, _*_, _^_, _≤_, _<_};
+ghost use Rattle.logic.specs.Refusal.{_otherwise_};
+ghost use Rattle.cell.specs.Cell.{IsCell, IsArrangement, cellRefusal, arrangementRefusal, found};
+ghost use Rattle.code.specs.Code.{cellCodeAt, isCellCode, cellCodeRefusal, cellSplit};
+ghost use Rattle.code.specs.Code.{codeAt, codeOf, isCode, cellOf, arrangementOf, isOf, codeRefusal, sizeOf, coded, Placed, foundCode, split};
 ghost use Rattle.code.specs.Inside.{startOf};
 ghost use Rattle.code.specs.Number.{codeAs};
+use cell::Arrangement;
 use cell::Cell;
 use cell::Found;
 
@@ -28,68 +31,98 @@ pub enum Split {
     Refused(u64),
 }
 
-// The code of a face, a resolution and a path.
-pub fn code_at(face: u64, resolution: u64, path: u64) -> u64
+// The cell's part of a code, of a face, a resolution and a path.
+fn cell_code_at(face: u64, resolution: u64, path: u64) -> u64
     requires { ⌜ (face ≤ 5) × (resolution ≤ 15) × (path < 9 ^ resolution) ⌝ }
-    ensures { λ r. ⌜ r ≡ codeAt face resolution path ⌝ }
+    ensures { λ r. ⌜ (r ≡ cellCodeAt face resolution path) × (r ≤ 19765548681086303) ⌝ }
 {
     let finest = path * ternary::nine_power(15 - resolution);
     (face * FACE_SIZE + finest) * 16 + resolution
 }
 
-// The code of a cell.
-pub fn code_of(cell: Cell) -> u64
-    requires { ⌜ IsCell cell ⌝ }
-    ensures { λ r. ⌜ r ≡ codeOf cell ⌝ }
+// A cell's part and an arrangement, put together.
+fn with_arrangement(arrangement: Arrangement, part: u64) -> u64
+    requires { ⌜ IsArrangement arrangement ⌝ }
+    requires { ⌜ part < 2 ^ 59 ⌝ }
+    ensures { λ r. ⌜ r ≡ 16 * part + (4 * arrangement .north + arrangement .south) ⌝ }
 {
-    let path = ternary::path(cell.row, cell.column);
-    code_at(cell.face, cell.resolution, path)
+    16 * part + (4 * arrangement.north + arrangement.south)
 }
 
-// The code of any four numbers: 2, 1 or 3 where they are no cell.
-pub fn coded_cell(cell: Cell) -> Coded
-    ensures { λ r. ⌜ r ≡ coded (cellRefusal cell) (codeOf cell) ⌝ }
+// The code of a face, a resolution and a path.
+pub fn code_at(arrangement: Arrangement, face: u64, resolution: u64, path: u64) -> u64
+    requires { ⌜ IsArrangement arrangement ⌝ }
+    requires { ⌜ (face ≤ 5) × (resolution ≤ 15) × (path < 9 ^ resolution) ⌝ }
+    ensures { λ r. ⌜ r ≡ codeAt arrangement face resolution path ⌝ }
 {
+    with_arrangement(arrangement, cell_code_at(face, resolution, path))
+}
+
+// The code of a cell.
+pub fn code_of(arrangement: Arrangement, cell: Cell) -> u64
+    requires { ⌜ IsArrangement arrangement ⌝ }
+    requires { ⌜ IsCell cell ⌝ }
+    ensures { λ r. ⌜ r ≡ codeOf arrangement cell ⌝ }
+{
+    let path = ternary::path(cell.row, cell.column);
+    code_at(arrangement, cell.face, cell.resolution, path)
+}
+
+// The code of any numbers: 5 where they are no arrangement, 2, 1 or 3 where they are no cell.
+pub fn coded_cell(arrangement: Arrangement, cell: Cell) -> Coded
+    ensures { λ r. ⌜ r ≡ coded (arrangementRefusal arrangement otherwise cellRefusal cell) (codeOf arrangement cell) ⌝ }
+{
+    let unarranged = arrangement.refusal();
+    if unarranged != 0 {
+        return Coded::Refused(unarranged);
+    }
     let refusal = cell.refusal();
     if refusal != 0 {
         return Coded::Refused(refusal);
     }
-    Coded::Code(code_of(cell))
+    Coded::Code(code_of(arrangement, cell))
 }
 
 // The code of a cell that was found, or the refusal.
-pub fn found_code(found: Found) -> Coded
-    requires { ⌜ IsCell (cellIn found) ⌝ }
-    ensures { λ r. ⌜ r ≡ foundCode found ⌝ }
+pub fn found_code(arrangement: Arrangement, found: Found) -> Coded
+    requires { ⌜ Placed arrangement found ⌝ }
+    ensures { λ r. ⌜ r ≡ foundCode arrangement found ⌝ }
 {
     match found {
-        Found::At(cell) => Coded::Code(code_of(cell)),
+        Found::At(cell) => Coded::Code(code_of(arrangement, cell)),
         Found::Refused(refusal) => Coded::Refused(refusal), // handed on
     }
 }
 
-// Whether some cell has this code: below 6 x 9^15 it lies in one of the faces.
-pub fn is_code(code: u64) -> bool
-    ensures { λ r. ⌜ r ≡ isCode code ⌝ }
+// Whether a number is the cell's part of a code: below 6 x 9^15 it lies in one of the faces.
+fn is_cell_code(part: u64) -> bool
+    ensures { λ r. ⌜ r ≡ isCellCode part ⌝ }
 {
-    let finest = code / 16;
+    let finest = part / 16;
     if finest < 1_235_346_792_567_894 {
-        return finest % ternary::nine_power(15 - code % 16) == 0;
+        return finest % ternary::nine_power(15 - part % 16) == 0;
     }
     false
 }
 
-// The face, the resolution and the path of a code: 4 where it is no cell's. One quotient tells both the path and whether a digit stands
-// below the resolution.
-pub fn parts_of(code: u64) -> Split
-    ensures { λ r. ⌜ r ≡ split (codeRefusal code) code ⌝ }
+// Whether some cell has this code.
+pub fn is_code(code: u64) -> bool
+    ensures { λ r. ⌜ r ≡ isCode code ⌝ }
 {
-    let number = code / 16;
+    is_cell_code(code / 16)
+}
+
+// The face, the resolution and the path of the cell's part of a code: 4 where it is none. One quotient tells both the path and whether a digit
+// stands below the resolution.
+fn cell_parts(part: u64) -> Split
+    ensures { λ r. ⌜ r ≡ cellSplit (cellCodeRefusal part) part ⌝ }
+{
+    let number = part / 16;
     let face = number / FACE_SIZE;
     if face >= 6 {
         return Split::Refused(4); // no face
     }
-    let resolution = code % 16;
+    let resolution = part % 16;
     let step = ternary::nine_power(15 - resolution);
     let rest = number % FACE_SIZE;
     let path = rest / step;
@@ -101,6 +134,31 @@ pub fn parts_of(code: u64) -> Split
         resolution,
         path,
     }
+}
+
+// The face, the resolution and the path of a code: 4 where it is no cell's.
+pub fn parts_of(code: u64) -> Split
+    ensures { λ r. ⌜ r ≡ split (codeRefusal code) code ⌝ }
+{
+    cell_parts(code / 16)
+}
+
+// The arrangement that a code is of.
+pub fn arrangement_of(code: u64) -> Arrangement
+    ensures { λ r. ⌜ r ≡ arrangementOf code ⌝ }
+{
+    Arrangement {
+        north: code / 4 % 4,
+        south: code % 4,
+    }
+}
+
+// Whether a code is of an arrangement.
+pub fn is_of(arrangement: Arrangement, code: u64) -> bool
+    requires { ⌜ IsArrangement arrangement ⌝ }
+    ensures { λ r. ⌜ r ≡ isOf arrangement code ⌝ }
+{
+    code % 16 == 4 * arrangement.north + arrangement.south
 }
 
 // The cell of a code: 4 where it is no cell's.
@@ -129,20 +187,22 @@ pub fn start_in(code: u64) -> u64
     requires { ⌜ isCode code ≡ true ⌝ }
     ensures { λ r. ⌜ r ≡ startOf (cellOf code) ⌝ }
 {
-    code / 16
+    code / 256
 }
 
 // The number of finest cells of a code's cell.
 pub fn size_in(code: u64) -> u64
     ensures { λ r. ⌜ r ≡ sizeOf (cellOf code) ⌝ }
 {
-    ternary::nine_power(15 - code % 16)
+    ternary::nine_power(15 - code / 16 % 16)
 }
 
 // The code of a cell that is given by its resolution and its number.
-pub fn code_as(resolution: u64, number: u64) -> u64
+pub fn code_as(arrangement: Arrangement, resolution: u64, number: u64) -> u64
+    requires { ⌜ IsArrangement arrangement ⌝ }
     requires { ⌜ (resolution ≤ 15) × (number < 9 ^ (resolution + 1)) ⌝ }
-    ensures { λ r. ⌜ r ≡ codeAs resolution number ⌝ }
+    ensures { λ r. ⌜ r ≡ codeAs arrangement resolution number ⌝ }
 {
-    number * ternary::nine_power(15 - resolution) * 16 + resolution
+    let part = number * ternary::nine_power(15 - resolution) * 16 + resolution;
+    with_arrangement(arrangement, part)
 }

@@ -1,37 +1,44 @@
--- A name more is read; names are printed part by part. Assumes nothing.
+-- A name more is read; a name is asked for; names are printed part by part. Assumes nothing.
 use mathlib.Core.Path.{_≡_, refl, sym, ap, ap₂, _∙_, subst}
 use mathlib.Core.Logic.{_⊎_, ⊎-elim}
-use mathlib.Core.Bool.{Bool}
+use mathlib.Core.Bool.{Bool, true, false, not}
 use mathlib.Core.List.{List, [], _∷_, _++_}
-use Prim.Native.Nat.{ℕ, zero, suc, _+_, _-_, _≤_, _<_}
+use Prim.Native.Nat.{ℕ, zero, suc, _+_, _-_, _*_, _≤_, _<_}
 use native.Mathlib.Numerals.{add-one}
 use native.Mathlib.Omega.{arith}
-use lib.Dec.{leb}
+use lib.Dec.{leb, ltb}
 use lib.ListN.{length, take, drop, set, length-drop, length-set}
-use lib.Seq.{take-all, take-add, take-suc-set, length-take-le}
+use lib.Seq.{take-all, take-add, take-suc-set, take-at, length-take-le}
 use borrow.Author.Tests.{lt-ltb, ltb-false, lt-leb, le-leb}
 use Rattle.logic.specs.Laws.Order.{lt-or}
-use Rattle.logic.specs.Refusal.{refuse, _otherwise_}
+use Rattle.logic.specs.Refusal.{refuse, given, _otherwise_}
 use Rattle.logic.specs.Laws.Refusal.{stops, passes, both, allowed}
 use Rattle.code.specs.declared.Coded.{Coded}
 use Rattle.code.specs.declared.Coded.the-variants as coded-as
-use Rattle.code.specs.Code.{coded, codeIn, refusalIn}
+use Rattle.code.specs.Code.{coded, codeIn, refusalIn, isCode, isOf, cellOf, arrangementOf}
+use Rattle.code.specs.Laws.Code.{arrangement-of, arrangement-code, code-is-cell, code-passes}
 use Rattle.decimal.specs.Decimal.{trimmed}
 use Rattle.decimal.specs.Laws.Long.{trimmed-length, trimmed-take}
-use Rattle.name.specs.Name.{nameRefusal, nameCode}
+use Rattle.name.specs.Name.{nameRefusal, nameCode, firstLetter, allDigits}
+use Rattle.name.specs.Laws.Name.{accepted, name-code, name-code-is, code-name}
 use Rattle.lines.specs.Fold.{OfBytes, OfEnded}
 use Rattle.lines.specs.Laws.Fold.{then-line, then-last, then-none}
 use Rattle.console.specs.declared.LineRead.the-variants.{Line, Last}
 use Rattle.console.specs.Input.{Given}
 use Rattle.report.specs.declared.Names.{Names as NamesPart}
 use Rattle.report.specs.Names.{namesOf, NamesPut}
-use Rattle.report.specs.Laws.Names.{names-append, names-some}
+use Rattle.report.specs.Laws.Names.{names-some, names-all}
+use Rattle.report.specs.Put.{Put}
+use Rattle.report.specs.Lines.{numberLine}
 use Rattle.report.specs.Laws.Put.{put-taken}
 use Rattle.cell.specs.declared.Arrangement.{Arrangement}
-use Rattle.reader.specs.Check.{textRefusal}
+use Rattle.reading.specs.TextReading.{textArrangement}
+use Rattle.reader.specs.Check.{textRefusal, placeWith}
+use Rattle.asking.specs.declared.Asked.the-variants.{Refused}
+use Rattle.asking.specs.Ask.{asked, askRefusal}
 use Rattle.listing.specs.declared.Listed.{Listed}
-use Rattle.listing.specs.declared.Listed.the-variants.{Count}
-use Rattle.listing.specs.List.{codesOf, listingRefusal, listed}
+use Rattle.listing.specs.declared.Listed.the-variants as listed-by
+use Rattle.listing.specs.List.{codesOf, codesIn, listingRefusal, listed}
 use Rattle.coverage.specs.declared.NamesRead.{NamesRead}
 use Rattle.coverage.specs.declared.Text.{Text}
 use Rattle.coverage.specs.declared.Text.the-variants.{Length}
@@ -39,7 +46,8 @@ use Rattle.coverage.specs.declared.Taken.{Taken}
 use Rattle.coverage.specs.declared.Taken.the-variants as taken-as
 use Rattle.coverage.specs.declared.NamesRead.the-variants as read-as
 use Rattle.coverage.specs.Names.{Names, read, stopped, namedOr, withName, NameTaken, AllTaken}
-use Rattle.coverage.specs.Printed.{TextWritten}
+use Rattle.coverage.specs.Own.{Own}
+use Rattle.coverage.specs.Printed.{askedName, NamesWritten, ListWritten, TextWritten}
 
 -- ---- one name
 
@@ -53,34 +61,34 @@ unfolding coded
 as-refusal zero code r e = let z : _≡_ {A = ℕ} 0 1 = cc in absurd (omega arith)
 as-refusal (suc q) code r e = let k : suc q ≡ r = ap refusalIn e in (k, λ z. omega arith)
 
-module _ (line codes : List ℕ) (count : ℕ) (h : count ≤ length codes) {n : ℕ} (t : n ≡ length (trimmed line)) {x : Coded}
-    (e : x ≡ coded (nameRefusal (take n line)) (nameCode (take n line))) where
+module _ (a : Arrangement) (line codes : List ℕ) (count : ℕ) (h : count ≤ length codes) {n : ℕ} (t : n ≡ length (trimmed line)) {x : Coded}
+    (e : x ≡ coded (nameRefusal (take n line)) (nameCode a (take n line))) where
   name-text : take n line ≡ trimmed line
   name-text = ap (λ (i : ℕ). take i line) t ∙ trimmed-take line
 
-  named : x ≡ coded (nameRefusal (trimmed line)) (nameCode (trimmed line))
-  named = e ∙ ap (λ (l : List ℕ). coded (nameRefusal l) (nameCode l)) name-text
+  named : x ≡ coded (nameRefusal (trimmed line)) (nameCode a (trimmed line))
+  named = e ∙ ap (λ (l : List ℕ). coded (nameRefusal l) (nameCode a l)) name-text
 
   held : length (take count codes) ≡ count
   held = length-take-le count codes h
 
-  pub name-taken : (code : ℕ) → x ≡ coded-as.Code code → count < length codes → NameTaken line codes count (set codes count code) (taken-as.Count (count + 1))
+  pub name-taken : (code : ℕ) → x ≡ coded-as.Code code → count < length codes → NameTaken a line codes count (set codes count code) (taken-as.Count (count + 1))
   name-taken code f l =
-      let k = as-code (nameRefusal (trimmed line)) (nameCode (trimmed line)) code (sym named ∙ f) in (
+      let k = as-code (nameRefusal (trimmed line)) (nameCode a (trimmed line)) code (sym named ∙ f) in (
         passes _ (k .0) ∙ ap (λ (b : Bool). refuse b 13) (ap (leb (length codes)) held ∙ lt-leb (length codes) count l),
         rw (add-one count) (take-suc-set codes count code l) ∙ ap (λ (y : ℕ). take count codes ++ (y ∷ [])) (sym (k .1)),
         omega (arith, length-set codes count code),
         omega arith,
       )
 
-  pub name-full : (code : ℕ) → x ≡ coded-as.Code code → length codes ≤ count → NameTaken line codes count codes (taken-as.Refused 13)
+  pub name-full : (code : ℕ) → x ≡ coded-as.Code code → length codes ≤ count → NameTaken a line codes count codes (taken-as.Refused 13)
   name-full code f l =
-      let k = as-code (nameRefusal (trimmed line)) (nameCode (trimmed line)) code (sym named ∙ f) in
+      let k = as-code (nameRefusal (trimmed line)) (nameCode a (trimmed line)) code (sym named ∙ f) in
       (passes _ (k .0) ∙ ap (λ (b : Bool). refuse b 13) (ap (leb (length codes)) held ∙ le-leb (length codes) count l), λ z. omega arith)
 
-  pub name-refused : (r : ℕ) → x ≡ coded-as.Refused r → NameTaken line codes count codes (taken-as.Refused r)
+  pub name-refused : (r : ℕ) → x ≡ coded-as.Refused r → NameTaken a line codes count codes (taken-as.Refused r)
   name-refused r f =
-      let k = as-refusal (nameRefusal (trimmed line)) (nameCode (trimmed line)) r (sym named ∙ f) in
+      let k = as-refusal (nameRefusal (trimmed line)) (nameCode a (trimmed line)) r (sym named ∙ f) in
       (stops (nameRefusal (trimmed line)) _ (λ z. k .1 (sym (k .0) ∙ z)) ∙ k .0, k .1)
 
 -- ---- a line that was cut to its room
@@ -89,66 +97,66 @@ long-name : (y : List ℕ) → 18 ≤ length y → nameRefusal (trimmed y) ≡ 2
 unfolding nameRefusal _otherwise_
 long-name y h = rw (lt-ltb 16 (length (trimmed y)) (omega (arith, trimmed-length y))) refl
 
-stops-long : (size : ℕ) (codes y : List ℕ) → 18 ≤ length y → withName size (read codes) y ≡ stopped (suc (length codes)) 2
-stops-long size codes y h =
-    ap (λ (q : ℕ). namedOr q codes (nameCode (trimmed y))) (stops (nameRefusal (trimmed y)) _ (λ z. absurd (two (sym (long-name y h) ∙ z))) ∙ long-name y h)
+stops-long : (a : Arrangement) (size : ℕ) (codes y : List ℕ) → 18 ≤ length y → withName a size (read codes) y ≡ stopped (suc (length codes)) 2
+stops-long a size codes y h =
+    ap (λ (q : ℕ). namedOr q codes (nameCode a (trimmed y))) (stops (nameRefusal (trimmed y)) _ (λ z. absurd (two (sym (long-name y h) ∙ z))) ∙ long-name y h)
   where
     two : _≡_ {A = ℕ} 2 0 → ⊥
     two z = omega arith
 
-cut-name : (size room : ℕ) (codes x : List ℕ) → 18 ≤ room → withName size (read codes) (take room x) ≡ withName size (read codes) x
-cut-name size room codes x h =
+cut-name : (a : Arrangement) (size room : ℕ) (codes x : List ℕ) → 18 ≤ room → withName a size (read codes) (take room x) ≡ withName a size (read codes) x
+cut-name a size room codes x h =
     ⊎-elim
     (λ l.
-    let a : length (take room x) ≡ room = length-take-le room x (omega arith) in
-    stops-long size codes (take room x) (omega arith) ∙ sym (stops-long size codes x (omega arith)))
-    (λ l. ap (withName size (read codes)) (take-all room x l)) (lt-or room (length x))
+    let z : length (take room x) ≡ room = length-take-le room x (omega arith) in
+    stops-long a size codes (take room x) (omega arith) ∙ sym (stops-long a size codes x (omega arith)))
+    (λ l. ap (withName a size (read codes)) (take-all room x l)) (lt-or room (length x))
 
 -- ---- a line more
 
-module _ (room : List ℕ) (big : 18 ≤ length room) (codes later : List ℕ) (count n : ℕ) (o : OfEnded (withName (length codes)) (read []) (read (take count codes))) where
+module _ (a : Arrangement) (room : List ℕ) (big : 18 ≤ length room) (codes later : List ℕ) (count n : ℕ) (o : OfEnded (withName a (length codes)) (read []) (read (take count codes))) where
   -- what the line comes to
-  abbrev comes : (r : Taken) → NameTaken (take n room) codes count later r → Names
+  abbrev comes : (r : Taken) → NameTaken a (take n room) codes count later r → Names
   comes (taken-as.Count k) h = read (take k later)
   comes (taken-as.Refused r) h = stopped (suc (length (take count codes))) r
 
-  is : (r : Taken) (h : NameTaken (take n room) codes count later r) → withName (length codes) (read (take count codes)) (take n room) ≡ comes r h
-  is (taken-as.Count k) (e, f, i, j) = ap (λ (q : ℕ). namedOr q (take count codes) (nameCode (trimmed (take n room)))) e ∙ ap read (sym f)
-  is (taken-as.Refused r) (e, f) = ap (λ (q : ℕ). namedOr q (take count codes) (nameCode (trimmed (take n room)))) e ∙ some r f
+  is : (r : Taken) (h : NameTaken a (take n room) codes count later r) → withName a (length codes) (read (take count codes)) (take n room) ≡ comes r h
+  is (taken-as.Count k) (e, f, i, j) = ap (λ (q : ℕ). namedOr q (take count codes) (nameCode a (trimmed (take n room)))) e ∙ ap read (sym f)
+  is (taken-as.Refused r) (e, f) = ap (λ (q : ℕ). namedOr q (take count codes) (nameCode a (trimmed (take n room)))) e ∙ some r f
     where
-      some : (q : ℕ) → (q ≡ 0 → ⊥) → namedOr q (take count codes) (nameCode (trimmed (take n room))) ≡ stopped (suc (length (take count codes))) q
+      some : (q : ℕ) → (q ≡ 0 → ⊥) → namedOr q (take count codes) (nameCode a (trimmed (take n room))) ≡ stopped (suc (length (take count codes))) q
       some zero g = absurd (g refl)
       some (suc q) g = refl
 
-  whole : (x : List ℕ) → take n room ≡ take (length room) x → (r : Taken) (h : NameTaken (take n room) codes count later r) → withName (length codes) (read (take count codes)) x
+  whole : (x : List ℕ) → take n room ≡ take (length room) x → (r : Taken) (h : NameTaken a (take n room) codes count later r) → withName a (length codes) (read (take count codes)) x
       ≡ comes r h
   whole x f r h =
-      sym (cut-name (length codes) (length room) (take count codes) x big) ∙ ap (withName (length codes) (read (take count codes))) (sym f) ∙ is r h
+      sym (cut-name a (length codes) (length room) (take count codes) x big) ∙ ap (withName a (length codes) (read (take count codes))) (sym f) ∙ is r h
 
-  line-comes : (left bytes : List ℕ) (from end : ℕ) → Given left bytes room (Line n from end) → (r : Taken) (h : NameTaken (take n room) codes count later r) → OfEnded
-      (withName (length codes)) (read []) (comes r h)
-  line-comes left bytes from end (more, x, u, g, f, i, j, l) r h = subst (OfEnded (withName (length codes)) (read [])) (whole x f r h) (then-line (withName (length codes)) x u o)
+  line-comes : (left bytes : List ℕ) (from end : ℕ) → Given left bytes room (Line n from end) → (r : Taken) (h : NameTaken a (take n room) codes count later r) → OfEnded
+      (withName a (length codes)) (read []) (comes r h)
+  line-comes left bytes from end (more, x, u, g, f, i, j, l) r h = subst (OfEnded (withName a (length codes)) (read [])) (whole x f r h) (then-line (withName a (length codes)) x u o)
 
-  last-comes : (left bytes : List ℕ) → Given left bytes room (Last n) → (r : Taken) (h : NameTaken (take n room) codes count later r) → OfBytes (withName (length codes)) (read []) (comes r h)
-  last-comes left bytes (more, u, l, f, i) r h = subst (OfBytes (withName (length codes)) (read [])) (whole (left ++ more) f r h) (then-last (withName (length codes)) (left ++ more) u l o)
+  last-comes : (left bytes : List ℕ) → Given left bytes room (Last n) → (r : Taken) (h : NameTaken a (take n room) codes count later r) → OfBytes (withName a (length codes)) (read []) (comes r h)
+  last-comes left bytes (more, u, l, f, i) r h = subst (OfBytes (withName a (length codes)) (read [])) (whole (left ++ more) f r h) (then-last (withName a (length codes)) (left ++ more) u l o)
 
-  module _ {r : Taken} (h : NameTaken (take n room) codes count later r) where
+  module _ {r : Taken} (h : NameTaken a (take n room) codes count later r) where
     pub taken-more : (k : ℕ) → r ≡ taken-as.Count k → (k ≤ length later) × (suc count ≤ k)
-    taken-more k e = let g = subst (NameTaken (take n room) codes count later) e h in (g .2, g .3)
+    taken-more k e = let g = subst (NameTaken a (take n room) codes count later) e h in (g .2, g .3)
 
-    pub line-read : (left bytes : List ℕ) (from end k : ℕ) → Given left bytes room (Line n from end) → r ≡ taken-as.Count k → OfEnded (withName (length codes)) (read [])
+    pub line-read : (left bytes : List ℕ) (from end k : ℕ) → Given left bytes room (Line n from end) → r ≡ taken-as.Count k → OfEnded (withName a (length codes)) (read [])
         (read (take k later))
-    line-read left bytes from end k g e = line-comes left bytes from end g (taken-as.Count k) (subst (NameTaken (take n room) codes count later) e h)
+    line-read left bytes from end k g e = line-comes left bytes from end g (taken-as.Count k) (subst (NameTaken a (take n room) codes count later) e h)
 
-    pub line-stops : (left bytes : List ℕ) (from end q : ℕ) → Given left bytes room (Line n from end) → r ≡ taken-as.Refused q → AllTaken (length codes) later (read-as.Stopped q)
+    pub line-stops : (left bytes : List ℕ) (from end q : ℕ) → Given left bytes room (Line n from end) → r ≡ taken-as.Refused q → AllTaken a (length codes) later (read-as.Stopped q)
     line-stops left bytes from end q g e =
-        (_, then-none (withName (length codes)) (line-comes left bytes from end g (taken-as.Refused q) (subst (NameTaken (take n room) codes count later) e h)))
+        (_, then-none (withName a (length codes)) (line-comes left bytes from end g (taken-as.Refused q) (subst (NameTaken a (take n room) codes count later) e h)))
 
-    pub last-read : (left bytes : List ℕ) (k : ℕ) → Given left bytes room (Last n) → r ≡ taken-as.Count k → AllTaken (length codes) later (read-as.Count k)
-    last-read left bytes k g e = (last-comes left bytes g (taken-as.Count k) (subst (NameTaken (take n room) codes count later) e h), taken-more k e .0)
+    pub last-read : (left bytes : List ℕ) (k : ℕ) → Given left bytes room (Last n) → r ≡ taken-as.Count k → AllTaken a (length codes) later (read-as.Count k)
+    last-read left bytes k g e = (last-comes left bytes g (taken-as.Count k) (subst (NameTaken a (take n room) codes count later) e h), taken-more k e .0)
 
-    pub last-stops : (left bytes : List ℕ) (q : ℕ) → Given left bytes room (Last n) → r ≡ taken-as.Refused q → AllTaken (length codes) later (read-as.Stopped q)
-    last-stops left bytes q g e = (_, last-comes left bytes g (taken-as.Refused q) (subst (NameTaken (take n room) codes count later) e h))
+    pub last-stops : (left bytes : List ℕ) (q : ℕ) → Given left bytes room (Last n) → r ≡ taken-as.Refused q → AllTaken a (length codes) later (read-as.Stopped q)
+    last-stops left bytes q g e = (_, last-comes left bytes g (taken-as.Refused q) (subst (NameTaken a (take n room) codes count later) e h))
 
 -- ---- names printed part by part
 
@@ -162,30 +170,121 @@ module _ (codes out later : List ℕ) (from end : ℕ) (r : NamesPart) (h : from
   pub part-some : 17 ≤ length out → 0 < r .count
   part-some k = names-some (take (length codes - from) (drop from codes)) out later r q (omega (arith, ap length part, length-drop from codes)) k
 
-  pub part-written : (printed : List ℕ) → printed ++ take end out ≡ namesOf (take from codes) → (p : List ℕ) × (p ++ take (r .end) later ≡ namesOf (take (from + r .count) codes))
-  part-written printed e = (
-    printed ++ take end out,
-    ap₂ (λ (x y : List ℕ). x ++ y) e (put-taken (q .put) (q .within) ∙ ap (λ (l : List ℕ). namesOf (take (r .count) l)) part)
-        ∙ sym (ap namesOf (take-add from (r .count) codes) ∙ names-append (take from codes) (take (r .count) (drop from codes))),
-  )
+  -- what stands in front then
+  pub part-written : take (r .end) later ≡ namesOf (take (r .count) (drop from codes))
+  part-written = put-taken (q .put) (q .within) ∙ ap (λ (l : List ℕ). namesOf (take (r .count) l)) part
+
+  -- all that is left of them where the room has 17 bytes for each
+  pub part-all : 17 * length codes ≤ length out → from + r .count ≡ length codes
+  part-all k =
+      let l : length (take (length codes - from) (drop from codes)) ≡ length codes - from = ap length part ∙ length-drop from codes in
+      let a = names-all (take (length codes - from) (drop from codes)) out later r q (omega arith) in
+      omega (arith, a)
+
+-- ---- a name asked for
+
+-- a name's refusal has no place
+chain : (a b c : Bool) (t : List ℕ) → placeWith (refuse a 2 otherwise refuse b 1 otherwise refuse c 3) t ≡ 0
+unfolding _otherwise_
+chain true b c t = refl
+chain false true c t = refl
+chain false false true t = refl
+chain false false false t = refl
+
+name-place : (name t : List ℕ) → placeWith (nameRefusal name) t ≡ 0
+unfolding nameRefusal
+name-place name t = chain (ltb 16 (length name)) (not (firstLetter name)) (not (allDigits (drop 1 name))) t
+
+pub name-stops : (t name : List ℕ) (a : Arrangement) {x : Coded} (r : ℕ) → x ≡ coded (nameRefusal name) (nameCode a name) → x ≡ coded-as.Refused r → Refused r 0 ≡ askedName t name
+unfolding askedName asked
+name-stops t name a r e f = let k = as-refusal (nameRefusal name) (nameCode a name) r (sym e ∙ f) in go r (k .0) (k .1)
+  where
+    go : (q : ℕ) → nameRefusal name ≡ q → (q ≡ 0 → ⊥) → Refused q 0 ≡ askedName t name
+    go zero i j = absurd (j refl)
+    go (suc q) i j =
+        ap (Refused (suc q)) (sym (name-place name t) ∙ ap (λ (y : ℕ). placeWith y t) i)
+        ∙ sym (ap (λ (y : ℕ). asked y t (nameCode (textArrangement t) name)) (stops (nameRefusal name) (textRefusal t) (λ z. j (sym i ∙ z)) ∙ i))
+
+module _ (t name : List ℕ) (a : Arrangement) (o : Own t a) (e : nameRefusal name ≡ 0) where
+  abbrev code : ℕ
+  code = nameCode a name
+
+  is-code : isCode code ≡ true
+  is-code = name-code-is name (o .arranged) (accepted name e)
+
+  -- the code of a name is of the arrangement that the name was read in
+  named-in : isOf a code ≡ true
+  named-in =
+      arrangement-of a code (
+      ap arrangementOf (ap (nameCode a) (sym (code-name name (o .arranged) (accepted name e))) ∙ name-code a (cellOf code))
+      ∙ arrangement-code (o .arranged) (cellOf code) (code-is-cell code is-code)
+      )
+
+  own-asked : asked (askRefusal t code) t code ≡ askedName t name
+  unfolding askedName askRefusal asked
+  own-asked = go (textRefusal t) refl
+    where
+      go : (q : ℕ) → textRefusal t ≡ q → asked (askRefusal t code) t code ≡ askedName t name
+      go zero i =
+          let own = o .own i in
+          ap (λ (y : ℕ). asked y t code)
+          (passes _ (code-passes code is-code) ∙ passes _ i ∙ ap (λ (b : Arrangement). refuse (not (isOf b code)) 14) (sym own) ∙ ap (λ (b : Bool). refuse (not b) 14) named-in)
+          ∙ ap (λ (b : Arrangement). asked 0 t (nameCode b name)) own
+          ∙ sym (ap (λ (y : ℕ). asked y t (nameCode (textArrangement t) name)) (passes _ e ∙ i))
+      go (suc q) i =
+          ap (λ (y : ℕ). asked y t code) (passes _ (code-passes code is-code) ∙ stops (textRefusal t) _ (λ z. omega arith) ∙ i)
+          ∙ sym (ap (λ (y : ℕ). asked y t (nameCode (textArrangement t) name)) (passes _ e ∙ i))
+
+pub name-asked :
+    (t name : List ℕ) (a : Arrangement) (c : ℕ) {x : Coded} → Own t a → x ≡ coded (nameRefusal name) (nameCode a name) → x ≡ coded-as.Code c →
+    asked (askRefusal t c) t c ≡ askedName t name
+name-asked t name a c o e f =
+    let k = as-code (nameRefusal name) (nameCode a name) c (sym e ∙ f) in
+    ap (λ (y : ℕ). asked (askRefusal t y) t y) (sym (k .1)) ∙ own-asked t name a o (k .0)
 
 -- ---- what is handed on
 
-listed-as : (q : ℕ) (t : List ℕ) (n : ℕ) → listed q t ≡ Count n → (q ≡ 0) × (length (codesOf t) ≡ n)
+listed-as : (q : ℕ) (t : List ℕ) (n : ℕ) → listed q t ≡ listed-by.Count n → (q ≡ 0) × (length (codesOf t) ≡ n)
 unfolding listed
 listed-as zero t n e = (refl, (cc))
 listed-as (suc q) t n e = let z : _≡_ {A = ℕ} 0 1 = cc in absurd (omega arith)
 
--- the codes listed have their room
-pub listed-fits : (t : List ℕ) (room n : ℕ) {r : Listed} → r ≡ listed (listingRefusal t room) t → r ≡ Count n → n ≤ room
-unfolding listingRefusal
-listed-fits t room n e f =
-    let k = listed-as (listingRefusal t room) t n (sym e ∙ f) in
-    let l : length (codesOf t) ≤ room = ltb-false room (length (codesOf t)) (allowed 7 _ (both (textRefusal t) _ (k .0) .1)) in
-    omega (arith, k .1)
+not-listed : (q : ℕ) (t : List ℕ) (r p : ℕ) → listed q t ≡ listed-by.Refused r p → (q ≡ r) × (r ≡ 0 → ⊥)
+unfolding listed
+not-listed zero t r p e = let z : _≡_ {A = ℕ} 0 1 = cc in absurd (omega arith)
+not-listed (suc q) t r p e = let k : suc q ≡ r = cc in (k, λ z. omega arith)
 
-pub read-fits : (room : ℕ) (codes : List ℕ) (n : ℕ) {r : NamesRead} → AllTaken room codes r → r ≡ read-as.Count n → n ≤ length codes
-read-fits room codes n h e = (subst (AllTaken room codes) e h) .1
+module _ (t codes : List ℕ) {r : Listed} (e : r ≡ listed (listingRefusal t (length codes)) t) where
+  -- the codes listed have their room
+  pub listed-fits : (n : ℕ) → r ≡ listed-by.Count n → n ≤ length codes
+  unfolding listingRefusal
+  listed-fits n f =
+      let k = listed-as (listingRefusal t (length codes)) t n (sym e ∙ f) in
+      let l : length (codesOf t) ≤ length codes = ltb-false (length codes) (length (codesOf t)) (allowed 7 _ (both (textRefusal t) _ (k .0) .1)) in
+      omega (arith, k .1)
+
+  pub list-written :
+      (n : ℕ) (later out : List ℕ) (waiting : ℕ) → r ≡ listed-by.Count n → later ≡ given (listingRefusal t (length codes)) (codesIn t codes) codes → NamesWritten (take n later) out waiting →
+      ListWritten (listingRefusal t (length codes)) t out waiting
+  unfolding given codesIn
+  list-written n later out waiting f g w =
+      let k = listed-as (listingRefusal t (length codes)) t n (sym e ∙ f) in
+      let taken : take n later ≡ codesOf t =
+      ap (take n) (g ∙ ap (λ (q : ℕ). given q (codesIn t codes) codes) (k .0)) ∙ take-at (codesOf t) (drop (length (codesOf t)) codes) n (k .1) in
+      subst (λ (q : ℕ). ListWritten q t out waiting) (sym (k .0)) (subst (λ (l : List ℕ). NamesWritten l out waiting) taken w)
+
+  pub list-refused :
+      (q p : ℕ) {out later : List ℕ} {end : ℕ} → r ≡ listed-by.Refused q p → Put 0 (numberLine q) out later end → end ≤ length out → ListWritten (listingRefusal t (length codes)) t later end
+  list-refused q p {later = later} {end} f w h =
+      let k = not-listed (listingRefusal t (length codes)) t q p (sym e ∙ f) in
+      subst (λ (x : ℕ). ListWritten x t later end) (sym (k .0)) (line q (k .1) (put-taken w h))
+    where
+      line : (x : ℕ) → (x ≡ 0 → ⊥) → take end later ≡ numberLine x → ListWritten x t later end
+      line zero n z = absurd (n refl)
+      line (suc x) n z = z
+
+pub read-fits : (a : Arrangement) (room : ℕ) (codes : List ℕ) (n : ℕ) {r : NamesRead} → AllTaken a room codes r → r ≡ read-as.Count n → n ≤ length codes
+read-fits a room codes n h e = (subst (AllTaken a room codes) e h) .1
 
 pub text-length : (a : Arrangement) (codes : List ℕ) (room : ℕ) (text : List ℕ) (n : ℕ) {r : Text} → TextWritten a codes room text r → r ≡ Length n → n ≤ length text
 text-length a codes room text n h e = (subst (TextWritten a codes room text) e h) .1

@@ -5,6 +5,7 @@ use Prim.Native.Nat.{ℕ, zero, suc, _≤_}
 use lib.Dec.{leb}
 use lib.ListN.{length, take}
 use Rattle.logic.specs.Refusal.{refuse, _otherwise_}
+use Rattle.cell.specs.declared.Arrangement.{Arrangement}
 use Rattle.decimal.specs.Decimal.{trimmed}
 use Rattle.name.specs.Name.{nameRefusal, nameCode}
 use Rattle.lines.specs.Fold.{OfBytes}
@@ -26,19 +27,19 @@ abbrev pub namedOr : (refusal : ℕ) (codes : List ℕ) (code : ℕ) → Names
 namedOr zero codes code = read (codes ++ (code ∷ []))
 namedOr (suc r) codes code = stopped (suc (length codes)) (suc r)
 
--- after one more line
-abbrev pub withName : (room : ℕ) → Names → (line : List ℕ) → Names
-withName room (read codes) line = namedOr (lineRefusal room codes line) codes (nameCode (trimmed line))
-withName room (stopped n r) line = stopped n r
+-- after one more line, in an arrangement
+abbrev pub withName : Arrangement → (room : ℕ) → Names → (line : List ℕ) → Names
+withName a room (read codes) line = namedOr (lineRefusal room codes line) codes (nameCode a (trimmed line))
+withName a room (stopped n r) line = stopped n r
 
 -- one line: its code stands behind the others, or this is its refusal
-abbrev pub NameTaken : (line codes : List ℕ) (count : ℕ) (later : List ℕ) → Taken → Type 0
-NameTaken line codes count later (taken-as.Count n) =
-    (lineRefusal (length codes) (take count codes) line ≡ 0) × (take n later ≡ take count codes ++ (nameCode (trimmed line) ∷ [])) × (n ≤ length later) × (suc count ≤ n)
-NameTaken line codes count later (taken-as.Refused r) = (lineRefusal (length codes) (take count codes) line ≡ r) × (r ≡ 0 → ⊥)
+abbrev pub NameTaken : Arrangement → (line codes : List ℕ) (count : ℕ) (later : List ℕ) → Taken → Type 0
+NameTaken a line codes count later (taken-as.Count n) =
+    (lineRefusal (length codes) (take count codes) line ≡ 0) × (take n later ≡ take count codes ++ (nameCode a (trimmed line) ∷ [])) × (n ≤ length later) × (suc count ≤ n)
+NameTaken a line codes count later (taken-as.Refused r) = (lineRefusal (length codes) (take count codes) line ≡ r) × (r ≡ 0 → ⊥)
 
 -- what the lines of some bytes come to: the codes of all names, in their order, or the refusal of the first line that stops
-abbrev pub AllTaken : (room : ℕ) (codes : List ℕ) → NamesRead → Type 0
-AllTaken room codes (read-as.Count n) = OfBytes (withName room) (read []) (read (take n codes)) × (n ≤ length codes)
-AllTaken room codes (read-as.Stopped r) = (line : ℕ) × OfBytes (withName room) (read []) (stopped line r)
-AllTaken room codes read-as.Failed = Unit {0}
+abbrev pub AllTaken : Arrangement → (room : ℕ) (codes : List ℕ) → NamesRead → Type 0
+AllTaken a room codes (read-as.Count n) = OfBytes (withName a room) (read []) (read (take n codes)) × (n ≤ length codes)
+AllTaken a room codes (read-as.Stopped r) = (line : ℕ) × OfBytes (withName a room) (read []) (stopped line r)
+AllTaken a room codes read-as.Failed = Unit {0}

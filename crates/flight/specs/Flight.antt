@@ -13,10 +13,10 @@ use Rattle.decimal.specs.Decimal.{fixIn}
 use Rattle.flight.specs.declared.Setting.{Setting}
 use Rattle.flight.specs.Setting.{settingRefusal}
 
--- the code of the cell of a fix, or the refusal
+-- the code of the cell of a fix, in the setting's arrangement, or the refusal
 unfoldable pub fixCoded : Setting → (longitude z : ℤ) → Coded
 fixCoded s longitude z =
-    coded (fixRefusal (s .arrangement) (s .resolution) longitude z) (codeOf (fixCell (s .arrangement) (s .resolution) longitude z))
+    coded (fixRefusal (s .arrangement) (s .resolution) longitude z) (codeOf (s .arrangement) (fixCell (s .arrangement) (s .resolution) longitude z))
 
 -- a line that is no fix is refused as one out of range, and like that one after 5 and 2
 unfoldable pub noFix : Setting → Coded

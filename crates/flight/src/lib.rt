@@ -47,7 +47,8 @@ pub fn line_code(setting: Setting, line: &[u8]) -> Coded
     let FixLine::Fix(longitude, z) = decimal::fix_in(line) else {
         return no_fix(setting);
     };
-    code::found_code(locate::locate(setting.arrangement, setting.resolution, longitude, z)) // `locate` tests the setting
+    let found = locate::locate(setting.arrangement, setting.resolution, longitude, z); // this tests the setting
+    code::found_code(setting.arrangement, found)
 }
 
 // How many codes the memory holds after a line; or it has no room for the line's cell; or the line is refused.

@@ -1,19 +1,20 @@
 -- How the entries' answers follow from those of the crates below. Assumes nothing.
-use mathlib.Core.Path.{_≡_, refl, sym, ap, _∙_, subst}
+use mathlib.Core.Path.{_≡_, refl, sym, ap, ap₂, _∙_, subst}
 use Prim.Native.Nat.{ℕ, zero, suc}
 use native.Mathlib.Omega.{arith}
 use Rattle.logic.specs.Refusal.{_otherwise_, given}
-use Rattle.logic.specs.Laws.Refusal.{passes, both, given-value, given-none}
+use Rattle.logic.specs.Laws.Refusal.{passes, given-value, given-none}
 use Rattle.cell.specs.declared.Cell.{Cell}
 use Rattle.cell.specs.declared.Found.{Found}
 use Rattle.cell.specs.declared.Found.the-variants as found-as
 use Rattle.cell.specs.declared.Arrangement.{Arrangement}
-use Rattle.cell.specs.Cell.{IsCell, IsArrangement, found}
-use Rattle.cell.specs.Laws.Cell.{is-arrangement}
-use Rattle.cell.specs.Laws.Found.{found-at, found-refused}
-use Rattle.code.specs.Code.{codeOf, cellOf, coded, foundCode}
-use Rattle.code.specs.Laws.Code.{a-code, code-is-cell, found-coded}
-use Rattle.jeguarivo.specs.Entries.{codeAnswer, codedAnswer, arrangement, placedRefusal, placedAnswer}
+use Rattle.cell.specs.Cell.{IsCell, IsArrangement, cellRefusal, found}
+use Rattle.cell.specs.Laws.Cell.{cell-is}
+use Rattle.cell.specs.Laws.Found.{found-refused}
+use Rattle.code.specs.Code.{codeOf, cellOf, arrangementOf, codeRefusal, coded, foundCode}
+use Rattle.code.specs.Laws.Code.{code-arranged, found-coded}
+use Rattle.code.specs.Laws.Decoded.{Decoded, decoded}
+use Rattle.jeguarivo.specs.Entries.{codeAnswer, codedAnswer, placedAnswer}
 
 -- ---- codes as answers
 
@@ -24,9 +25,9 @@ code-refused {r = zero} code e h = absurd (h refl)
 code-refused {r = suc r} code e h = ap (λ (x : ℕ). codeAnswer x code) e
 
 -- the code of a found cell
-pub found-code : (r : ℕ) (c : Cell) → codedAnswer (foundCode (found r c)) ≡ codeAnswer r (codeOf c)
+pub found-code : (a : Arrangement) (r : ℕ) (c : Cell) → codedAnswer (foundCode a (found r c)) ≡ codeAnswer r (codeOf a c)
 unfolding codeAnswer
-found-code r c = ap codedAnswer (found-coded r c)
+found-code a r c = ap codedAnswer (found-coded a r c)
 
 -- 4, whatever would come next
 pub four-first : {r : ℕ} (q : ℕ) → r ≡ 4 → 4 ≡ r otherwise q
@@ -44,27 +45,24 @@ value-given {y = y} none e h = h ∙ sym (given-value y none e)
 pub zero-given {ℓ} : {A : Type ℓ} {r : ℕ} (y none : A) → r ≡ 4 → none ≡ given r y none
 zero-given {r = r} y none e = sym (given-none r y none (λ z. omega arith))
 
--- ---- answers in an arrangement: 5, 4, or the value
+-- the cell of a code is one, so what comes next decides
+pub cell-next : {code : ℕ} {x : Cell} → Decoded code x → (q : ℕ) → codeRefusal code otherwise cellRefusal (cellOf code) otherwise q ≡ q
+cell-next d q = passes _ (d .allowed) ∙ passes q (cell-is (subst IsCell (d .is) (d .cell)))
 
--- what a found cell says
-module _ (n s code : ℕ) {f : Found} (e : f ≡ found (placedRefusal (arrangement n s) code) (cellOf code)) where
-  pub placed-stands : {x : Cell} → f ≡ found-as.At x → IsArrangement (arrangement n s) × IsCell x
-  unfolding placedRefusal
-  placed-stands {x} h =
-      let p = found-at (placedRefusal (arrangement n s) code) (cellOf code) x (sym h ∙ e) in
-      let q = both _ _ (p .0) in
-      (is-arrangement (q .0), subst IsCell (sym (p .1)) (code-is-cell code (a-code code (q .1))))
+-- ---- what is told of a code's cell: 4, or the value
 
-  pub placed-value {ℓ} : {A : Type ℓ} (value : Arrangement → Cell → A) (none : ℕ → A) {x : Cell} {y : A} → f ≡ found-as.At x → y ≡ value (arrangement n s) x →
-      y ≡ placedAnswer n s code value none
-  unfolding placedAnswer
-  placed-value of none {x} h v =
-      let p = found-at (placedRefusal (arrangement n s) code) (cellOf code) x (sym h ∙ e) in
-      value-given (none (placedRefusal (arrangement n s) code)) (p .0) (v ∙ ap (of (arrangement n s)) (p .1))
+module _ (code : ℕ) {f : Found} (e : f ≡ found (codeRefusal code) (cellOf code)) where
+  module _ {x : Cell} {a : Arrangement} (h : f ≡ found-as.At x) (g : a ≡ arrangementOf code) where
+    pub placed-stands : IsArrangement a × IsCell x
+    placed-stands = (subst IsArrangement (sym g) (code-arranged code), decoded code e h .cell)
 
-  pub placed-none {ℓ} : {A : Type ℓ} (value : Arrangement → Cell → A) (none : ℕ → A) {q : ℕ} → f ≡ found-as.Refused q → none q ≡ placedAnswer n s code value none
+    pub placed-value {ℓ} : {A : Type ℓ} (value : Arrangement → Cell → A) (none : ℕ → A) {y : A} → y ≡ value a x → y ≡ placedAnswer code value none
+    unfolding placedAnswer
+    placed-value of none v = let d = decoded code e h in value-given (none (codeRefusal code)) (d .allowed) (v ∙ ap₂ of g (d .is))
+
+  pub placed-none {ℓ} : {A : Type ℓ} (value : Arrangement → Cell → A) (none : ℕ → A) {q : ℕ} → f ≡ found-as.Refused q → none q ≡ placedAnswer code value none
   unfolding placedAnswer
   placed-none of none {q} h =
-      let r = placedRefusal (arrangement n s) code in
+      let r = codeRefusal code in
       let p = found-refused r (cellOf code) q (sym h ∙ e) in
-      ap none (p .0) ∙ sym (given-none r (of (arrangement n s) (cellOf code)) (none r) (p .1))
+      ap none (p .0) ∙ sym (given-none r (of (arrangementOf code) (cellOf code)) (none r) (p .1))

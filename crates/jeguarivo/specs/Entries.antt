@@ -9,13 +9,15 @@ use Rattle.logic.specs.Refusal.{refuse, _otherwise_, given}
 use Rattle.cell.specs.declared.Cell.{Cell}
 use Rattle.cell.specs.declared.Arrangement.{Arrangement}
 use Rattle.cell.specs.declared.Found.{Found}
-use Rattle.cell.specs.Cell.{cellRefusal, arrangementRefusal, found, cellIn, refusalIn as cellRefusalIn}
+use Rattle.cell.specs.declared.Found.the-variants as found-as
+use Rattle.cell.specs.Cell.{cellRefusal, arrangementRefusal, found}
 use Rattle.cell.specs.Hierarchy.{parentOf, parentRefusal, childOf, childRefusal}
 use Rattle.cell.specs.Neighbour.{neighbourOf}
 use Rattle.code.specs.declared.Coded.{Coded}
-use Rattle.code.specs.Code.{codeOf, cellOf, codeRefusal, sizeOf, coded, refusalIn, codeIn}
+use Rattle.code.specs.Code.{codeOf, cellOf, arrangementOf, codeRefusal, sizeOf, coded, refusalIn, codeIn}
 use Rattle.name.specs.declared.Named.{Named}
-use Rattle.name.specs.Name.{nameRefusal, nameCode, nameOf, codeNameRefusal, named, lengthIn, refusalIn as nameRefusalIn}
+use Rattle.name.specs.declared.Named.the-variants as named-as
+use Rattle.name.specs.Name.{nameRefusal, nameCode, nameOf, codeNameRefusal, named}
 use Rattle.plane.specs.declared.Square.{Square}
 use Rattle.plane.specs.declared.Point.{Point}
 use Rattle.plane.specs.declared.Vertices.{Vertices}
@@ -26,7 +28,7 @@ use Rattle.nucleus.specs.Nucleus.{groundNucleus}
 use Rattle.shape.specs.Shape.{shapeOf, shapeNumber, cornersOf}
 use Rattle.jeguarivo.specs.declared.CodeAnswer.{CodeAnswer}
 use Rattle.jeguarivo.specs.declared.CellAnswer.{CellAnswer}
-use Rattle.jeguarivo.specs.declared.LengthAnswer.{LengthAnswer}
+use Rattle.jeguarivo.specs.declared.NameAnswer.{NameAnswer}
 use Rattle.jeguarivo.specs.declared.SizeAnswer.{SizeAnswer}
 use Rattle.jeguarivo.specs.declared.ShapeAnswer.{ShapeAnswer}
 use Rattle.jeguarivo.specs.declared.CountAnswer.{CountAnswer}
@@ -54,55 +56,52 @@ codedAnswer coded = record { refusal = refusalIn coded; code = codeIn coded }
 unfoldable pub codeAnswer : (refusal code : ℕ) → CodeAnswer
 codeAnswer refusal code = codedAnswer (coded refusal code)
 
-unfoldable pub cellCode : (face resolution row column : ℕ) → CodeAnswer
-cellCode face resolution row column = codeAnswer (cellRefusal (cell face resolution row column)) (codeOf (cell face resolution row column))
+unfoldable pub codeOfCell : (n s face resolution row column : ℕ) → CodeAnswer
+codeOfCell n s face resolution row column =
+    codeAnswer (arrangementRefusal (arrangement n s) otherwise cellRefusal (cell face resolution row column)) (codeOf (arrangement n s) (cell face resolution row column))
 
-unfoldable pub nameAnswer : List ℕ → CodeAnswer
-nameAnswer name = codeAnswer (nameRefusal name) (nameCode name)
+unfoldable pub nameAnswer : (n s : ℕ) → List ℕ → CodeAnswer
+nameAnswer n s name = codeAnswer (arrangementRefusal (arrangement n s) otherwise nameRefusal name) (nameCode (arrangement n s) name)
 
+-- the parent, a child and a neighbour of a code's cell are of the code's arrangement
 unfoldable pub parentCode : ℕ → CodeAnswer
-parentCode code = codeAnswer (codeRefusal code otherwise parentRefusal (cellOf code)) (codeOf (parentOf (cellOf code)))
+parentCode code = codeAnswer (codeRefusal code otherwise parentRefusal (cellOf code)) (codeOf (arrangementOf code) (parentOf (cellOf code)))
 
 unfoldable pub childCode : (code digit : ℕ) → CodeAnswer
 childCode code digit =
-    codeAnswer (refuse (ltb 8 digit) 3 otherwise codeRefusal code otherwise childRefusal (cellOf code) digit) (codeOf (childOf (cellOf code) digit))
+    codeAnswer (refuse (ltb 8 digit) 3 otherwise codeRefusal code otherwise childRefusal (cellOf code) digit) (codeOf (arrangementOf code) (childOf (cellOf code) digit))
+
+unfoldable pub neighbourCode : (code direction : ℕ) → CodeAnswer
+neighbourCode code direction =
+    codeAnswer (refuse (ltb 3 direction) 3 otherwise codeRefusal code) (codeOf (arrangementOf code) (neighbourOf (arrangementOf code) (cellOf code) direction))
 
 unfoldable pub pointCode : (n s resolution : ℕ) (x y : ℤ) → CodeAnswer
-pointCode n s resolution x y = codeAnswer (pointRefusal (arrangement n s) resolution x y) (codeOf (pointCell (arrangement n s) resolution x y))
+pointCode n s resolution x y =
+    codeAnswer (pointRefusal (arrangement n s) resolution x y) (codeOf (arrangement n s) (pointCell (arrangement n s) resolution x y))
 
 unfoldable pub fixCode : (n s resolution : ℕ) (longitude z : ℤ) → CodeAnswer
-fixCode n s resolution longitude z = codeAnswer (fixRefusal (arrangement n s) resolution longitude z) (codeOf (fixCell (arrangement n s) resolution longitude z))
-
-unfoldable pub neighbourCode : (n s code direction : ℕ) → CodeAnswer
-neighbourCode n s code direction =
-    codeAnswer (arrangementRefusal (arrangement n s) otherwise refuse (ltb 3 direction) 3 otherwise codeRefusal code)
-    (codeOf (neighbourOf (arrangement n s) (cellOf code) direction))
+fixCode n s resolution longitude z =
+    codeAnswer (fixRefusal (arrangement n s) resolution longitude z) (codeOf (arrangement n s) (fixCell (arrangement n s) resolution longitude z))
 
 -- ---- other answers
 
--- a cell, or its refusal, as numbers
-abbrev pub foundAnswer : Found → CellAnswer
-foundAnswer found =
-    record {
-      refusal = cellRefusalIn found;
-      face = cellIn found .face;
-      resolution = cellIn found .resolution;
-      row = cellIn found .row;
-      column = cellIn found .column;
-    }
+-- an arrangement and a cell, or the refusal, as numbers
+abbrev pub cellNumbers : Arrangement → Found → CellAnswer
+cellNumbers a (found-as.At c) =
+    record { refusal = 0; n = a .north; s = a .south; face = c .face; resolution = c .resolution; row = c .row; column = c .column }
+cellNumbers a (found-as.Refused refusal) =
+    record { refusal = refusal; n = 0; s = 0; face = 0; resolution = 0; row = 0; column = 0 }
 
 unfoldable pub codeCell : ℕ → CellAnswer
-codeCell code = foundAnswer (found (codeRefusal code) (cellOf code))
+codeCell code = cellNumbers (arrangementOf code) (found (codeRefusal code) (cellOf code))
 
--- a length, or its refusal, as numbers
-abbrev pub namedAnswer : Named → LengthAnswer
-namedAnswer named = record { refusal = nameRefusalIn named; length = lengthIn named }
+-- an arrangement and the length of a name, or the refusal, as numbers
+abbrev pub nameNumbers : Arrangement → Named → NameAnswer
+nameNumbers a (named-as.Length length) = record { refusal = 0; n = a .north; s = a .south; length = length }
+nameNumbers a (named-as.Refused refusal) = record { refusal = refusal; n = 0; s = 0; length = 0 }
 
-unfoldable pub lengthAnswer : (refusal length : ℕ) → LengthAnswer
-lengthAnswer refusal length = record { refusal = refusal; length = orZero refusal length }
-
-unfoldable pub writtenName : (code room : ℕ) → LengthAnswer
-writtenName code room = namedAnswer (named (codeNameRefusal code room) (length (nameOf (cellOf code))))
+unfoldable pub writtenName : (code room : ℕ) → NameAnswer
+writtenName code room = nameNumbers (arrangementOf code) (named (codeNameRefusal code room) (length (nameOf (cellOf code))))
 
 unfoldable pub cellSize : ℕ → SizeAnswer
 cellSize code = record { refusal = codeRefusal code; size = orZero (codeRefusal code) (sizeOf (cellOf code)) }
@@ -116,14 +115,9 @@ cornerCount code = record { refusal = codeRefusal code; count = orZero (codeRefu
 
 -- ---- the plane
 
--- 5 before 4
-unfoldable pub placedRefusal : Arrangement → (code : ℕ) → ℕ
-placedRefusal a code = arrangementRefusal a otherwise codeRefusal code
-
--- what an arrangement and a cell give, or the refusal and zeros
-unfoldable pub placedAnswer {ℓ} : {A : Type ℓ} (n s code : ℕ) → (Arrangement → Cell → A) → (ℕ → A) → A
-placedAnswer n s code value none =
-    given (placedRefusal (arrangement n s) code) (value (arrangement n s) (cellOf code)) (none (placedRefusal (arrangement n s) code))
+-- what a code's arrangement and cell give, or the refusal and zeros
+unfoldable pub placedAnswer {ℓ} : {A : Type ℓ} (code : ℕ) → (Arrangement → Cell → A) → (ℕ → A) → A
+placedAnswer code value none = given (codeRefusal code) (value (arrangementOf code) (cellOf code)) (none (codeRefusal code))
 
 abbrev pub noSquare : ℕ → SquareAnswer
 noSquare refusal = record { refusal = refusal; left = pos 0; top = pos 0; side = pos 0 }
@@ -131,8 +125,8 @@ noSquare refusal = record { refusal = refusal; left = pos 0; top = pos 0; side =
 abbrev pub aSquare : Square → SquareAnswer
 aSquare square = record { refusal = 0; left = square .left; top = square .top; side = square .side }
 
-unfoldable pub cellSquare : (n s code : ℕ) → SquareAnswer
-cellSquare n s code = placedAnswer n s code (λ a c. aSquare (squareOf a c)) noSquare
+unfoldable pub cellSquare : ℕ → SquareAnswer
+cellSquare code = placedAnswer code (λ a c. aSquare (squareOf a c)) noSquare
 
 abbrev pub noPoint : ℕ → PointAnswer
 noPoint refusal = record { refusal = refusal; x = pos 0; y = pos 0 }
@@ -140,8 +134,8 @@ noPoint refusal = record { refusal = refusal; x = pos 0; y = pos 0 }
 abbrev pub aPoint : Point → PointAnswer
 aPoint point = record { refusal = 0; x = point .x; y = point .y }
 
-unfoldable pub cellNucleus : (n s code : ℕ) → PointAnswer
-cellNucleus n s code = placedAnswer n s code (λ a c. aPoint (nucleusOf a c)) noPoint
+unfoldable pub cellNucleus : ℕ → PointAnswer
+cellNucleus code = placedAnswer code (λ a c. aPoint (nucleusOf a c)) noPoint
 
 abbrev pub noVertices : ℕ → VerticesAnswer
 noVertices refusal = record { refusal = refusal; x = pos 0 ∷ pos 0 ∷ pos 0 ∷ pos 0 ∷ []; y = pos 0 ∷ pos 0 ∷ pos 0 ∷ pos 0 ∷ [] }
@@ -149,8 +143,8 @@ noVertices refusal = record { refusal = refusal; x = pos 0 ∷ pos 0 ∷ pos 0 �
 abbrev pub theVertices : Vertices → VerticesAnswer
 theVertices vertices = record { refusal = 0; x = vertices .x; y = vertices .y }
 
-unfoldable pub cellVertices : (n s code : ℕ) → VerticesAnswer
-cellVertices n s code = placedAnswer n s code (λ a c. theVertices (verticesOf a c)) noVertices
+unfoldable pub cellVertices : ℕ → VerticesAnswer
+cellVertices code = placedAnswer code (λ a c. theVertices (verticesOf a c)) noVertices
 
 -- ---- the ground
 
@@ -160,5 +154,5 @@ noFix refusal = record { refusal = refusal; longitude = pos 0; z = pos 0 }
 abbrev pub aFix : Fix → FixAnswer
 aFix fix = record { refusal = 0; longitude = fix .longitude; z = fix .z }
 
-unfoldable pub groundFix : (n s code : ℕ) → FixAnswer
-groundFix n s code = placedAnswer n s code (λ a c. aFix (groundNucleus a c)) noFix
+unfoldable pub groundFix : ℕ → FixAnswer
+groundFix code = placedAnswer code (λ a c. aFix (groundNucleus a c)) noFix

@@ -9,7 +9,7 @@ use lib.Signed.{_≤ℤ_, _<ℤ_}
 use lib.ListN.{length, drop, take}
 use Rattle.logic.specs.Lists.{Any}
 use Rattle.logic.specs.Rise.{Rise}
-use Rattle.code.specs.Code.{cellOf}
+use Rattle.code.specs.Code.{cellOf, arrangementOf}
 use Rattle.code.specs.Laws.Exact.{NoCell}
 use Rattle.name.specs.Name.{nameOf}
 use Rattle.plane.specs.Plane.{faceSide, half, threeHalves}
@@ -18,7 +18,7 @@ use Rattle.reading.specs.Ground.{Apart}
 use Rattle.reading.specs.Text.{heading, Accepted}
 use Rattle.reader.specs.Check.{WrongVersion}
 use Rattle.listing.specs.List.{codesOf}
-use Rattle.writing.specs.Write.{textOf}
+use Rattle.writing.specs.Write.{Another, textOf}
 use Rattle.jeguarivo.specs.Entries.{arrangement}
 use Rattle.jeguarivo.specs.Order.{Chain}
 
@@ -66,12 +66,12 @@ textTests t = (13, 65536 < length t) ∷ (10, WrongVersion t) ∷ (9, Accepted t
 -- ---- the entries
 
 -- 2: "resolution above 15". 1: "face above 5". 3: "row or column not below 3^k"
-abbrev pub cellTests : (face resolution row column : ℕ) → Chain
-cellTests f k i j = (2, 15 < k) ∷ (1, 5 < f) ∷ (3, (3 ^ k ≤ i) ⊎ (3 ^ k ≤ j)) ∷ []
+abbrev pub cellTests : (n s face resolution row column : ℕ) → Chain
+cellTests n s f k i j = (5, (3 < n) ⊎ (3 < s)) ∷ (2, 15 < k) ∷ (1, 5 < f) ∷ (3, (3 ^ k ≤ i) ⊎ (3 ^ k ≤ j)) ∷ []
 
 -- 2: "name over 16 bytes"
-abbrev pub nameTests : List ℕ → Chain
-nameTests bs = (2, 16 < length bs) ∷ (1, NoLetter bs) ∷ (3, Any NoDigit (drop 1 bs)) ∷ []
+abbrev pub nameTests : (n s : ℕ) → List ℕ → Chain
+nameTests n s bs = (5, (3 < n) ⊎ (3 < s)) ∷ (2, 16 < length bs) ∷ (1, NoLetter bs) ∷ (3, Any NoDigit (drop 1 bs)) ∷ []
 
 -- 8: "lent buffer shorter than the answer"
 abbrev pub codeNameTests : (code room : ℕ) → Chain
@@ -91,26 +91,26 @@ abbrev pub fixTests : (n s resolution : ℕ) (L z : ℤ) → Chain
 fixTests n s k L z = (5, (3 < n) ⊎ (3 < s)) ∷ (2, 15 < k) ∷ (6, InRange L z → ⊥) ∷ []
 
 -- 3: "direction above 3"
-abbrev pub neighbourTests : (n s code direction : ℕ) → Chain
-neighbourTests n s code direction = (5, (3 < n) ⊎ (3 < s)) ∷ (3, 3 < direction) ∷ (4, NoCell code) ∷ []
-
--- square, nucleus, vertices and ground nucleus
-abbrev pub placedTests : (n s code : ℕ) → Chain
-placedTests n s code = (5, (3 < n) ⊎ (3 < s)) ∷ (4, NoCell code) ∷ []
+abbrev pub neighbourTests : (code direction : ℕ) → Chain
+neighbourTests code direction = (3, 3 < direction) ∷ (4, NoCell code) ∷ []
 
 abbrev pub listTests : (t : List ℕ) (room : ℕ) → Chain
 listTests t room = (13, 65536 < length t) ∷ (10, WrongVersion t) ∷ (9, Accepted t → ⊥) ∷ (8, room < length (codesOf t)) ∷ []
 
--- 14: "asked arrangement differs from the heading's"
-abbrev pub askTests : (n s : ℕ) (t : List ℕ) (code : ℕ) → Chain
-askTests n s t code =
-    (5, (3 < n) ⊎ (3 < s)) ∷ (4, NoCell code) ∷ (13, 65536 < length t) ∷ (10, WrongVersion t) ∷ (9, Accepted t → ⊥) ∷ (14, take 7 t ≡ heading n s → ⊥) ∷ []
+-- 14: "asked arrangement differs from the heading's", the asked one being the code's (02, W-210)
+abbrev pub headingOf : (code : ℕ) → List ℕ
+headingOf code = heading (arrangementOf code .north) (arrangementOf code .south)
 
--- 11: "list not strictly rising, or one cell inside another". 13: "text longer than 65,536 bytes, .. to be written"
+abbrev pub askTests : (t : List ℕ) (code : ℕ) → Chain
+askTests t code =
+    (4, NoCell code) ∷ (13, 65536 < length t) ∷ (10, WrongVersion t) ∷ (9, Accepted t → ⊥) ∷ (14, take 7 t ≡ headingOf code → ⊥) ∷ []
+
+-- 14: "also for a list .. of another arrangement" (02, W-210). 11: "list not strictly rising, or one cell inside another". 13: "text longer than 65,536 bytes, .. to be written"
 abbrev pub writeTests : (n s : ℕ) (codes : List ℕ) (room : ℕ) → Chain
 writeTests n s codes room =
     (5, (3 < n) ⊎ (3 < s)) ∷
     (4, Any NoCell codes) ∷
+    (14, Another (arrangement n s) codes) ∷
     (11, Rise codes × Apart (map cellOf codes) → ⊥) ∷
     (13, 65536 < length (textOf (arrangement n s) codes)) ∷
     (8, room < length (textOf (arrangement n s) codes)) ∷ []

@@ -4,17 +4,16 @@ ghost use mathlib.Core.Path.{_≡_};
 ghost use mathlib.Core.Bool.{cond};
 ghost use lib.ListN.{length};
 ghost use Rattle.logic.specs.Refusal.{given};
-ghost use Rattle.cell.specs.Cell.{IsCell, cellIn, found};
-ghost use Rattle.code.specs.Code.{cellOf, foundCode};
+ghost use Rattle.cell.specs.Cell.{IsCell};
+ghost use Rattle.code.specs.Code.{codeOf, arrangementOf, Placed, foundCode};
 ghost use Rattle.name.specs.Name.{codeNameRefusal, nameIn};
 ghost use Rattle.reader.specs.Check.{checkedOf};
 ghost use Rattle.listing.specs.List.{listingRefusal, listed, codesIn};
 ghost use Rattle.asking.specs.Ask.{askRefusal, asked};
 ghost use Rattle.jeguarivo.specs.Texts.{checkNumbers, listNumbers, askNumbers, writtenNumbers};
-ghost use Rattle.jeguarivo.specs.Entries.{arrangement};
 ghost use Rattle.writing.specs.Write.{writeRefusal, textOf, textIn, written};
-ghost use Rattle.jeguarivo.specs.Entries.{codedAnswer, cellCode, codeCell, nameAnswer, writtenName, parentCode, childCode, cellSize, cellShape};
-ghost use Rattle.jeguarivo.specs.Entries.{cornerCount, cellSquare, cellNucleus, cellVertices, pointCode, neighbourCode, fixCode, groundFix, placedRefusal};
+ghost use Rattle.jeguarivo.specs.Entries.{arrangement, codedAnswer, codeAnswer, codeOfCell, codeCell, nameAnswer, writtenName, parentCode, childCode};
+ghost use Rattle.jeguarivo.specs.Entries.{cellSize, cellShape, cornerCount, cellSquare, cellNucleus, cellVertices, pointCode, neighbourCode, fixCode, groundFix};
 use asking::Asked;
 use cell::Arrangement;
 use cell::Cell;
@@ -34,10 +33,20 @@ pub struct CodeAnswer {
 #[repr(C)]
 pub struct CellAnswer {
     pub refusal: u64,
+    pub n: u64,
+    pub s: u64,
     pub face: u64,
     pub resolution: u64,
     pub row: u64,
     pub column: u64,
+}
+
+#[repr(C)]
+pub struct NameAnswer {
+    pub refusal: u64,
+    pub n: u64,
+    pub s: u64,
+    pub length: u64,
 }
 
 #[repr(C)]
@@ -127,26 +136,34 @@ fn coded_answer(coded: Coded) -> CodeAnswer
     }
 }
 
-// The code of a cell that was found, or the refusal, as numbers.
-fn found_answer(found: Found) -> CodeAnswer
-    requires { ⌜ IsCell (cellIn found) ⌝ }
-    ensures { λ r. ⌜ r ≡ codedAnswer (foundCode found) ⌝ }
+// The code of a cell that was found in an arrangement, or the refusal, as numbers.
+fn found_answer(arrangement: Arrangement, found: Found) -> CodeAnswer
+    requires { ⌜ Placed arrangement found ⌝ }
+    ensures { λ r. ⌜ r ≡ codedAnswer (foundCode arrangement found) ⌝ }
 {
-    coded_answer(code::found_code(found))
+    coded_answer(code::found_code(arrangement, found))
 }
 
-// 2, 1 or 3 where the numbers are no cell.
+// 5 where n or s is above 3, 2, 1 or 3 where the numbers are no cell.
 #[no_mangle]
-pub extern "C" fn jgv_cell_code(face: u64, resolution: u64, row: u64, column: u64) -> CodeAnswer
-    ensures { λ r. ⌜ r ≡ cellCode face resolution row column ⌝ }
+pub extern "C" fn jgv_cell_code(
+    n: u64,
+    s: u64,
+    face: u64,
+    resolution: u64,
+    row: u64,
+    column: u64,
+) -> CodeAnswer
+    ensures { λ r. ⌜ r ≡ codeOfCell n s face resolution row column ⌝ }
 {
+    let arrangement = Arrangement { north: n, south: s }; // `coded_cell` tests it
     let cell = Cell {
         face,
         resolution,
         row,
         column,
     };
-    coded_answer(code::coded_cell(cell))
+    coded_answer(code::coded_cell(arrangement, cell))
 }
 
 // 4 where the code is no cell's.
@@ -155,15 +172,22 @@ pub extern "C" fn jgv_code_cell(code: u64) -> CellAnswer
     ensures { λ r. ⌜ r ≡ codeCell code ⌝ }
 {
     match code::cell_of(code) {
-        Found::At(cell) => CellAnswer {
-            refusal: 0,
-            face: cell.face,
-            resolution: cell.resolution,
-            row: cell.row,
-            column: cell.column,
-        },
+        Found::At(cell) => {
+            let arrangement = code::arrangement_of(code);
+            CellAnswer {
+                refusal: 0,
+                n: arrangement.north, // read from the code
+                s: arrangement.south, // read from the code
+                face: cell.face,
+                resolution: cell.resolution,
+                row: cell.row,
+                column: cell.column,
+            }
+        }
         Found::Refused(refusal) => CellAnswer {
             refusal,
+            n: 0, // of no arrangement
+            s: 0, // and no s
             face: 0,
             resolution: 0,
             row: 0,
@@ -172,23 +196,52 @@ pub extern "C" fn jgv_code_cell(code: u64) -> CellAnswer
     }
 }
 
-// 2, 1 or 3 where the bytes are no name.
+// 5 where n or s is above 3, 2, 1 or 3 where the bytes are no name.
 #[no_mangle]
-pub extern "C" fn jgv_name_code(name: &[u8]) -> CodeAnswer
-    ensures { λ r. ⌜ r ≡ nameAnswer (now (name .entry)) ⌝ }
+pub extern "C" fn jgv_name_code(n: u64, s: u64, name: &[u8]) -> CodeAnswer
+    ensures { λ r. ⌜ r ≡ nameAnswer n s (now (name .entry)) ⌝ }
 {
-    coded_answer(name::name_code(name))
+    let arrangement = Arrangement { north: n, south: s }; // no name says it
+    let refusal = arrangement.refusal();
+    if refusal != 0 {
+        return CodeAnswer { refusal, code: 0 };
+    }
+    coded_answer(name::name_code(arrangement, name))
 }
 
 // 4 where the code is no cell's, 8 where the room is shorter than the name.
 #[no_mangle]
-pub extern "C" fn jgv_code_name(code: u64, name: &mut [u8]) -> LengthAnswer
+pub extern "C" fn jgv_code_name(code: u64, name: &mut [u8]) -> NameAnswer
     ensures { λ r. ⌜ r ≡ writtenName code (length (now (name .entry))) ⌝ }
     ensures { λ r. ⌜ now (name .exit) ≡ given (codeNameRefusal code (length (now (name .entry)))) (nameIn code (now (name .entry))) (now (name .entry)) ⌝ }
 {
     match name::code_name(code, name) {
-        Named::Length(length) => LengthAnswer { refusal: 0, length },
-        Named::Refused(refusal) => LengthAnswer { refusal, length: 0 },
+        Named::Length(length) => {
+            let arrangement = code::arrangement_of(code);
+            NameAnswer {
+                refusal: 0,
+                n: arrangement.north, // of the code
+                s: arrangement.south, // of the code
+                length,
+            }
+        }
+        Named::Refused(refusal) => NameAnswer {
+            refusal,
+            n: 0, // of a name that is refused
+            s: 0, // and no s
+            length: 0,
+        },
+    }
+}
+
+// The code of a cell in the arrangement of another code.
+fn kept(code: u64, cell: Cell) -> CodeAnswer
+    requires { ⌜ IsCell cell ⌝ }
+    ensures { λ r. ⌜ r ≡ codeAnswer 0 (codeOf (arrangementOf code) cell) ⌝ }
+{
+    CodeAnswer {
+        refusal: 0, // in the code's arrangement
+        code: code::code_of(code::arrangement_of(code), cell),
     }
 }
 
@@ -203,7 +256,13 @@ pub extern "C" fn jgv_parent(code: u64) -> CodeAnswer
             code: 0,
         };
     };
-    found_answer(cell.parent())
+    if cell.resolution == 0 {
+        return CodeAnswer {
+            refusal: 12, // a face has no parent
+            code: 0,
+        };
+    }
+    kept(code, cell.parent_cell())
 }
 
 // 3 where the digit is above 8, 4 where the code is no cell's, 12 at resolution 15.
@@ -223,7 +282,13 @@ pub extern "C" fn jgv_child(code: u64, digit: u64) -> CodeAnswer
             code: 0,
         };
     };
-    found_answer(cell.child(digit))
+    if cell.resolution == 15 {
+        return CodeAnswer {
+            refusal: 12, // a finest cell has no child
+            code: 0,
+        };
+    }
+    kept(code, cell.child_cell(digit))
 }
 
 // 4 where the code is no cell's.
@@ -283,7 +348,10 @@ pub extern "C" fn jgv_point_code(n: u64, s: u64, resolution: u64, x: i64, y: i64
     ensures { λ r. ⌜ r ≡ pointCode n s resolution x y ⌝ }
 {
     let arrangement = Arrangement { north: n, south: s }; // `point_cell` tests it
-    found_answer(plane::point_cell(arrangement, resolution, x, y))
+    found_answer(
+        arrangement,
+        plane::point_cell(arrangement, resolution, x, y),
+    )
 }
 
 // 5 where n or s is above 3, 2 where the resolution is above 15, 6 where the longitude or z is out of range.
@@ -298,22 +366,20 @@ pub extern "C" fn jgv_fix_code(
     ensures { λ r. ⌜ r ≡ fixCode n s resolution longitude z ⌝ }
 {
     let arrangement = Arrangement { north: n, south: s }; // `locate` tests it
-    found_answer(locate::locate(arrangement, resolution, longitude, z))
+    found_answer(
+        arrangement,
+        locate::locate(arrangement, resolution, longitude, z),
+    )
 }
 
-// 5 where n or s is above 3, 3 where the direction is above 3, 4 where the code is no cell's.
+// 3 where the direction is above 3, 4 where the code is no cell's.
 #[no_mangle]
-pub extern "C" fn jgv_neighbour(n: u64, s: u64, code: u64, direction: u64) -> CodeAnswer
-    ensures { λ r. ⌜ r ≡ neighbourCode n s code direction ⌝ }
+pub extern "C" fn jgv_neighbour(code: u64, direction: u64) -> CodeAnswer
+    ensures { λ r. ⌜ r ≡ neighbourCode code direction ⌝ }
 {
-    let arrangement = Arrangement { north: n, south: s };
-    let refusal = arrangement.refusal();
-    if refusal != 0 {
-        return CodeAnswer { refusal, code: 0 };
-    }
     if direction > 3 {
         return CodeAnswer {
-            refusal: 3,
+            refusal: 3, // comes before 4
             code: 0,
         };
     }
@@ -323,28 +389,17 @@ pub extern "C" fn jgv_neighbour(n: u64, s: u64, code: u64, direction: u64) -> Co
             code: 0,
         };
     };
-    found_answer(cell.step(arrangement, direction))
+    kept(code, cell.neighbour(code::arrangement_of(code), direction))
 }
 
-// The cell of a code in an arrangement: 5 where n or s is above 3, 4 where the code is no cell's.
-fn placed(arrangement: Arrangement, code: u64) -> Found
-    ensures { λ r. ⌜ r ≡ found (placedRefusal arrangement code) (cellOf code) ⌝ }
-{
-    let refusal = arrangement.refusal();
-    if refusal != 0 {
-        return Found::Refused(refusal);
-    }
-    code::cell_of(code)
-}
-
-// 5 where n or s is above 3, 4 where the code is no cell's.
+// 4 where the code is no cell's.
 #[no_mangle]
-pub extern "C" fn jgv_square(n: u64, s: u64, code: u64) -> SquareAnswer
-    ensures { λ r. ⌜ r ≡ cellSquare n s code ⌝ }
+pub extern "C" fn jgv_square(code: u64) -> SquareAnswer
+    ensures { λ r. ⌜ r ≡ cellSquare code ⌝ }
 {
-    let arrangement = Arrangement { north: n, south: s };
-    match placed(arrangement, code) {
+    match code::cell_of(code) {
         Found::At(cell) => {
+            let arrangement = code::arrangement_of(code);
             let square = plane::square_of(arrangement, cell);
             SquareAnswer {
                 refusal: 0,
@@ -362,14 +417,14 @@ pub extern "C" fn jgv_square(n: u64, s: u64, code: u64) -> SquareAnswer
     }
 }
 
-// 5 where n or s is above 3, 4 where the code is no cell's.
+// 4 where the code is no cell's.
 #[no_mangle]
-pub extern "C" fn jgv_nucleus(n: u64, s: u64, code: u64) -> PointAnswer
-    ensures { λ r. ⌜ r ≡ cellNucleus n s code ⌝ }
+pub extern "C" fn jgv_nucleus(code: u64) -> PointAnswer
+    ensures { λ r. ⌜ r ≡ cellNucleus code ⌝ }
 {
-    let arrangement = Arrangement { north: n, south: s };
-    match placed(arrangement, code) {
+    match code::cell_of(code) {
         Found::At(cell) => {
+            let arrangement = code::arrangement_of(code);
             let point = plane::nucleus_of(arrangement, cell);
             PointAnswer {
                 refusal: 0,
@@ -385,14 +440,14 @@ pub extern "C" fn jgv_nucleus(n: u64, s: u64, code: u64) -> PointAnswer
     }
 }
 
-// 5 where n or s is above 3, 4 where the code is no cell's.
+// 4 where the code is no cell's.
 #[no_mangle]
-pub extern "C" fn jgv_vertices(n: u64, s: u64, code: u64) -> VerticesAnswer
-    ensures { λ r. ⌜ r ≡ cellVertices n s code ⌝ }
+pub extern "C" fn jgv_vertices(code: u64) -> VerticesAnswer
+    ensures { λ r. ⌜ r ≡ cellVertices code ⌝ }
 {
-    let arrangement = Arrangement { north: n, south: s };
-    match placed(arrangement, code) {
+    match code::cell_of(code) {
         Found::At(cell) => {
+            let arrangement = code::arrangement_of(code);
             let vertices = plane::vertices_of(arrangement, cell);
             let x = vertices.x;
             let y = vertices.y;
@@ -406,14 +461,14 @@ pub extern "C" fn jgv_vertices(n: u64, s: u64, code: u64) -> VerticesAnswer
     }
 }
 
-// 5 where n or s is above 3, 4 where the code is no cell's.
+// 4 where the code is no cell's.
 #[no_mangle]
-pub extern "C" fn jgv_ground_nucleus(n: u64, s: u64, code: u64) -> FixAnswer
-    ensures { λ r. ⌜ r ≡ groundFix n s code ⌝ }
+pub extern "C" fn jgv_ground_nucleus(code: u64) -> FixAnswer
+    ensures { λ r. ⌜ r ≡ groundFix code ⌝ }
 {
-    let arrangement = Arrangement { north: n, south: s };
-    match placed(arrangement, code) {
+    match code::cell_of(code) {
         Found::At(cell) => {
+            let arrangement = code::arrangement_of(code);
             let fix = nucleus::ground_nucleus(arrangement, cell);
             FixAnswer {
                 refusal: 0,
@@ -469,7 +524,7 @@ pub extern "C" fn jgv_coverage_list(text: &[u8], codes: &mut [u64]) -> ListAnswe
     match listing::list(text, codes) {
         Listed::Count(count) => ListAnswer {
             refusal: 0,
-            place: 0,
+            place: 0, // of a list
             count,
         },
         Listed::Refused { refusal, place } => ListAnswer {
@@ -480,8 +535,8 @@ pub extern "C" fn jgv_coverage_list(text: &[u8], codes: &mut [u64]) -> ListAnswe
     }
 }
 
-// 5 where n or s is above 3, 4 where a code is no cell's, 11 where the list is not rising or nested, 13 where the text would be longer than
-// 65,536 bytes, 8 where the room is shorter than the text.
+// 5 where n or s is above 3, 4 where a code is no cell's, 14 where one is of another arrangement, 11 where the list is not rising or nested, 13
+// where the text would be longer than 65,536 bytes, 8 where the room is shorter than the text.
 #[no_mangle]
 pub extern "C" fn jgv_coverage_write(n: u64, s: u64, codes: &[u64], text: &mut [u8]) -> LengthAnswer
     ensures { λ r. ⌜ r ≡ writtenNumbers (written (writeRefusal (arrangement n s) (now (codes .entry)) (length (now (text .entry)))) (length (textOf (arrangement n s) (now (codes .entry))))) ⌝ }
@@ -497,13 +552,12 @@ pub extern "C" fn jgv_coverage_write(n: u64, s: u64, codes: &[u64], text: &mut [
     }
 }
 
-// 5 where n or s is above 3, 4 where the code is no cell's, 13, 10 and 9 as in checking, 14 where the heading has another n or s.
+// 4 where the code is no cell's, 13, 10 and 9 as in checking, 14 where the heading's arrangement is not the code's.
 #[no_mangle]
-pub extern "C" fn jgv_coverage_ask(n: u64, s: u64, text: &[u8], code: u64) -> AskAnswer
-    ensures { λ r. ⌜ r ≡ askNumbers (asked (askRefusal (arrangement n s) (now (text .entry)) code) (now (text .entry)) code) ⌝ }
+pub extern "C" fn jgv_coverage_ask(text: &[u8], code: u64) -> AskAnswer
+    ensures { λ r. ⌜ r ≡ askNumbers (asked (askRefusal (now (text .entry)) code) (now (text .entry)) code) ⌝ }
 {
-    let arrangement = Arrangement { north: n, south: s }; // `ask` tests it
-    match asking::ask(arrangement, text, code) {
+    match asking::ask(text, code) {
         Asked::Covered(covered) => AskAnswer {
             refusal: 0,
             place: 0,
@@ -512,7 +566,7 @@ pub extern "C" fn jgv_coverage_ask(n: u64, s: u64, text: &[u8], code: u64) -> As
         Asked::Refused { refusal, place } => AskAnswer {
             refusal,
             place,
-            covered: 0,
+            covered: 0, // of a question that is refused
         },
     }
 }

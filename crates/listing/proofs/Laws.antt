@@ -7,7 +7,7 @@ use native.Mathlib.Numerals.{add-one}
 use native.Mathlib.Omega.{arith}
 use lib.ListN.{length, take, drop, getD, set, length-set, length-append, take-append-drop}
 use lib.Seq.{length-take-le, take-suc-set, drop-set-lt, drop-drop}
-use Rattle.reading.specs.TextReading.{isText, bodyStart}
+use Rattle.reading.specs.TextReading.{textArrangement, isText, bodyStart}
 use Rattle.walk.specs.declared.Spot.{Spot}
 use Rattle.walk.specs.Walk.{origin, after, wholeAt, walk, Walks}
 use Rattle.walk.specs.Laws.Walk.{walks-start, walks-on, past-whole, past-other, walked}
@@ -19,7 +19,7 @@ pub record Lists (t codes₀ codes : List ℕ) (count i : ℕ) (s : Spot) : Type
   pub walks : Walks t i s
   pub long : length codes ≡ length codes₀
   pub within : count ≤ length codes
-  pub put : take count codes ++ map spotCode (walk s (drop i t)) ≡ codesOf t
+  pub put : take count codes ++ map (spotCode (textArrangement t)) (walk s (drop i t)) ≡ codesOf t
   pub kept : drop count codes ≡ drop count codes₀
 
 pub lists-start : (t codes : List ℕ) {i : ℕ} → isText t ≡ true → i ≡ bodyStart t → Lists t codes codes 0 i origin
@@ -38,23 +38,24 @@ module _ {t codes₀ codes : List ℕ} {count i : ℕ} {s s′ : Spot} (l : List
         long = l .long;
         within = l .within;
         put =
-            ap (λ (x : List Spot). take count codes ++ map spotCode x) (ap (λ (x : Spot). walk x (drop (i + 1) t)) e ∙ sym (past-other (l .walks) h w))
+            ap (λ (x : List Spot). take count codes ++ map (spotCode (textArrangement t)) x) (ap (λ (x : Spot). walk x (drop (i + 1) t)) e ∙ sym (past-other (l .walks) h w))
             ∙ l .put;
         kept = l .kept;
       }
 
   module _ (w : wholeAt (drop i t) ≡ true) where
-    further : take count codes ++ (spotCode s′ ∷ map spotCode (walk s′ (drop (i + 1) t))) ≡ codesOf t
+    further : take count codes ++ (spotCode (textArrangement t) s′ ∷ map (spotCode (textArrangement t)) (walk s′ (drop (i + 1) t))) ≡ codesOf t
     further =
-        ap (λ (x : List Spot). take count codes ++ map spotCode x) (ap (λ (x : Spot). x ∷ walk x (drop (i + 1) t)) e ∙ sym (past-whole (l .walks) h w))
+        ap (λ (x : List Spot). take count codes ++ map (spotCode (textArrangement t)) x) (ap (λ (x : Spot). x ∷ walk x (drop (i + 1) t)) e ∙ sym (past-whole (l .walks) h w))
         ∙ l .put
 
     -- there is room for one more
     pub has-room : length (codesOf t) ≤ length codes₀ → count < length codes
     has-room m =
-        omega (arith, ap length further, length-append (take count codes) (spotCode s′ ∷ map spotCode (walk s′ (drop (i + 1) t))), length-take-le count codes (l .within), l .long)
+        let left : List ℕ = spotCode (textArrangement t) s′ ∷ map (spotCode (textArrangement t)) (walk s′ (drop (i + 1) t)) in
+        omega (arith, ap length further, length-append (take count codes) left, length-take-le count codes (l .within), l .long)
 
-    pub lists-put : (v : ℕ) → v ≡ spotCode s′ → count < length codes → Lists t codes₀ (set codes count v) (count + 1) (i + 1) s′
+    pub lists-put : (v : ℕ) → v ≡ spotCode (textArrangement t) s′ → count < length codes → Lists t codes₀ (set codes count v) (count + 1) (i + 1) s′
     lists-put v f r =
         let z : length (set codes count v) ≡ length codes = length-set codes count v in
         let p : take (count + 1) (set codes count v) ≡ take count codes ++ (v ∷ []) =
@@ -66,9 +67,9 @@ module _ {t codes₀ codes : List ℕ} {count i : ℕ} {s s′ : Spot} (l : List
           long = z ∙ l .long;
           within = omega arith;
           put =
-              ap (λ (x : List ℕ). x ++ map spotCode (walk s′ (drop (i + 1) t))) p
-              ∙ append-assoc (take count codes) (v ∷ []) (map spotCode (walk s′ (drop (i + 1) t)))
-              ∙ ap (λ (x : ℕ). take count codes ++ (x ∷ map spotCode (walk s′ (drop (i + 1) t)))) f
+              ap (λ (x : List ℕ). x ++ map (spotCode (textArrangement t)) (walk s′ (drop (i + 1) t))) p
+              ∙ append-assoc (take count codes) (v ∷ []) (map (spotCode (textArrangement t)) (walk s′ (drop (i + 1) t)))
+              ∙ ap (λ (x : ℕ). take count codes ++ (x ∷ map (spotCode (textArrangement t)) (walk s′ (drop (i + 1) t)))) f
               ∙ further;
           kept = drop-set-lt (count + 1) codes count v (omega arith) ∙ k;
         }
@@ -77,6 +78,6 @@ module _ {t codes₀ codes : List ℕ} {count i : ℕ} {s s′ : Spot} (l : List
 pub lists-end : {t codes₀ codes : List ℕ} {count i : ℕ} {s : Spot} → Lists t codes₀ codes count i s → length t ≤ i → codes ≡ codesOf t ++ drop (length (codesOf t)) codes₀
 lists-end {t} {codes₀} {codes} {count} {i} {s} l h =
     let p : take count codes ≡ codesOf t =
-    sym (append-nil (take count codes)) ∙ sym (ap (λ (x : List Spot). take count codes ++ map spotCode x) (walked t i s h)) ∙ l .put in
+    sym (append-nil (take count codes)) ∙ sym (ap (λ (x : List Spot). take count codes ++ map (spotCode (textArrangement t)) x) (walked t i s h)) ∙ l .put in
     let n : count ≡ length (codesOf t) = sym (length-take-le count codes (l .within)) ∙ ap length p in
     sym (take-append-drop count codes) ∙ ap₂ _++_ p (l .kept ∙ ap (λ (x : ℕ). drop x codes₀) n)

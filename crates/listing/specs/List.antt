@@ -6,14 +6,14 @@ use lib.ListN.{length, drop}
 use Rattle.logic.specs.Refusal.{refuse, _otherwise_}
 use Rattle.code.specs.Code.{codeOf}
 use Rattle.reading.specs.Ground.{wholeCells}
-use Rattle.reading.specs.TextReading.{nodesOf}
+use Rattle.reading.specs.TextReading.{nodesOf, textArrangement}
 use Rattle.reader.specs.Check.{textRefusal, placeWith}
 use Rattle.listing.specs.declared.Listed.{Listed}
 use Rattle.listing.specs.declared.Listed.the-variants.{Count, Refused}
 
--- the codes of a text's whole cells, in the order they stand
+-- the codes of a text's whole cells in its heading's arrangement, in the order they stand
 unfoldable pub codesOf : List ℕ → List ℕ
-codesOf t = map codeOf (wholeCells (nodesOf t))
+codesOf t = map (codeOf (textArrangement t)) (wholeCells (nodesOf t))
 
 -- the lent codes with these in front: "an answer changes only its own length"
 unfoldable pub codesIn : (t codes : List ℕ) → List ℕ

@@ -4,9 +4,10 @@ ghost use mathlib.Core.Bool.{true};
 ghost use mathlib.Core.List.{_++_};
 ghost use Prim.Native.Nat.{_≤_};
 ghost use lib.ListN.{length, drop};
-ghost use Rattle.reading.specs.TextReading.{isText, bodyStart};
+ghost use Rattle.reading.specs.TextReading.{isText, textArrangement, bodyStart};
 ghost use Rattle.logic.specs.Refusal.{given};
 ghost use Rattle.listing.specs.List.{codesOf, codesIn, listingRefusal, listed};
+use cell::Arrangement;
 use reader::Checked;
 use walk::Spot;
 
@@ -16,9 +17,9 @@ pub enum Listed {
     Refused { refusal: u64, place: u64 },
 }
 
-// "the codes of the whole cells in rising order", to the front of `codes`. The text's body starts at `body`.
-fn put_codes(text: &[u8], body: usize, codes: &mut [u64])
-    requires { ⌜ (isText (now text) ≡ true) × (body ≡ bodyStart (now text)) × (length (codesOf (now text)) ≤ length (now codes)) ⌝ }
+// "the codes of the whole cells in rising order", in the heading's arrangement, to the front of `codes`. The text's body starts at `body`.
+fn put_codes(text: &[u8], arrangement: Arrangement, body: usize, codes: &mut [u64])
+    requires { ⌜ (isText (now text) ≡ true) × (arrangement ≡ textArrangement (now text)) × (body ≡ bodyStart (now text)) × (length (codesOf (now text)) ≤ length (now codes)) ⌝ }
     ensures { λ r. ⌜ now (codes .exit) ≡ codesOf (now (text .entry)) ++ drop (length (codesOf (now (text .entry)))) (now (codes .entry)) ⌝ }
 {
     let mut spot = Spot {
@@ -35,7 +36,7 @@ fn put_codes(text: &[u8], body: usize, codes: &mut [u64])
         if !whole {
             continue;
         }
-        codes[count] = code::code_as(spot.resolution, spot.number);
+        codes[count] = code::code_as(arrangement, spot.resolution, spot.number);
         count = count + 1;
     }
 }
@@ -48,8 +49,8 @@ pub fn list(text: &[u8], codes: &mut [u64]) -> Listed
     match reader::check(text) {
         Checked::Refused { refusal, place } => Listed::Refused { refusal, place },
         Checked::Text {
-            north: _,
-            south: _,
+            north,
+            south,
             cells,
             size: _,
             body,
@@ -60,7 +61,8 @@ pub fn list(text: &[u8], codes: &mut [u64]) -> Listed
                     place: 0,
                 };
             }
-            put_codes(text, body, codes);
+            let arrangement = Arrangement { north, south };
+            put_codes(text, arrangement, body, codes);
             Listed::Count(cells)
         }
     }

@@ -8,6 +8,7 @@ use lib.ListN.{length, drop, getD}
 use Rattle.logic.specs.Refusal.{refuse, _otherwise_}
 use Rattle.ternary.specs.Digits.{value}
 use Rattle.cell.specs.declared.Cell.{Cell}
+use Rattle.cell.specs.declared.Arrangement.{Arrangement}
 use Rattle.code.specs.Code.{digitsOf, codeAt, cellOf, codeRefusal}
 use Rattle.name.specs.declared.Named.{Named}
 use Rattle.name.specs.declared.Named.the-variants.{Length, Refused}
@@ -43,9 +44,9 @@ nameRefusal bs =
 abbrev pub digitsIn : List ℕ → List ℕ
 digitsIn bs = map (λ b. b - 48) (drop 1 bs)
 
--- the code of the cell that is named
-unfoldable pub nameCode : List ℕ → ℕ
-nameCode bs = codeAt (getD bs 0 0 - 78) (length bs - 1) (value 9 (digitsIn bs))
+-- the code of the cell that is named, in an arrangement
+unfoldable pub nameCode : Arrangement → List ℕ → ℕ
+nameCode a bs = codeAt a (getD bs 0 0 - 78) (length bs - 1) (value 9 (digitsIn bs))
 
 -- ---- a name written
 

@@ -6,8 +6,10 @@ ghost use Prim.Native.Nat.{_+_, _≤_, _<_};
 ghost use lib.ListN.{length, take, drop};
 ghost use Rattle.logic.specs.Refusal.{refuse, given};
 ghost use Rattle.ternary.specs.Digits.{value, digits};
+ghost use Rattle.cell.specs.Cell.{IsArrangement};
 ghost use Rattle.code.specs.Code.{coded, cellOf};
 ghost use Rattle.name.specs.Name.{allDigits, firstLetter, digitsIn, digitBytes, nameRefusal, nameCode, nameOf, codeNameRefusal, named, nameIn};
+use cell::Arrangement;
 use code::Coded;
 use code::Split;
 
@@ -58,9 +60,10 @@ fn first_letter(name: &[u8]) -> bool
     letter <= b'S'
 }
 
-// The code of the cell that some bytes name: 2, 1 or 3 where they name none.
-pub fn name_code(name: &[u8]) -> Coded
-    ensures { λ r. ⌜ r ≡ coded (nameRefusal (now (name .entry))) (nameCode (now (name .entry))) ⌝ }
+// The code of the cell that some bytes name, in an arrangement: 2, 1 or 3 where they name none.
+pub fn name_code(arrangement: Arrangement, name: &[u8]) -> Coded
+    requires { ⌜ IsArrangement arrangement ⌝ }
+    ensures { λ r. ⌜ r ≡ coded (nameRefusal (now (name .entry))) (nameCode arrangement (now (name .entry))) ⌝ }
 {
     if name.len() > 16 {
         return Coded::Refused(2);
@@ -72,7 +75,8 @@ pub fn name_code(name: &[u8]) -> Coded
         return Coded::Refused(3);
     };
     let face = wide(name[0] - b'N');
-    Coded::Code(code::code_at(face, (name.len() - 1) as u64, path))
+    let resolution = (name.len() - 1) as u64;
+    Coded::Code(code::code_at(arrangement, face, resolution, path))
 }
 
 // The last `count` digits of a path, as bytes after the first one of `name`.

@@ -8,7 +8,7 @@ use Rattle.logic.specs.Lists.{Any, Pairwise}
 use Rattle.ternary.specs.Digits.{value}
 use Rattle.cell.specs.declared.Cell.{Cell}
 use Rattle.cell.specs.Cell.{IsCell}
-use Rattle.code.specs.Code.{codeOf, sizeOf}
+use Rattle.code.specs.Code.{cellCode, sizeOf}
 use Rattle.code.specs.Inside.{Inside}
 pub use Rattle.code.specs.Finest.{Finest}
 use Rattle.reading.specs.Reading.{Nodes, names}
@@ -41,7 +41,7 @@ Cells qs = All IsCell qs
 
 -- "the codes of the whole cells in rising order"
 abbrev pub Rising : List Cell → Type 0
-Rising qs = Pairwise (λ (q p : Cell). codeOf q < codeOf p) qs
+Rising qs = Pairwise (λ (q p : Cell). cellCode q < cellCode p) qs
 
 -- "none inside another"
 abbrev pub Apart : List Cell → Type 0

@@ -5,6 +5,7 @@ use mathlib.Core.List.{List, [], _∷_}
 use Prim.Native.Nat.{ℕ, suc, _-_}
 use lib.ListN.{length, drop, getD}
 use lib.Dec.{ltb}
+use Rattle.cell.specs.declared.Arrangement.{Arrangement}
 use Rattle.reading.specs.declared.Level.the-variants.{Faces}
 use Rattle.reading.specs.Reading.{Nodes, end}
 use Rattle.reading.specs.Text.{heading}
@@ -52,6 +53,9 @@ northOf t = northIn (readText t)
 
 unfoldable pub southOf : List ℕ → ℕ
 southOf t = southIn (readText t)
+
+abbrev pub textArrangement : List ℕ → Arrangement
+textArrangement t = record { north = northOf t; south = southOf t }
 
 -- where its body starts: behind the heading
 abbrev pub bodyStart : List ℕ → ℕ

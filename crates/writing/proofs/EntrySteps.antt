@@ -1,7 +1,7 @@
 -- What the parts of writing hand back: the tests of the list, and the answers. Assumes nothing.
 use mathlib.Core.Path.{_≡_, refl, sym, ap, ap₂, _∙_}
 use mathlib.Core.Bool.{Bool, true, false, _&&_, not}
-use mathlib.Core.Logic.{_⊎_, inl, inr, ⊎-elim}
+use mathlib.Core.Logic.{_↔_, _⊎_, inl, inr, ⊎-elim}
 use mathlib.Core.List.{List, [], _∷_}
 use Prim.Native.Nat.{ℕ, zero, suc, _+_, _-_, _*_, _^_, _≤_, _<_}
 use native.Mathlib.Numerals.{add-one}
@@ -15,14 +15,14 @@ use Rattle.logic.specs.Refusal.{refuse, _otherwise_, given}
 use Rattle.logic.specs.Laws.Refusal.{stops, passes}
 use Rattle.cell.specs.declared.Arrangement.{Arrangement}
 use Rattle.cell.specs.Cell.{arrangementRefusal}
-use Rattle.code.specs.Code.{cellOf, isCode, sizeOf}
-use Rattle.code.specs.Laws.Code.{code-is-cell, code-cell}
+use Rattle.code.specs.Code.{cellOf, cellCode, isCode, isOf, sizeOf}
+use Rattle.code.specs.Laws.Code.{code-is-cell, of-arrangement, codes-order}
 use Rattle.code.specs.Inside.{startOf, endOf, liesWithin}
 use Rattle.code.specs.Laws.Inside.{code-start, end-small, size-pos}
 use Rattle.reading.specs.Text.{heading}
 use Rattle.writing.specs.declared.Written.the-variants.{Length, Refused}
-use Rattle.writing.specs.Write.{allCodes, ordered, codesRefusal, textOf, writeRefusal, written}
-use Rattle.writing.specs.Laws.List.{not-lies}
+use Rattle.writing.specs.Write.{allCodes, allOf, ordered, codesRefusal, textOf, writeRefusal, written}
+use Rattle.writing.specs.Laws.List.{not-lies, tested}
 
 -- ---- the tests of the list
 
@@ -36,6 +36,15 @@ codes-step codes i h = ap allCodes (drop-at codes i h)
 pub codes-end : (codes : List ℕ) (i : ℕ) → length codes ≤ i → allCodes (drop i codes) ≡ true
 unfolding allCodes
 codes-end codes i h = ap allCodes (drop-of-length-le codes h)
+
+module _ (a : Arrangement) where
+  own-step : (codes : List ℕ) (i : ℕ) → i < length codes → allOf a (drop i codes) ≡ (isOf a (getD codes i 0) && allOf a (drop (i + 1) codes))
+  unfolding allOf
+  own-step codes i h = ap (allOf a) (drop-at codes i h)
+
+  own-end : (codes : List ℕ) (i : ℕ) → length codes ≤ i → allOf a (drop i codes) ≡ true
+  unfolding allOf
+  own-end codes i h = ap (allOf a) (drop-of-length-le codes h)
 
 and-three : (a b c : Bool) → (a && (b && c)) ≡ ((a && b) && c)
 and-three true b c = refl
@@ -63,22 +72,25 @@ short-order (c ∷ x ∷ cs) h = absurd (omega arith)
 pub order-end : (codes : List ℕ) (i : ℕ) → length codes ≤ i + 1 → ordered (drop i codes) ≡ true
 order-end codes i h = short-order (drop i codes) (rw (length-drop i codes) (omega arith))
 
--- two codes: the second comes after the first and not inside where its cell starts at the end of the first one's, or later
+-- two codes of one arrangement: the second comes after the first and not inside where its cell starts at the end of the first one's, or later
 after :
-    (c x : ℕ) → isCode c ≡ true → isCode x ≡ true →
+    (a : Arrangement) (c x : ℕ) → isCode c ≡ true → isCode x ≡ true → isOf a c ≡ true → isOf a x ≡ true →
     (ltb c x && not (liesWithin (cellOf c) (cellOf x))) ≡ leb (startOf (cellOf c) + sizeOf (cellOf c)) (startOf (cellOf x))
 unfolding endOf
-after c x i j = go (ltb c x) refl
+after a c x i j m n = go (ltb c x) refl
   where
+    rise : (c < x) ↔ (cellCode (cellOf c) < cellCode (cellOf x))
+    rise = codes-order c x i j (of-arrangement a c m) (of-arrangement a x n)
+
     go :
         (b : Bool) → ltb c x ≡ b →
         (b && not (liesWithin (cellOf c) (cellOf x))) ≡ leb (startOf (cellOf c) + sizeOf (cellOf c)) (startOf (cellOf x))
-    go true e =
-        let h : c < x = ltb-true c x e in
-        not-lies (cellOf c) (cellOf x) (code-is-cell c i) (code-is-cell x j) (omega (arith, code-cell c i, code-cell x j))
+    go true e = not-lies (cellOf c) (cellOf x) (code-is-cell c i) (code-is-cell x j) (rise .0 (ltb-true c x e))
     go false e =
         let h : x ≤ c = ltb-false c x e in
-        let r = code-start (cellOf x) (cellOf c) (code-is-cell x j) (code-is-cell c i) (omega (arith, code-cell c i, code-cell x j)) in
+        let k : cellCode (cellOf x) ≤ cellCode (cellOf c) =
+        ⊎-elim (λ l. absurd (let m : c < x = rise .1 l in omega arith)) (λ l. l) (lt-or (cellCode (cellOf c)) (cellCode (cellOf x))) in
+        let r = code-start (cellOf x) (cellOf c) (code-is-cell x j) (code-is-cell c i) k in
         sym (lt-leb (startOf (cellOf c) + sizeOf (cellOf c)) (startOf (cellOf x)) (omega (arith, r, size-pos (cellOf c))))
 
 -- where a cell ends is a small number
@@ -89,85 +101,108 @@ end-small-at c t s z =
     let b : startOf (cellOf c) + sizeOf (cellOf c) ≤ cellOf c .face * 205891132094649 + 205891132094649 = end-small (cellOf c) v in
     omega (arith, s, z, v .faced)
 
--- ---- the refusals of the list
-
-pub four : (codes : List ℕ) → allCodes codes ≡ false → 4 ≡ codesRefusal codes
-unfolding codesRefusal _otherwise_
-four codes e = sym (ap (λ (b : Bool). refuse (not b) 4 otherwise refuse (not (ordered codes)) 11) e)
-
-pub eleven : (codes : List ℕ) → allCodes codes ≡ true → ordered codes ≡ false → 11 ≡ codesRefusal codes
-unfolding codesRefusal _otherwise_
-eleven codes e f = sym (ap₂ (λ (b o : Bool). refuse (not b) 4 otherwise refuse (not o) 11) e f)
-
-pub none : (codes : List ℕ) → allCodes codes ≡ true → ordered codes ≡ true → 0 ≡ codesRefusal codes
-unfolding codesRefusal _otherwise_
-none codes e f = sym (ap₂ (λ (b o : Bool). refuse (not b) 4 otherwise refuse (not o) 11) e f)
-
 -- ---- the codes, one after the other
 
 abbrev codeAt : List ℕ → ℕ → ℕ
 codeAt codes i = getD codes i 0
 
--- the codes up to the place i are cells', their order is judged, and the last of their cells ends at `end`
-pub record Judged (codes : List ℕ) (i refusal end : ℕ) : Type 0 where
+-- the codes up to the place i are of the arrangement
+pub record Own (a : Arrangement) (codes : List ℕ) (i : ℕ) : Type 0 where
+  pub left : allOf a codes ≡ allOf a (drop i codes)
+  pub before : 0 < i → isOf a (codeAt codes (i - 1)) ≡ true
+
+-- the order of the codes up to the place i is judged
+abbrev pub Order : List ℕ → (i refusal : ℕ) → Type 0
+Order codes i refusal = ((refusal ≡ 0) × (ordered codes ≡ ordered (drop (i - 1) codes))) ⊎ ((refusal ≡ 11) × (ordered codes ≡ false))
+
+-- the codes up to the place i are cells', they are judged, and the last of their cells ends at `end`
+pub record Judged (a : Arrangement) (codes : List ℕ) (i refusal end : ℕ) : Type 0 where
   pub to : i ≤ length codes
   pub coded : allCodes codes ≡ allCodes (drop i codes)
-  pub order : ((refusal ≡ 0) × (ordered codes ≡ ordered (drop (i - 1) codes))) ⊎ ((refusal ≡ 11) × (ordered codes ≡ false))
+  pub said : (Own a codes i × Order codes i refusal) ⊎ ((refusal ≡ 14) × (allOf a codes ≡ false))
   pub first : i ≡ 0 → end ≡ 0
   pub last : 0 < i → (isCode (codeAt codes (i - 1)) ≡ true) × (end ≡ startOf (cellOf (codeAt codes (i - 1))) + sizeOf (cellOf (codeAt codes (i - 1))))
 
-pub judge-starts : (codes : List ℕ) → Judged codes 0 0 0
-judge-starts codes = record { to = omega arith; coded = refl; order = inl (refl, refl); first = λ h. refl; last = λ h. absurd (omega arith) }
+pub judge-starts : (a : Arrangement) (codes : List ℕ) → Judged a codes 0 0 0
+judge-starts a codes =
+    record {
+      to = omega arith;
+      coded = refl;
+      said = inl (record { left = refl; before = λ h. absurd (omega arith) }, inl (refl, refl));
+      first = λ h. refl;
+      last = λ h. absurd (omega arith);
+    }
 
-module _ {codes : List ℕ} {i refusal end : ℕ} (v : Judged codes i refusal end) where
-  pub judge-four : i < length codes → isCode (codeAt codes i) ≡ false → 4 ≡ codesRefusal codes
-  judge-four h e = four codes (v .coded ∙ codes-step codes i h ∙ ap (λ (b : Bool). b && allCodes (drop (i + 1) codes)) e)
+module _ {a : Arrangement} {codes : List ℕ} {i refusal end : ℕ} (v : Judged a codes i refusal end) where
+  pub judge-four : i < length codes → isCode (codeAt codes i) ≡ false → 4 ≡ codesRefusal a codes
+  unfolding _otherwise_
+  judge-four h e = sym (tested a codes (v .coded ∙ codes-step codes i h ∙ ap (λ (b : Bool). b && allCodes (drop (i + 1) codes)) e) refl refl)
 
-  pub judge-ends : length codes ≤ i → refusal ≡ codesRefusal codes
+  pub judge-ends : length codes ≤ i → refusal ≡ codesRefusal a codes
+  unfolding _otherwise_
   judge-ends h =
-      let a : allCodes codes ≡ true = v .coded ∙ codes-end codes i h in
-      ⊎-elim (λ o. o .0 ∙ none codes a (o .1 ∙ order-end codes (i - 1) (omega arith))) (λ o. o .0 ∙ eleven codes a (o .1)) (v .order)
+      let t : allCodes codes ≡ true = v .coded ∙ codes-end codes i h in
+      ⊎-elim
+      (λ k.
+      let o : allOf a codes ≡ true = k .0 .left ∙ own-end a codes i h in
+      ⊎-elim (λ m. m .0 ∙ sym (tested a codes t o (m .1 ∙ order-end codes (i - 1) (omega arith)))) (λ m. m .0 ∙ sym (tested a codes t o (m .1))) (k .1))
+      (λ k. k .0 ∙ sym (tested a codes t (k .1) refl))
+      (v .said)
 
   module _ {start : ℕ} (h : i < length codes) (e : isCode (codeAt codes i) ≡ true) (s : start ≡ startOf (cellOf (codeAt codes i))) where
-    next-judged :
-        {r next : ℕ} → next ≡ start + sizeOf (cellOf (codeAt codes i)) →
-        ((r ≡ 0) × (ordered codes ≡ ordered (drop i codes))) ⊎ ((r ≡ 11) × (ordered codes ≡ false)) → Judged codes (i + 1) r next
-    next-judged n o =
+    -- a later code, by where the cell before it ends
+    pair : Own a codes i → isOf a (codeAt codes i) ≡ true → 0 < i → ordered (drop (i - 1) codes) ≡ (leb end start && ordered (drop i codes))
+    pair o f z =
+        let p : i - 1 + 1 ≡ i = omega arith in
+        let l = v .last z in
+        rw p at (order-step codes (i - 1) (omega arith))
+        ∙ ap (λ (b : Bool). b && ordered (drop i codes)) (after a (codeAt codes (i - 1)) (codeAt codes i) (l .0) e (o .before z) f ∙ ap₂ leb (sym (l .1)) (sym s))
+
+    -- the first code always follows
+    follows : Own a codes i → isOf a (codeAt codes i) ≡ true → ordered (drop (i - 1) codes) ≡ (leb end start && ordered (drop i codes))
+    follows o f = ⊎-elim (pair o f) at-first (lt-or 0 i)
+      where
+        at-first : i ≤ 0 → ordered (drop (i - 1) codes) ≡ (leb end start && ordered (drop i codes))
+        at-first z =
+            let p : i - 1 ≡ i = omega arith in
+            let g : end ≡ 0 = v .first (omega arith) in
+            ap (λ (j : ℕ). ordered (drop j codes)) p ∙ sym (ap (λ (b : Bool). b && ordered (drop i codes)) (le-leb end start (omega arith)))
+
+    own-next : Own a codes i → isOf a (codeAt codes i) ≡ true → Own a codes (i + 1)
+    own-next o f =
+        let p : i + 1 - 1 ≡ i = omega arith in
+        record { left = o .left ∙ own-step a codes i h ∙ ap (λ (b : Bool). b && allOf a (drop (i + 1) codes)) f; before = λ z. rw p f }
+
+    -- what is said with one code more
+    next-said : (o f : Bool) → isOf a (codeAt codes i) ≡ o → leb end start ≡ f → let r = refuse (not o) 14 otherwise refusal otherwise refuse (not f) 11 in
+        (Own a codes (i + 1) × Order codes (i + 1) r) ⊎ ((r ≡ 14) × (allOf a codes ≡ false))
+    unfolding _otherwise_
+    next-said false f g k =
+        inr (refl, ⊎-elim (λ m. m .0 .left ∙ own-step a codes i h ∙ ap (λ (b : Bool). b && allOf a (drop (i + 1) codes)) g) (λ m. m .1) (v .said))
+    next-said true f g k = ⊎-elim (λ m. inl (own-next (m .0) g, rw p (judge-order f k (m .0) (m .1)))) (λ m. inr (ap (λ (x : ℕ). x otherwise refuse (not f) 11) (m .0), m .1)) (v .said)
+      where
+        p : i + 1 - 1 ≡ i
+        p = omega arith
+
+        judge-order :
+            (f : Bool) → leb end start ≡ f → Own a codes i → Order codes i refusal →
+            ((refusal otherwise refuse (not f) 11 ≡ 0) × (ordered codes ≡ ordered (drop i codes))) ⊎ ((refusal otherwise refuse (not f) 11 ≡ 11) × (ordered codes ≡ false))
+        judge-order true k o (inl n) = inl (passes 0 (n .0), n .1 ∙ follows o g ∙ ap (λ (b : Bool). b && ordered (drop i codes)) k)
+        judge-order false k o (inl n) = inr (passes 11 (n .0), n .1 ∙ follows o g ∙ ap (λ (b : Bool). b && ordered (drop i codes)) k)
+        judge-order f k o (inr n) = inr (ap (λ (x : ℕ). x otherwise refuse (not f) 11) (n .0), n .1)
+
+    pub judge-next :
+        {r next : ℕ} → r ≡ refuse (not (isOf a (codeAt codes i))) 14 otherwise refusal otherwise refuse (not (leb end start)) 11 → next ≡ start + sizeOf (cellOf (codeAt codes i)) →
+        Judged a codes (i + 1) r next
+    judge-next q n =
         let p : i + 1 - 1 ≡ i = omega arith in
         record {
           to = omega arith;
           coded = v .coded ∙ codes-step codes i h ∙ ap (λ (b : Bool). b && allCodes (drop (i + 1) codes)) e;
-          order = rw p o;
+          said = rw q (next-said (isOf a (codeAt codes i)) (leb end start) refl refl);
           first = λ z. absurd (omega arith);
           last = λ z. rw p (e, n ∙ ap (λ (x : ℕ). x + sizeOf (cellOf (codeAt codes i))) s);
         }
-
-    -- a later code, by where the cell before it ends
-    pair : 0 < i → ordered (drop (i - 1) codes) ≡ (leb end start && ordered (drop i codes))
-    pair z =
-        let p : i - 1 + 1 ≡ i = omega arith in
-        let l = v .last z in
-        let f = rw p at (order-step codes (i - 1) (omega arith)) in
-        f ∙ ap (λ (b : Bool). b && ordered (drop i codes)) (after (codeAt codes (i - 1)) (codeAt codes i) (l .0) e ∙ ap₂ leb (sym (l .1)) (sym s))
-
-    -- the order stands where the code follows; the first code always does
-    pub judge-good : {r next : ℕ} → next ≡ start + sizeOf (cellOf (codeAt codes i)) → end ≤ start → r ≡ refusal → Judged codes (i + 1) r next
-    judge-good n g k = next-judged n (⊎-elim (λ o. inl (k ∙ o .0, o .1 ∙ same (lt-or 0 i))) (λ o. inr (k ∙ o .0, o .1)) (v .order))
-      where
-        same : (0 < i) ⊎ (i ≤ 0) → ordered (drop (i - 1) codes) ≡ ordered (drop i codes)
-        same (inl z) = pair z ∙ ap (λ (b : Bool). b && ordered (drop i codes)) (le-leb end start g)
-        same (inr z) = let p : i - 1 ≡ i = omega arith in ap (λ (j : ℕ). ordered (drop j codes)) p
-
-    -- and falls where it starts before that
-    pub judge-bad : {r next : ℕ} → next ≡ start + sizeOf (cellOf (codeAt codes i)) → start < end → r ≡ 11 → Judged codes (i + 1) r next
-    judge-bad n g k =
-        next-judged n
-        (inr
-        (k, ⊎-elim (λ o. o .1 ∙ pair (later (lt-or 0 i)) ∙ ap (λ (b : Bool). b && ordered (drop i codes)) (lt-leb end start g)) (λ o. o .1) (v .order)))
-      where
-        later : (0 < i) ⊎ (i ≤ 0) → 0 < i
-        later (inl z) = z
-        later (inr z) = let f : end ≡ 0 = v .first (omega arith) in absurd (omega arith)
 
 -- ---- the heading
 
@@ -201,22 +236,22 @@ module _ (a : Arrangement) (codes : List ℕ) (room : ℕ) where
   first h = stops (arrangementRefusal a) _ h
 
   module _ (e : arrangementRefusal a ≡ 0) where
-    pub second : (codesRefusal codes ≡ 0 → ⊥) → writeRefusal a codes room ≡ codesRefusal codes
+    pub second : (codesRefusal a codes ≡ 0 → ⊥) → writeRefusal a codes room ≡ codesRefusal a codes
     unfolding writeRefusal rest
-    second h = passes (codesRefusal codes otherwise rest) e ∙ stops (codesRefusal codes) rest h
+    second h = passes (codesRefusal a codes otherwise rest) e ∙ stops (codesRefusal a codes) rest h
 
-    last : codesRefusal codes ≡ 0 → writeRefusal a codes room ≡ rest
+    last : codesRefusal a codes ≡ 0 → writeRefusal a codes room ≡ rest
     unfolding writeRefusal rest
-    last f = passes (codesRefusal codes otherwise rest) e ∙ passes rest f
+    last f = passes (codesRefusal a codes otherwise rest) e ∙ passes rest f
 
-    pub third : codesRefusal codes ≡ 0 → 65536 < length (textOf a codes) → writeRefusal a codes room ≡ 13
+    pub third : codesRefusal a codes ≡ 0 → 65536 < length (textOf a codes) → writeRefusal a codes room ≡ 13
     unfolding rest _otherwise_
     third f h = last f ∙ rw (lt-ltb 65536 (length (textOf a codes)) h) refl
 
-    pub fourth : codesRefusal codes ≡ 0 → length (textOf a codes) ≤ 65536 → room < length (textOf a codes) → writeRefusal a codes room ≡ 8
+    pub fourth : codesRefusal a codes ≡ 0 → length (textOf a codes) ≤ 65536 → room < length (textOf a codes) → writeRefusal a codes room ≡ 8
     unfolding rest _otherwise_
     fourth f g h = last f ∙ rw (le-ltb 65536 (length (textOf a codes)) g, lt-ltb room (length (textOf a codes)) h) refl
 
-    pub nothing : codesRefusal codes ≡ 0 → length (textOf a codes) ≤ 65536 → length (textOf a codes) ≤ room → writeRefusal a codes room ≡ 0
+    pub nothing : codesRefusal a codes ≡ 0 → length (textOf a codes) ≤ 65536 → length (textOf a codes) ≤ room → writeRefusal a codes room ≡ 0
     unfolding rest _otherwise_
     nothing f g h = last f ∙ rw (le-ltb 65536 (length (textOf a codes)) g, le-ltb room (length (textOf a codes)) h) refl

@@ -10,10 +10,11 @@ use Rattle.logic.specs.Refusal.{refuse, _otherwise_}
 use Rattle.cell.specs.declared.Cell.{Cell}
 use Rattle.cell.specs.declared.Arrangement.{Arrangement}
 use Rattle.cell.specs.Cell.{arrangementRefusal}
-use Rattle.code.specs.Code.{cellOf, isCode}
+use Rattle.code.specs.Code.{cellOf, arrangementOf, isCode, isOf}
 use Rattle.code.specs.Inside.{startOf, endOf, liesWithin}
 use Rattle.writing.specs.declared.Written.{Written}
 use Rattle.writing.specs.declared.Written.the-variants.{Length, Refused}
+use Rattle.logic.specs.Lists.{Any}
 use Rattle.reading.specs.Ground.{All, Rising, Apart}
 use Rattle.reading.specs.Written.{writtenText}
 
@@ -23,9 +24,15 @@ unfoldable pub allCodes : List ℕ → Bool
 allCodes [] = true
 allCodes (c ∷ cs) = isCode c && allCodes cs
 
--- a list of codes as 01 wants it
-pub record GoodList (codes : List ℕ) : Type 0 where
+-- each is of this arrangement
+unfoldable pub allOf : Arrangement → List ℕ → Bool
+allOf a [] = true
+allOf a (c ∷ cs) = isOf a c && allOf a cs
+
+-- a list of codes as 01 wants it, for an arrangement
+pub record GoodList (a : Arrangement) (codes : List ℕ) : Type 0 where
   pub coded : allCodes codes ≡ true
+  pub own : allOf a codes ≡ true
   pub rising : Rising (map cellOf codes)
   pub apart : Apart (map cellOf codes)
 
@@ -33,6 +40,10 @@ pub record GoodList (codes : List ℕ) : Type 0 where
 abbrev pub Stray : List ℕ → Type 0
 Stray [] = ⊥
 Stray (c ∷ cs) = (isCode c ≡ false) ⊎ Stray cs
+
+-- a code somewhere in the list is of another arrangement
+abbrev pub Another : Arrangement → List ℕ → Type 0
+Another a codes = Any (λ (c : ℕ). arrangementOf c ≡ a → ⊥) codes
 
 -- each cell's finest cells come before those of all later ones
 abbrev pub Earlier : ℕ → List Cell → Type 0
@@ -44,28 +55,29 @@ InTurn (c ∷ cs) = Earlier (endOf c) cs × InTurn cs
 
 -- ---- computed (Laws/List: 0 exactly for a good list)
 
--- each code is less than the next one, whose cell does not lie inside: neighbouring pairs decide
+-- each code is less than the next one, whose cell does not lie inside: neighbouring pairs decide, among codes of one arrangement
 unfoldable pub ordered : List ℕ → Bool
 ordered [] = true
 ordered (c ∷ []) = true
 ordered (c ∷ x ∷ cs) = ltb c x && (not (liesWithin (cellOf c) (cellOf x)) && ordered (x ∷ cs))
 
--- 4: "a code is no cell's". 11: "list not strictly rising, or one cell inside another"
-unfoldable pub codesRefusal : List ℕ → ℕ
-unfolding allCodes ordered
-codesRefusal codes = refuse (not (allCodes codes)) 4 otherwise refuse (not (ordered codes)) 11
+-- 4: "a code is no cell's". 14: "also for a list .. of another arrangement, still before 11" (02, W-210). 11: "list not strictly rising, or one cell
+-- inside another"
+unfoldable pub codesRefusal : Arrangement → List ℕ → ℕ
+unfolding allCodes allOf ordered
+codesRefusal a codes = refuse (not (allCodes codes)) 4 otherwise refuse (not (allOf a codes)) 14 otherwise refuse (not (ordered codes)) 11
 
 -- ---- the text and what is refused
 
 unfoldable pub textOf : Arrangement → List ℕ → List ℕ
 textOf a codes = writtenText (a .north) (a .south) (map cellOf codes)
 
--- 5, 4, 11; "13 is judged on the text of a good list"; 8: "lent buffer shorter than the answer"
+-- 5, 4, 14, 11; "13 is judged on the text of a good list"; 8: "lent buffer shorter than the answer"
 unfoldable pub writeRefusal : Arrangement → List ℕ → (room : ℕ) → ℕ
 unfolding codesRefusal textOf
 writeRefusal a codes room =
     arrangementRefusal a otherwise
-    codesRefusal codes otherwise
+    codesRefusal a codes otherwise
     refuse (ltb 65536 (length (textOf a codes))) 13 otherwise
     refuse (ltb room (length (textOf a codes))) 8
 

@@ -1,6 +1,7 @@
 // The accepted text of a list of cells.
 ghost use mathlib.Core.Path.{_≡_};
 ghost use mathlib.Core.Bool.{true, _&&_, not};
+ghost use mathlib.Core.List.{map};
 ghost use Prim.Native.Nat.{_+_, _-_, _*_, _^_, _≤_, _<_};
 ghost use lib.ListN.{length, set};
 ghost use lib.Seq.{sets};
@@ -8,10 +9,11 @@ ghost use Rattle.writing.specs.Internal.Measure.{StartAtPlace, NodeMeasu
 ghost use Rattle.writing.specs.Internal.Whole.{WholeUntil};
 ghost use Rattle.writing.specs.Internal.Put.{NodePut, ListPut};
 ghost use lib.Dec.{ltb};
-ghost use Rattle.logic.specs.Refusal.{given};
+ghost use Rattle.logic.specs.Refusal.{refuse, _otherwise_, given};
+ghost use Rattle.cell.specs.Cell.{IsArrangement};
 ghost use Rattle.code.specs.Code.{isCode, cellOf};
 ghost use Rattle.reading.specs.Text.{heading};
-ghost use Rattle.writing.specs.Write.{allCodes, codesRefusal, textOf, writeRefusal, textIn, written};
+ghost use Rattle.writing.specs.Write.{allCodes, InTurn, codesRefusal, textOf, writeRefusal, textIn, written};
 ghost use Rattle.writing.specs.Internal.Length.{LengthIs};
 use cell::Arrangement;
 
@@ -212,10 +214,27 @@ fn put_list(
     WrittenTo { next, place: ends }
 }
 
-// 4 or 11, or 0 where the codes make a good list: a code that is no cell's comes before all else. A cell that starts where the one before it
+// What is said of the codes so far, with one more: 14 where it is of another arrangement, which 11 does not undo; 11 where it does not follow.
+fn judged(refusal: u64, own: bool, follows: bool) -> u64
+    ensures { λ r. ⌜ r ≡ refuse (not own) 14 otherwise refusal otherwise refuse (not follows) 11 ⌝ }
+{
+    if !own {
+        return 14; // of another arrangement
+    }
+    if refusal != 0 {
+        return refusal;
+    }
+    if follows {
+        return 0;
+    }
+    11 // not rising, or nested
+}
+
+// 4, 14 or 11, or 0 where the codes make a good list: a code that is no cell's comes before all else. A cell that starts where the one before it
 // ends, or later, comes after it and not inside.
-fn list_refusal(codes: &[u64]) -> u64
-    ensures { λ r. ⌜ r ≡ codesRefusal (now (codes .entry)) ⌝ }
+fn list_refusal(arrangement: Arrangement, codes: &[u64]) -> u64
+    requires { ⌜ IsArrangement arrangement ⌝ }
+    ensures { λ r. ⌜ r ≡ codesRefusal arrangement (now (codes .entry)) ⌝ }
 {
     let mut refusal: u64 = 0;
     let mut end: u64 = 0;
@@ -225,10 +244,9 @@ fn list_refusal(codes: &[u64]) -> u64
         if !code::is_code(code) {
             return 4;
         }
+        let own = code::is_of(arrangement, code);
         let start = code::start_in(code);
-        if start < end {
-            refusal = 11;
-        }
+        refusal = judged(refusal, own, end <= start);
         end = start + code::size_in(code);
         i = i + 1;
     }
@@ -237,7 +255,7 @@ fn list_refusal(codes: &[u64]) -> u64
 
 // The length of the text of a good list.
 fn length_of(codes: &[u64]) -> u64
-    requires { ⌜ codesRefusal (now codes) ≡ 0 ⌝ }
+    requires { ⌜ (allCodes (now codes) ≡ true) × InTurn (map cellOf (now codes)) ⌝ }
     ensures { λ r. ⌜ LengthIs (now (codes .entry)) r ⌝ }
 {
     let faces = measure_list(codes, 0, 6, 0, code::FACE_SIZE);
@@ -258,7 +276,7 @@ fn put_heading(text: &mut [u8], north: u64, south: u64)
     put(text, 6, b'0' + south as u8);
 }
 
-// The text of a list of codes, into `text`: 5, 4, 11, 13 or 8 where there is none.
+// The text of a list of codes, into `text`: 5, 4, 14, 11, 13 or 8 where there is none.
 pub fn write(arrangement: Arrangement, codes: &[u64], text: &mut [u8]) -> Written
     ensures { λ r. ⌜ r ≡ written (writeRefusal arrangement (now (codes .entry)) (length (now (text .entry)))) (length (textOf arrangement (now (codes .entry)))) ⌝ }
     ensures { λ r. ⌜ now (text .exit) ≡ given (writeRefusal arrangement (now (codes .entry)) (length (now (text .entry)))) (textIn arrangement (now (codes .entry)) (now (text .entry))) (now (text .entry)) ⌝ }
@@ -269,7 +287,7 @@ pub fn write(arrangement: Arrangement, codes: &[u64], text: &mut [u8]) -> Writte
     if wrong != 0 {
         return Written::Refused(wrong);
     }
-    let refused = list_refusal(codes);
+    let refused = list_refusal(arrangement, codes);
     if refused != 0 {
         return Written::Refused(refused);
     }

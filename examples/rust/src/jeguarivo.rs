@@ -39,7 +39,8 @@ macro_rules! answers {
 
 answers! {
     Code { code: u64 }
-    Cell { face: u64, resolution: u64, row: u64, column: u64 }
+    Cell { n: u64, s: u64, face: u64, resolution: u64, row: u64, column: u64 }
+    Name { n: u64, s: u64, length: u64 }
     Length { length: u64 }
     Size { size: u64 }
     Shape { shape: u64 }
@@ -55,37 +56,37 @@ answers! {
 
 // Safe are those that take numbers alone: the library takes any.
 unsafe extern "C" {
-    pub safe fn jgv_cell_code(face: u64, resolution: u64, row: u64, column: u64) -> Code;
+    pub safe fn jgv_cell_code(n: u64, s: u64, face: u64, resolution: u64, row: u64, column: u64) -> Code;
     pub safe fn jgv_code_cell(code: u64) -> Cell;
-    pub fn jgv_name_code(name: *const u8, length: usize) -> Code;
-    pub fn jgv_code_name(code: u64, name: *mut u8, room: usize) -> Length;
+    pub fn jgv_name_code(n: u64, s: u64, name: *const u8, length: usize) -> Code;
+    pub fn jgv_code_name(code: u64, name: *mut u8, room: usize) -> Name;
     pub safe fn jgv_parent(code: u64) -> Code;
     pub safe fn jgv_child(code: u64, digit: u64) -> Code;
     pub safe fn jgv_size(code: u64) -> Size;
     pub safe fn jgv_shape(code: u64) -> Shape;
     pub safe fn jgv_corner_count(code: u64) -> Count;
-    pub safe fn jgv_square(n: u64, s: u64, code: u64) -> Square;
-    pub safe fn jgv_nucleus(n: u64, s: u64, code: u64) -> Point;
-    pub safe fn jgv_vertices(n: u64, s: u64, code: u64) -> Vertices;
+    pub safe fn jgv_square(code: u64) -> Square;
+    pub safe fn jgv_nucleus(code: u64) -> Point;
+    pub safe fn jgv_vertices(code: u64) -> Vertices;
     pub safe fn jgv_point_code(n: u64, s: u64, resolution: u64, x: i64, y: i64) -> Code;
     pub safe fn jgv_fix_code(n: u64, s: u64, resolution: u64, longitude: i64, z: i64) -> Code;
-    pub safe fn jgv_ground_nucleus(n: u64, s: u64, code: u64) -> Fix;
-    pub safe fn jgv_neighbour(n: u64, s: u64, code: u64, direction: u64) -> Code;
+    pub safe fn jgv_ground_nucleus(code: u64) -> Fix;
+    pub safe fn jgv_neighbour(code: u64, direction: u64) -> Code;
     pub fn jgv_coverage_check(text: *const u8, length: usize) -> Check;
     pub fn jgv_coverage_list(text: *const u8, length: usize, codes: *mut u64, room: usize) -> List;
     pub fn jgv_coverage_write(n: u64, s: u64, codes: *const u64, count: usize, text: *mut u8, room: usize) -> Length;
-    pub fn jgv_coverage_ask(n: u64, s: u64, text: *const u8, length: usize, code: u64) -> Ask;
+    pub fn jgv_coverage_ask(text: *const u8, length: usize, code: u64) -> Ask;
 }
 
 /// The entries that take memory, on slices. Each is safe: the library reads and writes lent memory within its length only.
 pub mod lent {
     use super::*;
 
-    pub fn name_code(name: &[u8]) -> Code {
-        unsafe { jgv_name_code(name.as_ptr(), name.len()) }
+    pub fn name_code(n: u64, s: u64, name: &[u8]) -> Code {
+        unsafe { jgv_name_code(n, s, name.as_ptr(), name.len()) }
     }
 
-    pub fn code_name(code: u64, name: &mut [u8]) -> Length {
+    pub fn code_name(code: u64, name: &mut [u8]) -> Name {
         unsafe { jgv_code_name(code, name.as_mut_ptr(), name.len()) }
     }
 
@@ -101,23 +102,25 @@ pub mod lent {
         unsafe { jgv_coverage_write(n, s, codes.as_ptr(), codes.len(), text.as_mut_ptr(), text.len()) }
     }
 
-    pub fn coverage_ask(n: u64, s: u64, text: &[u8], code: u64) -> Ask {
-        unsafe { jgv_coverage_ask(n, s, text.as_ptr(), text.len(), code) }
+    pub fn coverage_ask(text: &[u8], code: u64) -> Ask {
+        unsafe { jgv_coverage_ask(text.as_ptr(), text.len(), code) }
     }
 }
 
-pub fn cell_code(face: u64, resolution: u64, row: u64, column: u64) -> Answer<u64> {
-    Ok(jgv_cell_code(face, resolution, row, column).read()?.code)
+pub fn cell_code(n: u64, s: u64, face: u64, resolution: u64, row: u64, column: u64) -> Answer<u64> {
+    Ok(jgv_cell_code(n, s, face, resolution, row, column).read()?.code)
 }
 
+/// The arrangement and the cell of a code.
 pub fn code_cell(code: u64) -> Answer<Cell> {
     jgv_code_cell(code).read()
 }
 
-pub fn name_code(name: &[u8]) -> Answer<u64> {
-    Ok(lent::name_code(name).read()?.code)
+pub fn name_code(n: u64, s: u64, name: &[u8]) -> Answer<u64> {
+    Ok(lent::name_code(n, s, name).read()?.code)
 }
 
+/// The name alone; `code_cell` and `lent::code_name` answer n and s too.
 pub fn code_name(code: u64, name: &mut [u8]) -> Answer<&[u8]> {
     let written = lent::code_name(code, name).read()?;
     Ok(&name[..written.length as usize])
@@ -144,16 +147,16 @@ pub fn corner_count(code: u64) -> Answer<u64> {
     Ok(jgv_corner_count(code).read()?.count)
 }
 
-pub fn square(n: u64, s: u64, code: u64) -> Answer<Square> {
-    jgv_square(n, s, code).read()
+pub fn square(code: u64) -> Answer<Square> {
+    jgv_square(code).read()
 }
 
-pub fn nucleus(n: u64, s: u64, code: u64) -> Answer<Point> {
-    jgv_nucleus(n, s, code).read()
+pub fn nucleus(code: u64) -> Answer<Point> {
+    jgv_nucleus(code).read()
 }
 
-pub fn vertices(n: u64, s: u64, code: u64) -> Answer<Vertices> {
-    jgv_vertices(n, s, code).read()
+pub fn vertices(code: u64) -> Answer<Vertices> {
+    jgv_vertices(code).read()
 }
 
 pub fn point_code(n: u64, s: u64, resolution: u64, x: i64, y: i64) -> Answer<u64> {
@@ -164,13 +167,13 @@ pub fn fix_code(n: u64, s: u64, resolution: u64, longitude: i64, z: i64) -> Answ
     Ok(jgv_fix_code(n, s, resolution, longitude, z).read()?.code)
 }
 
-pub fn ground_nucleus(n: u64, s: u64, code: u64) -> Answer<Fix> {
-    jgv_ground_nucleus(n, s, code).read()
+pub fn ground_nucleus(code: u64) -> Answer<Fix> {
+    jgv_ground_nucleus(code).read()
 }
 
 /// Directions 0 to 3 are up, right, down, left.
-pub fn neighbour(n: u64, s: u64, code: u64, direction: u64) -> Answer<u64> {
-    Ok(jgv_neighbour(n, s, code, direction).read()?.code)
+pub fn neighbour(code: u64, direction: u64) -> Answer<u64> {
+    Ok(jgv_neighbour(code, direction).read()?.code)
 }
 
 /// A text's n and s, the number of its whole cells and the sum of their sizes.
@@ -188,6 +191,7 @@ pub fn coverage_write<'a>(n: u64, s: u64, codes: &[u64], text: &'a mut [u8]) -> 
     Ok(&text[..written.length as usize])
 }
 
-pub fn coverage_ask(n: u64, s: u64, text: &[u8], code: u64) -> Answer<bool> {
-    Ok(lent::coverage_ask(n, s, text, code).read()?.covered == 1)
+/// Refused with 14 where the code is of another arrangement than the text.
+pub fn coverage_ask(text: &[u8], code: u64) -> Answer<bool> {
+    Ok(lent::coverage_ask(text, code).read()?.covered == 1)
 }

@@ -10,22 +10,28 @@ fn name_of(code: u64) -> Answer<String> {
     Ok(String::from_utf8_lossy(name).into_owned())
 }
 
-fn code_of(name: &str) -> Answer<u64> {
-    name_code(name.as_bytes())
+/// A name says no arrangement, a code does.
+fn code_at(n: u64, s: u64, name: &str) -> Answer<u64> {
+    name_code(n, s, name.as_bytes())
 }
 
-/// A cell is a face, a resolution, a row from the top and a column from the left. It has one code and one name.
+fn code_of(name: &str) -> Answer<u64> {
+    code_at(0, 0, name)
+}
+
+/// A cell is a face, a resolution, a row from the top and a column from the left. It has one name, and one code in each arrangement.
 fn codes_and_names() -> Answer<()> {
-    let n1 = cell_code(0, 1, 0, 1)?;
-    println!("cell_code: face 0, resolution 1, row 0, column 1 -> {n1}");
-    let Cell { face, resolution, row, column, .. } = code_cell(n1)?;
-    println!("code_cell: {n1} -> face {face}, resolution {resolution}, row {row}, column {column}");
+    let n1 = cell_code(2, 1, 0, 1, 0, 1)?;
+    println!("cell_code: n 2, s 1, face 0, resolution 1, row 0, column 1 -> {n1}");
+    let Cell { n, s, face, resolution, row, column, .. } = code_cell(n1)?;
+    println!("code_cell: {n1} -> n {n}, s {s}, face {face}, resolution {resolution}, row {row}, column {column}");
     println!("code_name: {n1} -> {}", name_of(n1)?);
     for name in ["N", "N0", "N1", "O", "S888888888888888"] {
         println!("name_code: {name} -> {}", code_of(name)?);
     }
+    println!("name_code: S888888888888888, n 3, s 3 -> {}", code_at(3, 3, "S888888888888888")?);
     // Bad input is refused with a number; the header says what each number means.
-    match name_code(b"X1") {
+    match name_code(0, 0, b"X1") {
         Ok(code) => println!("name_code: X1 -> {code}"),
         Err(refused) => println!("name_code: X1 -> refused with {}", refused.number),
     }
@@ -53,20 +59,20 @@ fn shapes() -> Answer<()> {
 }
 
 fn print_square(n: u64, s: u64, name: &str, shown: &str) -> Answer<()> {
-    let Square { left, top, side, .. } = square(n, s, code_of(name)?)?;
+    let Square { left, top, side, .. } = square(code_at(n, s, name)?)?;
     println!("square: {shown} -> left {left}, top {top}, side {side}");
     Ok(())
 }
 
 fn print_nucleus(s: u64, name: &str, shown: &str) -> Answer<Point> {
-    let middle = nucleus(0, s, code_of(name)?)?;
+    let middle = nucleus(code_at(0, s, name)?)?;
     println!("nucleus: {shown} -> ({}, {})", middle.x, middle.y);
     Ok(middle)
 }
 
 /// The corners, owned or not: top left, top right, bottom right, bottom left.
 fn print_vertices(name: &str) -> Answer<Vertices> {
-    let corners = vertices(0, 0, code_of(name)?)?;
+    let corners = vertices(code_of(name)?)?;
     let points: Vec<String> = (0..4).map(|i| format!("({}, {})", corners.x[i], corners.y[i])).collect();
     println!("vertices: {name} -> {}", points.join(" "));
     Ok(corners)
@@ -114,7 +120,7 @@ fn ground() -> Answer<()> {
     }
     // Back from a cell to the fix of its middle; both numbers are floored, so P6 is no mirror of P0.
     for name in ["Q", "P0", "P6", "N4"] {
-        let Fix { longitude, z, .. } = ground_nucleus(0, 0, code_of(name)?)?;
+        let Fix { longitude, z, .. } = ground_nucleus(code_of(name)?)?;
         println!("ground_nucleus: {name} -> longitude {longitude}, z {z}");
     }
     Ok(())
@@ -122,8 +128,9 @@ fn ground() -> Answer<()> {
 
 fn neighbours() -> Answer<()> {
     for (direction, word) in (0..).zip(["up", "right", "down", "left"]) {
-        println!("neighbour: P0, {word} -> {}", name_of(neighbour(0, 0, code_of("P0")?, direction)?)?);
+        println!("neighbour: P0, {word} -> {}", name_of(neighbour(code_of("P0")?, direction)?)?);
     }
+    println!("neighbour: P0, up, n 1 -> {}", name_of(neighbour(code_at(1, 0, "P0")?, 0)?)?);
     Ok(())
 }
 
@@ -150,7 +157,7 @@ fn coverage() -> Answer<()> {
     let names = listed.iter().map(|&code| name_of(code)).collect::<Answer<Vec<String>>>()?;
     println!("coverage_list: P(34(1)) -> {}", names.join(" "));
     for name in ["P3", "P41", "P418", "P4"] {
-        let covered = coverage_ask(0, 0, text, code_of(name)?)?; // P4 is covered in part only: no
+        let covered = coverage_ask(text, code_of(name)?)?; // P4 is covered in part only: no
         println!("coverage_ask: P(34(1)), {name} -> {}", if covered { "yes" } else { "no" });
     }
     // A text that is not of the grammar is refused with 9; `place` says how much of it some good text begins with.
@@ -163,6 +170,22 @@ fn coverage() -> Answer<()> {
     Ok(())
 }
 
+/// An answer that should be a refusal, as the tour shows it.
+fn refusal<T>(answer: Answer<T>) -> String {
+    answer.map_or_else(|refused| format!("refused with {}", refused.number), |_| "an answer".to_string())
+}
+
+/// One place flown by two crews, in two arrangements: N8 in the first is N6 in the second. Codes of two arrangements are not taken together.
+fn two_arrangements() -> Answer<()> {
+    let [ours, theirs] = [0, 1].map(|n| fix_code(n, 0, 1, -900_000_000, 880_000_000_000_000_000));
+    let (ours, theirs) = (ours?, theirs?);
+    let mut room = [0; 32];
+    println!("coverage_write: N6, n 1, and N8, n 0 -> {}", refusal(coverage_write(0, 0, &[theirs, ours], &mut room)));
+    let text = coverage_write(0, 0, &[ours], &mut room)?;
+    println!("coverage_ask: N(8), N6, n 1 -> {}", refusal(coverage_ask(text, theirs)));
+    Ok(())
+}
+
 fn main() -> Answer<()> {
     codes_and_names()?;
     families()?;
@@ -170,5 +193,6 @@ fn main() -> Answer<()> {
     plane()?;
     ground()?;
     neighbours()?;
-    coverage()
+    coverage()?;
+    two_arrangements()
 }

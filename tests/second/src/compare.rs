@@ -1,5 +1,6 @@
 //! Runs the second program and the proved one on the same inputs, and counts what was met.
 
+use crate::grid::{arrangement_of, resolution_of};
 use crate::random::{Kind, Random, KINDS};
 use std::collections::BTreeMap;
 use std::fmt::Debug;
@@ -21,6 +22,22 @@ const LEAST: u64 = 1000;
 pub struct About {
     pub arrangement: Option<(u64, u64)>,
     pub resolution: u64,
+}
+
+impl About {
+    /// What an input that is asked in an arrangement holds.
+    pub fn arranged(n: u64, s: u64, resolution: u64) -> About {
+        About {
+            arrangement: Some((n, s)),
+            resolution,
+        }
+    }
+
+    /// What a code holds.
+    pub fn code(code: u64) -> About {
+        let (n, s) = arrangement_of(code);
+        About::arranged(n, s, resolution_of(code))
+    }
 }
 
 /// Writes a line past the test harness, which would hold it back for a test that passes.

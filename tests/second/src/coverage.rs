@@ -1,4 +1,5 @@
-//! Document 01's "The coverage text": checking, listing, asking and writing.
+//! Document 01's "The coverage text": checking, listing, asking and writing. Codes are those of
+//! document 02's W-210: a list or a question of another arrangement is refused with 14.
 //!
 //! A text is taken byte by byte by an automaton with a stack of what is open. The place of a bad
 //! text is found by its definition: a leading part counts where it can be completed to a text
@@ -6,7 +7,8 @@
 //! A text is written from the fewest cells of its ground by comparing each name with the one
 //! before it.
 
-use crate::grid::{code_of, finest_cells, Answer, Name, FINEST, LETTERS};
+use crate::grid::{arrangement_of, code_of, finest_cells, old_code_of, resolution_of};
+use crate::grid::{Answer, Name, FINEST, LETTERS};
 use std::ops::Range;
 
 /// "Text longer than 65,536 bytes, read or to be written": refusal 13.
@@ -223,12 +225,19 @@ pub type Span = Range<u64>;
 /// Finest cells as ranges, rising, with a gap between any two.
 pub type Ground = Vec<Span>;
 
-/// The finest cells of a code's cell, if it is some cell's. A code is 16 times the first finest
-/// cell's number, and the resolution; cells of one size begin at the multiples of the size.
+/// The finest cells of a code's cell, if it is some cell's. 01's code, which W-210 takes 16 times,
+/// is 16 times the first finest cell's number, and the resolution; cells of one size begin at the
+/// multiples of the size.
 pub fn span_of(code: u64) -> Option<Span> {
-    let (first, size) = (code / 16, finest_cells(code % 16));
+    let (first, size) = (code / 16 / 16, finest_cells(resolution_of(code)));
     let is_cell = first % size == 0 && first < 6 * finest_cells(0);
     is_cell.then(|| first..first + size)
+}
+
+/// The finest cells of a named cell.
+pub fn span_of_name(name: &Name) -> Span {
+    let first = old_code_of(name) / 16;
+    first..first + finest_cells(name.len() as u64 - 1)
 }
 
 /// The finest cells inside any of some cells, which may be nested, equal and in any order.
@@ -246,8 +255,7 @@ pub fn ground_of(mut spans: Vec<Span>) -> Ground {
 
 /// The ground of an accepted text.
 pub fn ground_of_text(text: &[u8]) -> Ground {
-    let span = |name: &Name| span_of(code_of(name)).expect("a cell's code");
-    ground_of(whole_cells(text).iter().map(span).collect())
+    ground_of(whole_cells(text).iter().map(span_of_name).collect())
 }
 
 /// The number of finest cells.
@@ -314,13 +322,17 @@ pub fn text_of(n: u64, s: u64, names: &[Name]) -> Vec<u8> {
     text
 }
 
-/// The text that some codes give; refuses 5, 4, 11, 13.
+/// The text that some codes give; refuses 5, 4, 14, 11, 13. "14 also for a list or a question of
+/// another arrangement, still before 11."
 pub fn written(n: u64, s: u64, codes: &[u64]) -> Answer<Vec<u8>> {
     if n > 3 || s > 3 {
         return Err(5);
     }
     let spans: Option<Vec<Span>> = codes.iter().map(|&code| span_of(code)).collect();
     let spans = spans.ok_or(4u64)?;
+    if codes.iter().any(|&code| arrangement_of(code) != (n, s)) {
+        return Err(14);
+    }
     let mut rising = codes.to_vec();
     rising.sort();
     rising.dedup();
@@ -350,12 +362,24 @@ fn lend<T: Copy>(answer: &[T], lent: &mut [T]) -> Answer<u64> {
 
 // ---------------------------------------------------------------- the entries
 
+/// The n and s of an accepted text's heading.
+pub fn arrangement_of_text(text: &[u8]) -> (u64, u64) {
+    (u64::from(text[5] - b'0'), u64::from(text[6] - b'0'))
+}
+
+/// The codes of an accepted text's whole cells, in the arrangement of its heading.
+pub fn whole_codes(text: &[u8]) -> Vec<u64> {
+    let (n, s) = arrangement_of_text(text);
+    let code = |name: &Name| code_of(n, s, name);
+    whole_cells(text).iter().map(code).collect()
+}
+
 /// The heading's n and s, the number of whole cells and the sum of their sizes; refuses 13, 10, 9.
 pub fn check(text: &[u8]) -> TextAnswer<Checked> {
     checked_text(text)?;
     let cells = whole_cells(text);
     let sizes = cells.iter().map(|name| finest_cells(name.len() as u64 - 1));
-    let [n, s] = [text[5], text[6]].map(|digit| u64::from(digit - b'0'));
+    let (n, s) = arrangement_of_text(text);
     Ok(Checked {
         n,
         s,
@@ -364,29 +388,26 @@ pub fn check(text: &[u8]) -> TextAnswer<Checked> {
     })
 }
 
-/// "The codes of the whole cells in rising order", to the front of lent memory, and their number;
-/// refuses 13, 10, 9, 8.
+/// "The codes of the whole cells in rising order", in the heading's arrangement, to the front of
+/// lent memory, and their number; refuses 13, 10, 9, 8.
 pub fn list(text: &[u8], lent: &mut [u64]) -> TextAnswer<u64> {
     checked_text(text)?;
-    let mut codes: Vec<u64> = whole_cells(text).iter().map(|name| code_of(name)).collect();
+    let mut codes = whole_codes(text);
     codes.sort();
     Ok(lend(&codes, lent)?)
 }
 
 /// "Takes rising codes, none inside another, and gives the accepted text of the same ground", to
-/// the front of lent memory, and its length; refuses 5, 4, 11, 13, 8.
+/// the front of lent memory, and its length; refuses 5, 4, 14, 11, 13, 8.
 pub fn write(n: u64, s: u64, codes: &[u64], lent: &mut [u8]) -> Answer<u64> {
     lend(&written(n, s, codes)?, lent)
 }
 
-/// "Whether all of one cell's finest cells are covered"; refuses 5, 4, 13, 10, 9, 14.
-pub fn ask(n: u64, s: u64, text: &[u8], code: u64) -> TextAnswer<bool> {
-    if n > 3 || s > 3 {
-        return Err(5.into());
-    }
+/// "Whether all of one cell's finest cells are covered"; refuses 4, 13, 10, 9, 14.
+pub fn ask(text: &[u8], code: u64) -> TextAnswer<bool> {
     let asked = span_of(code).ok_or(4u64)?;
     checked_text(text)?;
-    if !text.starts_with(&heading(n, s)) {
+    if arrangement_of(code) != arrangement_of_text(text) {
         return Err(14.into());
     }
     let ground = ground_of_text(text);

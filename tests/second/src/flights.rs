@@ -58,7 +58,7 @@ pub fn named(n: u64, s: u64, resolution: u64, input: &[u8]) -> Vec<u8> {
     let mut output = Vec::new();
     for line in lines(input) {
         match line_code(n, s, resolution, line) {
-            Ok(code) => output.extend(cell_of(code).expect("a cell's code")),
+            Ok(code) => output.extend(cell_of(code).expect("a cell's code").name),
             Err(refusal) => output.extend(refusal.to_string().bytes()),
         }
         output.push(b'\n');

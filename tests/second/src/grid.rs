@@ -1,4 +1,5 @@
-//! Document 01's "Faces, rows, names, codes", "The plane" and "Neighbours and shapes".
+//! Document 01's "Faces, rows, names, codes", "The plane" and "Neighbours and shapes", with the
+//! codes of document 02's W-210, which say their arrangement.
 //!
 //! A cell is its name here: a face letter, then a digit for each resolution. Codes, rows,
 //! squares and neighbours are worked out from the name, one digit at a time, and the way back
@@ -32,6 +33,14 @@ pub struct Place {
     pub resolution: u64,
     pub row: u64,
     pub column: u64,
+}
+
+/// What a code is of: an arrangement and a cell's name.
+#[derive(Clone, Debug, PartialEq, Eq)]
+pub struct Arranged {
+    pub n: u64,
+    pub s: u64,
+    pub name: Name,
 }
 
 /// A square of the plane, and which of its edges it owns: up, right, down, left.
@@ -154,9 +163,9 @@ fn checked_name(bytes: &[u8]) -> Answer<Name> {
 
 // ---------------------------------------------------------------- codes
 
-/// "Its code is (face x 9^15 + path x 9^(15-k)) x 16 + k". The bracket is the number of finest
+/// 01's code, "(face x 9^15 + path x 9^(15-k)) x 16 + k". The bracket is the number of finest
 /// cells that come before the cell: whole faces, then for each digit whole cells of its size.
-pub fn code_of(name: &[u8]) -> u64 {
+pub fn old_code_of(name: &[u8]) -> u64 {
     let mut size = finest_cells(0);
     let mut before = face_of(name) * size;
     for digit in digits_of(name) {
@@ -166,25 +175,54 @@ pub fn code_of(name: &[u8]) -> u64 {
     before * 16 + (name.len() as u64 - 1)
 }
 
-/// The cell with this code, if it is some cell's. "Code order is the byte order of names", so
+/// "A code becomes 16 times the old code, plus 4n + s."
+pub fn code_of(n: u64, s: u64, name: &[u8]) -> u64 {
+    16 * old_code_of(name) + 4 * n + s
+}
+
+/// The n and s with this 4n + s; 4n + s is below 16, so what is over a multiple of 16 tells it.
+pub fn arrangement_of(code: u64) -> (u64, u64) {
+    arrangements()
+        .find(|(n, s)| 4 * n + s == code % 16)
+        .expect("each number below 16 is some arrangement's")
+}
+
+/// All sixteen arrangements.
+pub fn arrangements() -> impl Iterator<Item = (u64, u64)> {
+    (0..4).flat_map(|n| (0..4).map(move |s| (n, s)))
+}
+
+/// The resolution that a cell's code says.
+pub fn resolution_of(code: u64) -> u64 {
+    code / 16 % 16
+}
+
+/// The arrangement and the cell with this code, if it is some cell's.
+pub fn cell_of(code: u64) -> Option<Arranged> {
+    let (n, s) = arrangement_of(code);
+    let name = old_cell_of(code / 16)?;
+    Some(Arranged { n, s, name })
+}
+
+/// The cell with 01's code, if it is some cell's. "Code order is the byte order of names", so
 /// each byte is the last one whose cell's code isn't above the code sought.
-pub fn cell_of(code: u64) -> Option<Name> {
+fn old_cell_of(code: u64) -> Option<Name> {
     let mut name = Name::new();
     for place in 0..=code % 16 {
         let bytes: &[u8] = if place == 0 { &LETTERS } else { b"012345678" };
         name.push(bytes[0]);
         for &byte in bytes.iter().rev() {
             *name.last_mut()? = byte;
-            if code_of(&name) <= code {
+            if old_code_of(&name) <= code {
                 break;
             }
         }
     }
-    (code_of(&name) == code).then_some(name)
+    (old_code_of(&name) == code).then_some(name)
 }
 
-/// The cell with this code, or refusal 4: "a code is no cell's".
-fn checked_code(code: u64) -> Answer<Name> {
+/// The arrangement and the cell with this code, or refusal 4: "a code is no cell's".
+fn checked_code(code: u64) -> Answer<Arranged> {
     cell_of(code).ok_or(4)
 }
 
@@ -197,8 +235,9 @@ fn checked_arrangement(n: u64, s: u64) -> Answer<()> {
     }
 }
 
-/// The code of a cell given by face, resolution, row and column; refuses 2, 1, 3.
-pub fn cell_code(face: u64, resolution: u64, row: u64, column: u64) -> Answer<u64> {
+/// The code of a cell given by face, resolution, row and column; refuses 5, 2, 1, 3.
+pub fn cell_code(n: u64, s: u64, face: u64, resolution: u64, row: u64, column: u64) -> Answer<u64> {
+    checked_arrangement(n, s)?;
     if resolution > FINEST {
         return Err(2);
     }
@@ -208,70 +247,75 @@ pub fn cell_code(face: u64, resolution: u64, row: u64, column: u64) -> Answer<u6
     if row.max(column) >= cells_along(resolution) {
         return Err(3);
     }
-    Ok(code_of(&name_of_place(Place {
+    let place = Place {
         face,
         resolution,
         row,
         column,
-    })))
+    };
+    Ok(code_of(n, s, &name_of_place(place)))
 }
 
-/// The face, resolution, row and column of a code; refuses 4.
-pub fn code_cell(code: u64) -> Answer<Place> {
-    let name = checked_code(code)?;
+/// n and s, and the face, resolution, row and column of a code: "a code's name, row and column
+/// come with them". Refuses 4.
+pub fn code_cell(code: u64) -> Answer<(u64, u64, Place)> {
+    let Arranged { n, s, name } = checked_code(code)?;
     let (row, column) = row_and_column(&name);
-    Ok(Place {
+    let place = Place {
         face: face_of(&name),
         resolution: name.len() as u64 - 1,
         row,
         column,
-    })
+    };
+    Ok((n, s, place))
 }
 
-/// The code of a name; refuses 2, 1, 3.
-pub fn name_code(bytes: &[u8]) -> Answer<u64> {
-    Ok(code_of(&checked_name(bytes)?))
+/// The code of a name in an arrangement, which names do not say; refuses 5, 2, 1, 3.
+pub fn name_code(n: u64, s: u64, bytes: &[u8]) -> Answer<u64> {
+    checked_arrangement(n, s)?;
+    Ok(code_of(n, s, &checked_name(bytes)?))
 }
 
-/// Writes a code's name to the front of a lent buffer, and answers its length; refuses 4, 8.
-/// "A refusal changes no lent byte; an answer changes only its own length."
-pub fn code_name(code: u64, buffer: &mut [u8]) -> Answer<u64> {
-    let name = checked_code(code)?;
+/// Writes a code's name to the front of a lent buffer, and answers n, s and its length; refuses
+/// 4, 8. "A refusal changes no lent byte; an answer changes only its own length."
+pub fn code_name(code: u64, buffer: &mut [u8]) -> Answer<(u64, u64, u64)> {
+    let Arranged { n, s, name } = checked_code(code)?;
     if buffer.len() < name.len() {
         return Err(8);
     }
     for (lent, byte) in buffer.iter_mut().zip(&name) {
         *lent = *byte;
     }
-    Ok(name.len() as u64)
+    Ok((n, s, name.len() as u64))
 }
 
-/// The cell that holds a cell: its name without the last digit. Refuses 4, 12.
+/// The cell that holds a cell, in its arrangement: its name without the last digit. Refuses 4, 12.
 pub fn parent(code: u64) -> Answer<u64> {
-    let mut name = checked_code(code)?;
+    let Arranged { n, s, mut name } = checked_code(code)?;
     name.pop();
     if name.is_empty() {
         return Err(12);
     }
-    Ok(code_of(&name))
+    Ok(code_of(n, s, &name))
 }
 
-/// One of the nine cells in a cell: its name and one digit more. Refuses 3, 4, 12.
+/// One of the nine cells in a cell, in its arrangement: its name and one digit more. Refuses 3,
+/// 4, 12.
 pub fn child(code: u64, digit: u64) -> Answer<u64> {
     if digit > 8 {
         return Err(3);
     }
-    let mut name = checked_code(code)?;
+    let Arranged { n, s, mut name } = checked_code(code)?;
     name.push(b'0' + digit as u8);
     if name.len() > 16 {
         return Err(12);
     }
-    Ok(code_of(&name))
+    Ok(code_of(n, s, &name))
 }
 
 /// The number of finest cells in a cell; refuses 4.
 pub fn size(code: u64) -> Answer<u64> {
-    Ok(finest_cells(checked_code(code)?.len() as u64 - 1))
+    Ok(finest_cells(checked_code(code)?.name.len() as u64 - 1))
 }
 
 // ---------------------------------------------------------------- the plane
@@ -350,16 +394,17 @@ fn name_of_point(n: u64, s: u64, resolution: u64, x: i64, y: i64) -> Option<Name
     Some(name_of(face, &digits))
 }
 
-/// The square of a code; refuses 5, 4.
-pub fn square(n: u64, s: u64, code: u64) -> Answer<Square> {
-    checked_arrangement(n, s)?;
-    Ok(square_of(n, s, &checked_code(code)?))
+/// The square of a code: "entries that took n and s beside a code now read them from it".
+/// Refuses 4.
+pub fn square(code: u64) -> Answer<Square> {
+    let Arranged { n, s, name } = checked_code(code)?;
+    Ok(square_of(n, s, &name))
 }
 
 /// "The nucleus is the middle." The nine children stand around it, so it is the middle of the
 /// middle child too; at the finest, the side is 2 and the middle one unit from each edge.
-pub fn nucleus(n: u64, s: u64, code: u64) -> Answer<(i64, i64)> {
-    let mut square = square(n, s, code)?;
+pub fn nucleus(code: u64) -> Answer<(i64, i64)> {
+    let mut square = square(code)?;
     while square.side > 2 {
         square = child_square(square, 4);
     }
@@ -367,8 +412,8 @@ pub fn nucleus(n: u64, s: u64, code: u64) -> Answer<(i64, i64)> {
 }
 
 /// "Vertices are given top left, top right, bottom right, bottom left, whether owned or not."
-pub fn vertices(n: u64, s: u64, code: u64) -> Answer<([i64; 4], [i64; 4])> {
-    let square = square(n, s, code)?;
+pub fn vertices(code: u64) -> Answer<([i64; 4], [i64; 4])> {
+    let square = square(code)?;
     let (left, top) = (square.left, square.top);
     let (right, bottom) = (left + square.side, top - square.side);
     Ok(([left, right, right, left], [top, top, bottom, bottom]))
@@ -381,7 +426,7 @@ pub fn point_code(n: u64, s: u64, resolution: u64, x: i64, y: i64) -> Answer<u64
         return Err(2);
     }
     let name = name_of_point(n, s, resolution, x, y).ok_or(7u64)?;
-    Ok(code_of(&name))
+    Ok(code_of(n, s, &name))
 }
 
 // ---------------------------------------------------------------- shapes
@@ -404,13 +449,13 @@ pub fn shape_of(name: &[u8]) -> Shape {
 
 /// The number of a code's shape; refuses 4.
 pub fn shape(code: u64) -> Answer<u64> {
-    Ok(shape_of(&checked_code(code)?) as u64)
+    Ok(shape_of(&checked_code(code)?.name) as u64)
 }
 
 /// "The number of cells that touch a cell at a corner only is 3 for a dart and 4 for any other
 /// shape." Refuses 4.
 pub fn corner_count(code: u64) -> Answer<u64> {
-    match shape_of(&checked_code(code)?) {
+    match shape_of(&checked_code(code)?.name) {
         Shape::Dart => Ok(3),
         _ => Ok(4),
     }
@@ -527,12 +572,11 @@ pub fn neighbour_of(n: u64, s: u64, name: &[u8], direction: u64) -> Name {
     }
 }
 
-/// The code of the cell one step from a code; refuses 5, 3, 4.
-pub fn neighbour(n: u64, s: u64, code: u64, direction: u64) -> Answer<u64> {
-    checked_arrangement(n, s)?;
+/// The code of the cell one step from a code, in its arrangement; refuses 3, 4.
+pub fn neighbour(code: u64, direction: u64) -> Answer<u64> {
     if direction > 3 {
         return Err(3);
     }
-    let name = checked_code(code)?;
-    Ok(code_of(&neighbour_of(n, s, &name, direction)))
+    let Arranged { n, s, name } = checked_code(code)?;
+    Ok(code_of(n, s, &neighbour_of(n, s, &name, direction)))
 }

@@ -6,7 +6,8 @@
 //! by squares of whole numbers, so nothing is ever rounded.
 
 use crate::big::Whole;
-use crate::grid::{cell_of, code_of, face_square, nucleus, Answer, FINEST, LETTERS, M};
+use crate::grid::{cell_of, code_of, face_square, nucleus, Answer, Arranged};
+use crate::grid::{FINEST, LETTERS, M};
 
 /// z = 1, in its units.
 pub const ONE: i64 = 1_000_000_000_000_000_000;
@@ -136,7 +137,8 @@ pub fn fix_code(n: u64, s: u64, resolution: u64, longitude: i64, z: i64) -> Answ
     if !(-HALF_TURN..=HALF_TURN).contains(&longitude) || !(-ONE..=ONE).contains(&z) {
         return Err(6);
     }
-    Ok(code_of(&name_of_fix(n, s, resolution, longitude, z)))
+    let name = name_of_fix(n, s, resolution, longitude, z);
+    Ok(code_of(n, s, &name))
 }
 
 // ---------------------------------------------------------------- the ground nucleus
@@ -204,10 +206,10 @@ pub fn ground_of_point(n: u64, s: u64, face: u64, x: i64, y: i64) -> (i64, i64) 
     }
 }
 
-/// The ground nucleus of a code; refuses 5, 4.
-pub fn ground_nucleus(n: u64, s: u64, code: u64) -> Answer<(i64, i64)> {
-    let (x, y) = nucleus(n, s, code)?;
-    let name = cell_of(code).expect("it has a nucleus");
+/// The ground nucleus of a code; refuses 4.
+pub fn ground_nucleus(code: u64) -> Answer<(i64, i64)> {
+    let (x, y) = nucleus(code)?;
+    let Arranged { n, s, name } = cell_of(code).expect("it has a nucleus");
     let face = u64::from(name[0] - b'N');
     Ok(ground_of_point(n, s, face, x, y))
 }

@@ -1,6 +1,6 @@
-//! The second program: the rules of documents 01 and 02 once more, in plain Rust, written from the papers
-//! alone, so that a mistake has to be made twice to go unseen. The tests compare it with the
-//! proved library, entry by entry. They prove nothing; the library's contracts do that.
+//! The second program: the rules of documents 01 and 02 once more, in plain Rust, written from
+//! the papers alone, so that a mistake has to be made twice to go unseen. The tests compare it
+//! with the proved library, entry by entry. They prove nothing; the library's contracts do that.
 //!
 //! RATTLE_LIBS names the folder of libjeguarivo.a: `cargo test --release --offline`. Without it
 //! the tests `grid`, `straight`, `ground` and `coverage` fail, and without RATTLE_BIN, the folder of

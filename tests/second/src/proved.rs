@@ -4,7 +4,7 @@
 use crate::compare::Refusing;
 use crate::coverage::{Checked, Refused, TextAnswer};
 use crate::grid::{self, Answer, Place};
-use jeguarivo::{Ask, Cell, Check, Code, Count, Fix, Length, List, Point, Shape, Size};
+use jeguarivo::{Ask, Cell, Check, Code, Count, Fix, Length, List, Name, Point, Shape, Size};
 use jeguarivo::{Square, Vertices};
 
 pub use jeguarivo::lent::{code_name, name_code};
@@ -52,8 +52,9 @@ macro_rules! like {
 
 like! {
     Code, Answer<u64>, code => { code: code };
-    Cell, Answer<Place>, at =>
-        { face: at.face, resolution: at.resolution, row: at.row, column: at.column };
+    Cell, Answer<(u64, u64, Place)>, (n, s, at) =>
+        { n: n, s: s, face: at.face, resolution: at.resolution, row: at.row, column: at.column };
+    Name, Answer<(u64, u64, u64)>, (n, s, length) => { n: n, s: s, length: length };
     Length, Answer<u64>, length => { length: length };
     Size, Answer<u64>, size => { size: size };
     Shape, Answer<u64>, shape => { shape: shape };

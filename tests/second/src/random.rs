@@ -1,6 +1,6 @@
 //! Inputs for the comparisons: random ones, ones at borders, and bad ones.
 
-use crate::grid::{cells_along, code_of, square_of, Name, LETTERS, M};
+use crate::grid::{cells_along, code_of, old_code_of, square_of, Name, LETTERS, M};
 
 /// What an input is meant to try. A bad one may still be a good one by chance.
 #[derive(Clone, Copy, Debug, PartialEq, Eq)]
@@ -12,8 +12,8 @@ pub enum Kind {
 
 pub const KINDS: [Kind; 3] = [Kind::Random, Kind::Border, Kind::Bad];
 
-/// The greatest code, of S and fifteen 8s.
-pub const GREATEST: u64 = 19_765_548_681_086_303;
+/// The greatest code, of S and fifteen 8s at n = s = 3.
+pub const GREATEST: u64 = 316_248_778_897_380_863;
 
 /// Bytes on either side of a lent buffer, which have to stay as they are.
 pub const GUARD: usize = 16;
@@ -32,7 +32,7 @@ const WIDTHS: [u64; 12] = [
     (1 << 32) - 1,
     1 << 32,
     (1 << 32) + 1,
-    1 << 55,
+    1 << 59,
     1 << 62,
     (1 << 63) - 1,
     1 << 63,
@@ -200,30 +200,32 @@ impl Random {
         (0..room + 2 * GUARD).map(|_| self.any() as u8).collect()
     }
 
-    /// A code; a bad one is most often no cell's.
+    /// A code of any arrangement; a bad one is most often no cell's.
     pub fn code(&mut self, kind: Kind) -> u64 {
         if self.spoils(kind) {
             self.bad_code()
         } else {
             let name = self.name(kind);
-            code_of(&name)
+            code_of(self.below(4), self.below(4), &name)
         }
     }
 
-    /// Numbers near codes: one off, another resolution, a digit below the resolution, past the
-    /// greatest, a width too wide, or any.
+    /// Numbers near codes: one off, 01's code alone, another resolution, a digit below the
+    /// resolution, past the greatest, a width too wide, or any. One off is most often the code of
+    /// the same cell in another arrangement.
     pub fn bad_code(&mut self) -> u64 {
         let name = self.name(Kind::Random);
-        let code = code_of(&name);
-        match self.below(9) {
-            0 => code.wrapping_add(1),
-            1 => code.wrapping_sub(1),
-            2 => code ^ self.below(16),
-            3 => code + 16 * self.below(9u64.pow(16 - name.len() as u32)),
-            4 => code + 16 * 9u64.pow(self.below(16) as u32),
-            5 => GREATEST - 17 + self.below(64),
+        let code = code_of(self.below(4), self.below(4), &name);
+        match self.below(10) {
+            0 => code.wrapping_add(self.pick(&[1, 16])),
+            1 => code.wrapping_sub(self.pick(&[1, 16])),
+            2 => code ^ self.below(256),
+            3 => code + 256 * self.below(9u64.pow(16 - name.len() as u32)),
+            4 => code + 256 * 9u64.pow(self.below(16) as u32),
+            5 => GREATEST - 17 * 16 + self.below(64 * 16),
             6 => code.wrapping_add(self.pick(&WIDTHS)),
             7 => self.any() % (GREATEST + GREATEST / 9),
+            8 => old_code_of(&name),
             _ => self.any(),
         }
     }

@@ -4,7 +4,7 @@
 use crate::coverage::{
     accepts, heading, name_of_span, span_of, whole_cells, HEADING, LONGEST, RULES,
 };
-use crate::grid::{code_of, Name, LETTERS};
+use crate::grid::{arrangement_of, code_of, resolution_of, Name, LETTERS};
 use crate::random::{Kind, Random, GUARD};
 use std::fmt;
 
@@ -70,6 +70,13 @@ enum Style {
 /// The most bytes that the nodes of a list may have at a depth, if not above a million.
 fn most_bytes(depth: usize) -> usize {
     (depth..15).fold(8, |most, _| (9 * (3 + most)).min(1_000_000))
+}
+
+/// The codes of names in an arrangement; of numbers above 3 what is over a multiple of 4 counts,
+/// so that a list is of some arrangement.
+pub fn codes_of(n: u64, s: u64, names: &[Name]) -> Vec<u64> {
+    let code = |name: &Name| code_of(n % 4, s % 4, name);
+    names.iter().map(code).collect()
 }
 
 /// The names of a cell's nine children.
@@ -344,9 +351,20 @@ impl Random {
         ])
     }
 
+    /// The arrangement of a text, as far as its heading tells one; one time in ten any other.
+    fn asked_arrangement(&mut self, text: &[u8]) -> (u64, u64) {
+        let own = |at: usize| text.get(at).map_or(0, |byte| u64::from(byte & 3));
+        match self.below(20) {
+            0 => (own(6), own(5)),
+            1 => (self.below(4), self.below(4)),
+            _ => (own(5), own(6)),
+        }
+    }
+
     /// A code to ask about: a whole cell of the text, one that holds it, one in it, one beside
-    /// it, or any.
+    /// it, or any; most often in the text's own arrangement.
     pub fn asked_code(&mut self, kind: Kind, text: &[u8]) -> u64 {
+        let (n, s) = self.asked_arrangement(text);
         let cells = match accepts(RULES, text) {
             true => whole_cells(text),
             false => vec![],
@@ -355,7 +373,8 @@ impl Random {
             return self.bad_code();
         }
         if cells.is_empty() || self.chance(8) {
-            return self.code(Kind::Random);
+            let name = self.name(Kind::Random);
+            return code_of(n, s, &name);
         }
         let nth = self.below(cells.len() as u64) as usize;
         let mut name = cells[nth].clone();
@@ -373,7 +392,7 @@ impl Random {
             }
             _ => (),
         }
-        code_of(&name)
+        code_of(n, s, &name)
     }
 
     /// The names with some cells split into their nine children, and theirs again.
@@ -391,9 +410,9 @@ impl Random {
         split
     }
 
-    /// A good list of codes: the whole cells of a text, some of them split; at a border, with
-    /// one left out, or a whole family of some generations.
-    fn good_codes(&mut self, kind: Kind) -> Vec<u64> {
+    /// The names of a good list of codes: the whole cells of a text, some of them split; at a
+    /// border, with one left out, or a whole family of some generations.
+    fn good_names(&mut self, kind: Kind) -> Vec<Name> {
         if kind == Kind::Border && self.chance(40) {
             // all cells of a resolution in a cell
             let mut names = vec![self.name(Kind::Border)];
@@ -416,36 +435,56 @@ impl Random {
         let names = self.split(whole_cells(&text), split);
         match kind {
             Kind::Border => self.without_one(names),
-            _ => names.iter().map(|name| code_of(name)).collect(),
+            _ => names,
         }
     }
 
-    /// The codes of names, sometimes without one of them.
-    fn without_one(&mut self, mut names: Vec<Name>) -> Vec<u64> {
+    /// The names, sometimes without one of them.
+    fn without_one(&mut self, mut names: Vec<Name>) -> Vec<Name> {
         if !names.is_empty() && self.chance(2) {
             names.remove(self.below(names.len() as u64) as usize);
         }
-        names.iter().map(|name| code_of(name)).collect()
+        names
     }
 
-    /// A list of codes; a bad one has a code that is no cell's, one twice, two exchanged, one
-    /// inside another, or the wrong order.
-    pub fn codes(&mut self, kind: Kind) -> Vec<u64> {
-        if kind != Kind::Bad {
-            return self.good_codes(kind);
-        }
-        let mut codes = self.good_codes(Kind::Random);
-        for _ in 0..self.pick(&[0, 1, 1, 1, 2]) {
-            self.spoil(&mut codes);
+    /// A list of codes of an arrangement; a bad one has a code that is no cell's, one twice, two
+    /// exchanged, one inside another, or the wrong order, or codes of two arrangements, or it is
+    /// of another arrangement all together.
+    pub fn codes(&mut self, kind: Kind, n: u64, s: u64) -> Vec<u64> {
+        let from = match kind {
+            Kind::Bad => Kind::Random,
+            _ => kind,
+        };
+        let names = self.good_names(from);
+        let mut codes = codes_of(n, s, &names);
+        if kind == Kind::Bad {
+            for _ in 0..self.pick(&[0, 1, 1, 1, 2, 3]) {
+                self.spoil(&mut codes);
+            }
         }
         codes
+    }
+
+    /// Codes of two arrangements: one code in another one, all from one place on, or all.
+    fn mix(&mut self, at: usize, codes: &mut [u64]) {
+        let other = |code: u64, by: u64| code / 16 * 16 + (code + by) % 16;
+        let by = self.pick(&[1, 3, 4, 12, 15]);
+        let end = match self.below(3) {
+            0 => codes.len(),
+            _ => at + 1,
+        };
+        let from = if self.chance(8) { 0 } else { at };
+        for code in codes.iter_mut().take(end).skip(from) {
+            *code = other(*code, by);
+        }
     }
 
     fn spoil(&mut self, codes: &mut Vec<u64>) {
         let at = self.below(codes.len() as u64 + 1) as usize;
         let end = codes.len();
         let cell = codes.get(at).and_then(|&code| span_of(code));
-        match (self.below(9), cell) {
+        let (n, s) = arrangement_of(codes.get(at).copied().unwrap_or(0));
+        match (self.below(11), cell) {
             (0, _) => codes.insert(at, self.bad_code()),
             (1, Some(_)) => codes[at] = self.bad_code(),
             (2, Some(_)) => codes.insert(at, codes[at]),
@@ -458,17 +497,17 @@ impl Random {
                 // one that holds it, in its place by order
                 let mut name = name_of_span(&span);
                 name.truncate(1 + self.below(name.len() as u64) as usize);
-                codes.push(code_of(&name));
+                codes.push(code_of(n, s, &name));
                 codes.sort();
             }
             (6, Some(span)) => {
                 // one inside it, in its place by order
                 let mut name = name_of_span(&span);
-                while name.len() < 16 && (name.len() as u64 == codes[at] % 16 + 1 || self.chance(2))
-                {
+                let length = resolution_of(codes[at]) as usize + 1;
+                while name.len() < 16 && (name.len() == length || self.chance(2)) {
                     name.push(self.pick(b"0123456788"));
                 }
-                codes.push(code_of(&name));
+                codes.push(code_of(n, s, &name));
                 codes.sort();
             }
             (7, _) => codes.reverse(),
@@ -476,13 +515,17 @@ impl Random {
                 let again = codes[at..].to_vec();
                 codes.extend(again);
             }
-            _ => codes.push(self.code(Kind::Random)),
+            (9 | 10, Some(_)) => self.mix(at, codes),
+            _ => {
+                let name = self.name(Kind::Random);
+                codes.push(code_of(n, s, &name));
+            }
         }
     }
 
     /// A list whose text is about as long as a text may be: not longer, or longer. Some of the
     /// cells are split, so that the text gets shorter by merging.
-    pub fn long_codes(&mut self, longer: bool) -> Vec<u64> {
+    pub fn long_codes(&mut self, longer: bool, n: u64, s: u64) -> Vec<u64> {
         let lengths = match longer {
             true => [1, 1, 2, 5000],
             false => [0, 0, -1, -100],
@@ -491,6 +534,6 @@ impl Random {
         let text = self.text_of_length(length as usize);
         let split = self.pick(&[50, 1000, 1_000_000]);
         let names = self.split(whole_cells(&text), split);
-        names.iter().map(|name| code_of(name)).collect()
+        codes_of(n, s, &names)
     }
 }

@@ -16,54 +16,91 @@ fn names(resolution: u64) -> Vec<Name> {
     names
 }
 
-fn arrangements() -> impl Iterator<Item = (u64, u64)> {
-    (0..16).map(|both| (both / 4, both % 4))
+/// 01's codes, and 02's: 16 times as much and 4n + s.
+#[test]
+fn codes_that_the_papers_give() {
+    let old: [(&[u8], u64); 5] = [
+        (b"N", 0),
+        (b"N0", 1),
+        (b"N1", 366_028_679_279_377),
+        (b"O", 3_294_258_113_514_384),
+        (b"S888888888888888", 19_765_548_681_086_303),
+    ];
+    for (name, code) in old {
+        assert_eq!(old_code_of(name), code);
+        for (n, s) in arrangements() {
+            assert_eq!(name_code(n, s, name), Ok(16 * code + 4 * n + s));
+        }
+    }
+    assert_eq!(name_code(0, 0, b"N0"), Ok(16), "N0 at n = s = 0 is 16");
+    assert_eq!(name_code(3, 3, b"S888888888888888"), Ok(GREATEST));
+    assert_eq!(cell_of(GREATEST + 1), None);
+    assert_eq!(arrangements().count(), 16);
 }
 
+/// n and s are refused first, with 5, by the entries that take them now.
 #[test]
-fn codes_that_01_gives() {
-    assert_eq!(name_code(b"N"), Ok(0));
-    assert_eq!(name_code(b"N0"), Ok(1));
-    assert_eq!(name_code(b"N1"), Ok(366_028_679_279_377));
-    assert_eq!(name_code(b"O"), Ok(3_294_258_113_514_384));
-    assert_eq!(name_code(b"S888888888888888"), Ok(GREATEST));
-    assert_eq!(cell_of(GREATEST + 1), None);
+fn arrangements_that_are_none() {
+    for (n, s) in [(4, 0), (0, 4), (u64::MAX, 7)] {
+        assert_eq!(name_code(n, s, b"X"), Err(5));
+        assert_eq!(cell_code(n, s, 6, 16, 1, 1), Err(5));
+    }
 }
 
 #[test]
 fn names_codes_and_places_turn_into_each_other() {
-    let mut all = Vec::new();
-    for resolution in 0..=5 {
-        for name in names(resolution) {
-            let code = code_of(&name);
-            assert_eq!(cell_of(code).as_ref(), Some(&name));
-            let at = code_cell(code).unwrap();
-            assert_eq!(at.resolution, resolution);
-            assert_eq!(
-                cell_code(at.face, at.resolution, at.row, at.column),
-                Ok(code)
-            );
-            let path = name[1..]
-                .iter()
-                .fold(0, |path, d| path * 9 + u64::from(d - b'0'));
-            let by_formula =
-                (at.face * 9u64.pow(15) + path * 9u64.pow(15 - resolution as u32)) * 16;
-            assert_eq!(code, by_formula + resolution);
-            all.push((name, code));
+    for (n, s) in arrangements() {
+        let mut all = Vec::new();
+        for resolution in 0..=4 {
+            for name in names(resolution) {
+                let code = code_of(n, s, &name);
+                let found = cell_of(code).unwrap();
+                assert_eq!((found.n, found.s, &found.name), (n, s, &name));
+                let (of_n, of_s, at) = code_cell(code).unwrap();
+                assert_eq!((of_n, of_s, at.resolution), (n, s, resolution));
+                let again = cell_code(n, s, at.face, at.resolution, at.row, at.column);
+                assert_eq!(again, Ok(code));
+                let path = name[1..]
+                    .iter()
+                    .fold(0, |path, d| path * 9 + u64::from(d - b'0'));
+                let before = at.face * 9u64.pow(15) + path * 9u64.pow(15 - resolution as u32);
+                assert_eq!(code, (before * 16 + resolution) * 16 + 4 * n + s);
+                all.push((name, code));
+            }
+        }
+        all.sort();
+        assert!(
+            all.windows(2).all(|pair| pair[0].1 < pair[1].1),
+            "code order among cells of one arrangement is the byte order of names"
+        );
+    }
+}
+
+/// "Codes of two arrangements are never equal": all codes of the cells up to resolution 3.
+#[test]
+fn codes_of_two_arrangements_differ() {
+    let cells: Vec<Name> = (0..=3).flat_map(names).collect();
+    let mut all: Vec<u64> = arrangements()
+        .flat_map(|(n, s)| cells.iter().map(move |name| code_of(n, s, name)))
+        .collect();
+    let count = all.len();
+    all.sort();
+    all.dedup();
+    assert_eq!((all.len(), count), (16 * cells.len(), 16 * cells.len()));
+    for code in all {
+        let (n, s) = arrangement_of(code);
+        let kept = [parent(code), child(code, 4), neighbour(code, UP)];
+        for code in kept.into_iter().flatten() {
+            assert_eq!(arrangement_of(code), (n, s));
         }
     }
-    all.sort();
-    assert!(
-        all.windows(2).all(|pair| pair[0].1 < pair[1].1),
-        "code order is the byte order of names"
-    );
 }
 
 #[test]
 fn families() {
     for resolution in 0..=4 {
         for name in names(resolution) {
-            let code = code_of(&name);
+            let code = code_of(1, 2, &name);
             let mut sizes = 0;
             for digit in 0..9 {
                 let child = child(code, digit).unwrap();
@@ -81,7 +118,7 @@ fn shapes_by_row_and_column() {
         let m = cells_along(resolution);
         let mut counts = [0; 4];
         for name in names(resolution) {
-            let at = code_cell(code_of(&name)).unwrap();
+            let (_, _, at) = code_cell(code_of(0, 0, &name)).unwrap();
             let (i, j) = (at.row, at.column);
             let by_01 = if (1..=4).contains(&at.face) {
                 Shape::Quad
@@ -159,11 +196,12 @@ fn neighbour_by_table(n: u64, s: u64, at: Place, direction: u64) -> (u64, u64, u
 fn neighbours_digit_by_digit_are_those_of_the_whole_table() {
     for resolution in 0..=3 {
         for name in names(resolution) {
-            let at = code_cell(code_of(&name)).unwrap();
             for (n, s) in arrangements() {
+                let code = code_of(n, s, &name);
+                let (_, _, at) = code_cell(code).unwrap();
                 for direction in 0..4 {
-                    let next = neighbour_of(n, s, &name, direction);
-                    let to = code_cell(code_of(&next)).unwrap();
+                    let next = neighbour(code, direction).unwrap();
+                    let (_, _, to) = code_cell(next).unwrap();
                     assert_eq!(
                         (to.face, to.row, to.column),
                         neighbour_by_table(n, s, at, direction)
@@ -208,7 +246,8 @@ fn every_point_of_the_image_is_in_exactly_one_cell() {
             for &y in &ys {
                 let owners: Vec<_> = near.iter().filter(|(_, q)| holds(*q, x, y)).collect();
                 assert_eq!(owners.len(), usize::from(in_image(n, s, x, y)), "{x} {y}");
-                let wanted = owners.first().map(|(name, _)| code_of(name)).ok_or(7);
+                let owner = owners.first().map(|(name, _)| code_of(n, s, name));
+                let wanted = owner.ok_or(7);
                 assert_eq!(point_code(n, s, 2, x, y), wanted);
             }
         }
@@ -219,10 +258,10 @@ fn every_point_of_the_image_is_in_exactly_one_cell() {
 fn a_nucleus_is_the_middle_and_lies_in_its_cell() {
     for resolution in 0..=4 {
         for name in names(resolution) {
-            let code = code_of(&name);
             for (n, s) in [(0, 0), (3, 1), (2, 2)] {
-                let (x, y) = nucleus(n, s, code).unwrap();
-                let (xs, ys) = vertices(n, s, code).unwrap();
+                let code = code_of(n, s, &name);
+                let (x, y) = nucleus(code).unwrap();
+                let (xs, ys) = vertices(code).unwrap();
                 assert_eq!((2 * x, 2 * y), (xs[0] + xs[2], ys[0] + ys[2]));
                 assert_eq!(point_code(n, s, resolution, x, y), Ok(code));
             }

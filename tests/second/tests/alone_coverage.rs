@@ -3,8 +3,9 @@
 
 use second::compare::say;
 use second::coverage::*;
-use second::grid::{cell_of, code_of, finest_cells, Name, LETTERS};
+use second::grid::{arrangements, cell_of, code_of, finest_cells, Name, LETTERS};
 use second::random::{Kind, Random};
+use second::texts::codes_of;
 use std::collections::{BTreeMap, BTreeSet, HashMap, HashSet};
 
 // ---------------------------------------------------------------- derivations
@@ -282,10 +283,7 @@ fn readings() {
     for (body, cells) in &all {
         let text = text(body);
         assert_eq!(whole_cells(&text), *cells);
-        let spans: Vec<Span> = cells
-            .iter()
-            .map(|name| span_of(code_of(name)).unwrap())
-            .collect();
+        let spans: Vec<Span> = cells.iter().map(span_of_name).collect();
         let size = spans.iter().map(|span| span.end - span.start).sum();
         let count = cells.len() as u64;
         let checked = Checked {
@@ -297,10 +295,7 @@ fn readings() {
         assert_eq!(check(&text), Ok(checked));
         let mut codes = vec![0; cells.len()];
         assert_eq!(list(&text, &mut codes), Ok(count));
-        assert_eq!(
-            codes,
-            cells.iter().map(|name| code_of(name)).collect::<Vec<u64>>()
-        );
+        assert_eq!(codes, codes_of(0, 0, cells));
         let ground = ground_of_text(&text);
         assert_eq!(ground_size(&ground), size);
         if let Some(other) = grounds.insert(ground, text.clone()) {
@@ -366,15 +361,14 @@ fn the_fewest_cells() {
     let mut merges = 0;
     for _ in 0..30_000 {
         let any = any_cells(&mut random);
-        let span = |name: &Name| span_of(code_of(name)).unwrap();
-        let ground = ground_of(any.iter().map(span).collect());
+        let ground = ground_of(any.iter().map(span_of_name).collect());
         let few: Vec<Name> = fewest(&ground).iter().map(name_of_span).collect();
         assert_eq!(few, merged(&any));
         let distinct: BTreeSet<&Name> = any.iter().collect();
         assert!(few.len() <= distinct.len());
         merges += u64::from(few.iter().any(|name| !distinct.contains(name)));
         for name in few.iter().filter(|name| name.len() > 1) {
-            let parent = span(&name[..name.len() - 1].to_vec());
+            let parent = span_of_name(&name[..name.len() - 1].to_vec());
             assert!(!ground
                 .iter()
                 .any(|r| r.start <= parent.start && parent.end <= r.end));
@@ -389,7 +383,7 @@ fn the_fewest_cells() {
 }
 
 /// Writing what was listed gives the same bytes, and asking finds exactly what lies inside a
-/// whole cell.
+/// whole cell. In another arrangement both are refused with 14.
 #[test]
 fn written_again_and_asked() {
     let mut random = Random::for_test("written_again_and_asked");
@@ -399,7 +393,7 @@ fn written_again_and_asked() {
             0 => random.text_of_length(LONGEST),
             _ => random.text(Kind::Random),
         };
-        let (n, s) = (u64::from(text[5] - b'0'), u64::from(text[6] - b'0'));
+        let (n, s) = arrangement_of_text(&text);
         let cells = whole_cells(&text);
         let mut codes = vec![0; cells.len()];
         assert_eq!(list(&text, &mut codes), Ok(cells.len() as u64));
@@ -407,18 +401,48 @@ fn written_again_and_asked() {
         let mut lent = vec![0xEE; text.len()];
         assert_eq!(write(n, s, &codes, &mut lent), Ok(text.len() as u64));
         assert_eq!(lent, text);
+        if !codes.is_empty() {
+            assert_eq!(written(n, (s + 1) % 4, &codes), Err(14));
+            assert_eq!(written((n + 3) % 4, s, &codes), Err(14));
+        }
         for _ in 0..4 {
-            let code = random.asked_code(Kind::Random, &text);
-            let name = cell_of(code).unwrap();
-            let inside = cells.iter().any(|cell| name.starts_with(cell));
-            assert_eq!(ask(n, s, &text, code), Ok(inside));
+            let asked = cell_of(random.asked_code(Kind::Random, &text)).unwrap();
+            let inside = cells.iter().any(|cell| asked.name.starts_with(cell));
+            for (of_n, of_s) in [(n, s), ((n + 1) % 4, s), (n, (s + 3) % 4)] {
+                let wanted = match (of_n, of_s) == (n, s) {
+                    true => Ok(inside),
+                    false => Err(14.into()),
+                };
+                assert_eq!(ask(&text, code_of(of_n, of_s, &asked.name)), wanted);
+            }
             *(if inside { &mut yes } else { &mut no }) += 1;
-            assert_eq!(ask((n + 1) % 4, s, &text, code), Err(14.into()));
-            assert_eq!(ask(n, (s + 3) % 4, &text, code), Err(14.into()));
         }
     }
     say(&format!("asked: covered {yes}, not {no}"));
     assert!(yes > 10_000 && no > 10_000);
+}
+
+/// A text of each arrangement asked with codes of each, and lists of codes of two: 14 exactly
+/// where they differ.
+#[test]
+fn two_arrangements() {
+    for (n, s) in arrangements() {
+        let body = text_of(n, s, &[b"P3".to_vec(), b"P41".to_vec()]);
+        for (of_n, of_s) in arrangements() {
+            let same = (of_n, of_s) == (n, s);
+            let [first, second] = [b"P3".to_vec(), b"P41".to_vec()];
+            let mixed = [code_of(n, s, &first), code_of(of_n, of_s, &second)];
+            let wanted = if same { Ok(body.clone()) } else { Err(14) };
+            assert_eq!(written(n, s, &mixed), wanted);
+            let falling = [mixed[1], mixed[0]];
+            let wanted = if same { 11 } else { 14 };
+            assert_eq!(written(n, s, &falling), Err(wanted));
+            let bad = [mixed[1], mixed[0], u64::MAX];
+            assert_eq!(written(n, s, &bad), Err(4));
+            let wanted = if same { Ok(true) } else { Err(14.into()) };
+            assert_eq!(ask(&body, code_of(of_n, of_s, b"P418")), wanted);
+        }
+    }
 }
 
 #[test]
@@ -427,11 +451,12 @@ fn spans_are_those_of_the_grid() {
     for _ in 0..100_000 {
         let code = random.code(Kind::Bad);
         let span = span_of(code);
-        let name = cell_of(code);
+        let name = cell_of(code).map(|cell| cell.name);
         assert_eq!(span.as_ref().map(name_of_span), name);
         if let (Some(span), Some(name)) = (span, name) {
             assert_eq!(span.end - span.start, finest_cells(name.len() as u64 - 1));
-            assert_eq!(span.start, code / 16);
+            assert_eq!(span.start, code / 256);
+            assert_eq!(span_of_name(&name), span);
         }
     }
 }
@@ -439,7 +464,8 @@ fn spans_are_those_of_the_grid() {
 // ---------------------------------------------------------------- printed
 
 fn codes(names: &[&str]) -> Vec<u64> {
-    names.iter().map(|name| code_of(name.as_bytes())).collect()
+    let code = |name: &&str| code_of(0, 0, name.as_bytes());
+    names.iter().map(code).collect()
 }
 
 fn at(place: u64) -> Refused {
@@ -536,16 +562,24 @@ fn refusals() {
     assert_eq!(written(0, 0, &codes(&["P3", "P30000", "P4"])), Err(11));
     assert_eq!(written(0, 0, &codes(&["P", "Q", "P3"])), Err(11));
 
-    assert_eq!(ask(0, 4, &long, bad), Err(5.into()));
-    assert_eq!(ask(0, 0, &long, bad), Err(4.into()));
-    assert_eq!(ask(1, 0, &long, cells[0]), Err(13.into()));
-    assert_eq!(ask(1, 0, b"CVR\0\x0200", cells[0]), Err(10.into()));
-    assert_eq!(ask(1, 0, &text(b")"), cells[0]), Err(at(7)));
-    assert_eq!(ask(1, 0, &body, cells[0]), Err(14.into()));
-    assert_eq!(ask(0, 0, &body, cells[0]), Ok(true));
-    assert_eq!(ask(0, 0, &body, code_of(b"P")), Ok(false));
-    assert_eq!(ask(0, 0, &body, code_of(b"P4")), Ok(false));
-    assert_eq!(ask(0, 0, &body, code_of(b"P412")), Ok(true));
+    // the order is 5, 4, 14, 11, 13
+    let other = code_of(1, 0, b"P41");
+    assert_eq!(written(4, 0, &[other, cells[0]]), Err(5));
+    assert_eq!(written(0, 0, &[other, cells[0], bad]), Err(4));
+    assert_eq!(written(0, 0, &[other, cells[0]]), Err(14));
+    assert_eq!(written(0, 0, &[cells[0], cells[0], other]), Err(14));
+    assert_eq!(written(2, 0, &cells), Err(14));
+    assert_eq!(written(1, 0, &[other, other]), Err(11));
+
+    assert_eq!(ask(&long, bad), Err(4.into()));
+    assert_eq!(ask(&long, other), Err(13.into()));
+    assert_eq!(ask(b"CVR\0\x0200", other), Err(10.into()));
+    assert_eq!(ask(&text(b")"), other), Err(at(7)));
+    assert_eq!(ask(&body, other), Err(14.into()));
+    assert_eq!(ask(&body, cells[0]), Ok(true));
+    assert_eq!(ask(&body, code_of(0, 0, b"P")), Ok(false));
+    assert_eq!(ask(&body, code_of(0, 0, b"P4")), Ok(false));
+    assert_eq!(ask(&body, code_of(0, 0, b"P412")), Ok(true));
 }
 
 /// Texts of exactly 65,536 bytes are written and read, and one byte more is refused; a list of
@@ -556,17 +590,15 @@ fn longest() {
     for _ in 0..5 {
         for (length, wanted) in [(LONGEST, None), (LONGEST + 1, Some(13))] {
             let text = random.text_of_length(length);
-            let (n, s) = (u64::from(text[5] - b'0'), u64::from(text[6] - b'0'));
-            let cells: Vec<u64> = whole_cells(&text)
-                .iter()
-                .map(|name| code_of(name))
-                .collect();
+            let (n, s) = arrangement_of_text(&text);
             assert_eq!(check(&text).err(), wanted.map(Refused::from));
-            assert_eq!(written(n, s, &cells).err(), wanted);
+            assert_eq!(written(n, s, &whole_codes(&text)).err(), wanted);
         }
     }
     let size = finest_cells(5);
-    let many: Vec<u64> = (0..9u64.pow(5)).map(|nth| nth * size * 16 + 5).collect();
+    let many: Vec<u64> = (0..9u64.pow(5))
+        .map(|nth| (nth * size * 16 + 5) * 16)
+        .collect();
     assert_eq!(written(0, 0, &many), Ok(text(b"N")));
     let one_less = written(0, 0, &many[1..]).unwrap();
     assert_eq!(

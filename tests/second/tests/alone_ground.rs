@@ -69,9 +69,9 @@ fn the_rules_send_a_ground_nucleus_to_the_nucleus() {
         let kind = random.pick(&[Kind::Random, Kind::Border]);
         let (n, s) = random.arrangement(kind);
         let name = random.name(kind);
-        let code = code_of(&name);
-        let (longitude, z) = ground_nucleus(n, s, code).unwrap();
-        let (x, y) = nucleus(n, s, code).unwrap();
+        let code = code_of(n, s, &name);
+        let (longitude, z) = ground_nucleus(code).unwrap();
+        let (x, y) = nucleus(code).unwrap();
         let face = grid::face_square(n, s, u64::from(name[0] - b'N'));
         let (p, q) = forward(n, s, longitude, z);
         let wanted = (
@@ -85,7 +85,8 @@ fn the_rules_send_a_ground_nucleus_to_the_nucleus() {
             "{n} {s} {} off {off}",
             String::from_utf8_lossy(&name)
         );
-        assert_eq!(fix_code(n, s, code % 16, longitude, z), Ok(code));
+        let k = grid::resolution_of(code);
+        assert_eq!(fix_code(n, s, k, longitude, z), Ok(code));
     }
 }
 
@@ -106,13 +107,13 @@ fn over_the_border_is_the_neighbour() {
     for resolution in 0..=6 {
         for (n, s) in (0..16).map(|both| (both / 4, both % 4)) {
             for name in border_names(resolution, b"012") {
-                let (longitude, _) = ground_nucleus(n, s, code_of(&name)).unwrap();
+                let (longitude, _) = ground_nucleus(code_of(n, s, &name)).unwrap();
                 let cell = |z| name_of_fix(n, s, resolution, longitude, z);
                 assert_eq!(cell(BELT_END), name);
                 assert_eq!(cell(BELT_END + 1), neighbour_of(n, s, &name, UP));
             }
             for name in border_names(resolution, b"678") {
-                let (longitude, _) = ground_nucleus(n, s, code_of(&name)).unwrap();
+                let (longitude, _) = ground_nucleus(code_of(n, s, &name)).unwrap();
                 let cell = |z| name_of_fix(n, s, resolution, longitude, z);
                 assert_eq!(cell(-BELT_END), name);
                 assert_eq!(cell(-BELT_END - 1), neighbour_of(n, s, &name, DOWN));

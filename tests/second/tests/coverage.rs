@@ -12,8 +12,8 @@ fn the_proved_library_is_linked() {
 mod entries {
     use jeguarivo::Length;
     use second::compare::{About, Refusing, Tally};
-    use second::coverage::{self, accepts, whole_cells, written, RULES};
-    use second::grid::Answer;
+    use second::coverage::{self, accepts, arrangement_of_text, whole_cells, written, RULES};
+    use second::grid::{resolution_of, Answer};
     use second::proved::{coverage as proved, Like};
     use second::random::{Kind, Random, KINDS};
     use second::texts::{lent, lent_mut, Given};
@@ -74,7 +74,7 @@ mod entries {
         let cells = if accepted { whole_cells(text) } else { vec![] };
         let deepest = cells.iter().map(|name| name.len() as u64 - 1).max();
         About {
-            arrangement: accepted.then(|| (u64::from(text[5] - b'0'), u64::from(text[6] - b'0'))),
+            arrangement: accepted.then(|| arrangement_of_text(text)),
             resolution: deepest.unwrap_or(0),
         }
     }
@@ -131,12 +131,12 @@ mod entries {
     fn write() {
         compare(
             "jgv_coverage_write",
-            &[5, 4, 11, 13, 8],
+            &[5, 4, 14, 11, 13, 8],
             |random, kind, nth| {
                 let (n, s) = random.arrangement(kind);
                 let codes = match long(nth) {
-                    Some(longer) => random.long_codes(longer),
-                    None => random.codes(kind),
+                    Some(longer) => random.long_codes(longer, n, s),
+                    None => random.codes(kind, n, s),
                 };
                 let length = written(n, s, &codes).map_or(20, |text| text.len());
                 let room = random.room(length);
@@ -149,9 +149,9 @@ mod entries {
                     codes: random.guarded_codes(&codes),
                 }
             },
-            |given| About {
-                arrangement: Some((given.n, given.s)),
-                resolution: lent(&given.codes).iter().map(|c| c % 16).max().unwrap_or(0),
+            |given| {
+                let resolutions = lent(&given.codes).iter().map(|&code| resolution_of(code));
+                About::arranged(given.n, given.s, resolutions.max().unwrap_or(0))
             },
             |given| {
                 let (codes, bytes) = (lent(&given.codes), lent_mut(&mut given.bytes));
@@ -169,36 +169,18 @@ mod entries {
     fn ask() {
         compare(
             "jgv_coverage_ask",
-            &[5, 4, 13, 10, 9, 14],
+            &[4, 13, 10, 9, 14],
             |random, kind, nth| {
                 let text = text(random, kind, nth);
-                let (mut n, mut s) = random.arrangement(kind);
-                let own = |at: usize| text.get(at).map_or(0, |byte| u64::from(byte & 3));
-                if n < 4 && s < 4 && !random.chance(10) {
-                    (n, s) = (own(5), own(6));
-                }
-                let code = random.asked_code(kind, &text);
                 Given {
-                    n,
-                    s,
-                    code,
+                    code: random.asked_code(kind, &text),
                     bytes: random.guarded(&text),
-                    codes: vec![],
+                    ..Given::default()
                 }
             },
-            |given| About {
-                arrangement: Some((given.n, given.s)),
-                resolution: given.code % 16,
-            },
-            |given| {
-                Like::like(coverage::ask(
-                    given.n,
-                    given.s,
-                    lent(&given.bytes),
-                    given.code,
-                ))
-            },
-            |given| proved::ask(given.n, given.s, lent(&given.bytes), given.code),
+            |given| About::code(given.code),
+            |given| Like::like(coverage::ask(lent(&given.bytes), given.code)),
+            |given| proved::ask(lent(&given.bytes), given.code),
         );
     }
 }
@@ -292,9 +274,9 @@ mod all_short_texts {
 /// The values that 01 and the readings print, from both programs.
 #[cfg(proved)]
 mod printed {
-    use jeguarivo::{Check, Length, List};
+    use jeguarivo::{Ask, Check, Length, List};
     use second::coverage::{self, heading, HEADING, LONGEST};
-    use second::grid::{code_of, finest_cells};
+    use second::grid::{arrangements, code_of, finest_cells};
     use second::proved::{coverage as proved, Like};
 
     /// Both programs check a text of the arrangement (0, 0) to this refusal, place, number of cells
@@ -315,9 +297,15 @@ mod printed {
         [HEADING, body].concat()
     }
 
+    /// The codes of names at n = s = 0.
+    fn codes(names: &[&str]) -> Vec<u64> {
+        let code = |name: &&str| code_of(0, 0, name.as_bytes());
+        names.iter().map(code).collect()
+    }
+
     /// Both programs write these cells as this body.
     fn writes(names: &[&str], wanted: &[u8]) {
-        let codes: Vec<u64> = names.iter().map(|name| code_of(name.as_bytes())).collect();
+        let codes = codes(names);
         let wanted = body(wanted);
         assert_eq!(coverage::written(0, 0, &codes).as_ref(), Ok(&wanted));
         let mut lent = vec![0xEE; wanted.len() + 1];
@@ -329,7 +317,7 @@ mod printed {
 
     /// Both programs list these whole cells of a body, rising.
     fn lists(of: &[u8], names: &[&str]) {
-        let codes: Vec<u64> = names.iter().map(|name| code_of(name.as_bytes())).collect();
+        let codes = codes(names);
         let (mut by_second, mut by_proved) = (vec![7; codes.len()], vec![7; codes.len()]);
         let count = codes.len() as u64;
         assert_eq!(coverage::list(&body(of), &mut by_second), Ok(count));
@@ -401,15 +389,20 @@ mod printed {
         is(b"CVR\0\x0100", 0, 0, 0, 0);
     }
 
-    /// N and N0; N0 and N; N0 twice; N0 and N1; 16 is no cell's code, and 4 comes before 11.
+    /// N and N0; N0 and N; N0 twice; N0 and N1; 256 is no cell's code, and 4 comes before 14 and
+    /// 11; N0 at n = 0 and s = 1, and 14 comes before 11.
     #[test]
     fn lists_of_codes() {
-        let lists: [(&[u64], u64); 5] = [
-            (&[0, 1], 11),
-            (&[1, 0], 11),
-            (&[1, 1], 11),
-            (&[1, 366_028_679_279_377], 0),
-            (&[1, 0, 16], 4),
+        let lists: [(&[u64], u64); 9] = [
+            (&[0, 16], 11),
+            (&[16, 0], 11),
+            (&[16, 16], 11),
+            (&[16, 16 * 366_028_679_279_377], 0),
+            (&[16, 0, 256], 4),
+            (&[17, 0, 256], 4),
+            (&[17], 14),
+            (&[16, 17], 14),
+            (&[16, 16, 17, 0], 14),
         ];
         for (codes, refusal) in lists {
             let by_second = coverage::written(0, 0, codes);
@@ -428,8 +421,8 @@ mod printed {
 
     /// A text names its own arrangement; a refused one does not.
     #[test]
-    fn arrangements() {
-        for (n, s) in (0..16).map(|both| (both / 4, both % 4)) {
+    fn a_text_names_its_own_arrangement() {
+        for (n, s) in arrangements() {
             let mut text = [&heading(n, s)[..], b"N(8)S"].concat();
             let wanted = Check {
                 n,
@@ -445,6 +438,42 @@ mod printed {
         }
     }
 
+    /// A text of each arrangement: listed in its own, asked with codes of each, and written of
+    /// codes of two. 14 exactly where they differ.
+    #[test]
+    fn two_arrangements() {
+        for (n, s) in arrangements() {
+            let text = [&heading(n, s)[..], b"N(8)S"].concat();
+            let own = [code_of(n, s, b"N8"), code_of(n, s, b"S")];
+            let mut listed = [7; 2];
+            assert_eq!(proved::list(&text, &mut listed).refusal, 0);
+            assert_eq!(listed, own);
+            for (of_n, of_s) in arrangements() {
+                let other = code_of(of_n, of_s, b"N8");
+                let refusal = if (of_n, of_s) == (n, s) { 0 } else { 14 };
+                let asked = proved::ask(&text, other);
+                assert_eq!(
+                    (asked.refusal, asked.covered),
+                    (refusal, u64::from(refusal == 0))
+                );
+                assert_eq!(asked, Ask::like(coverage::ask(&text, other)));
+                let mixed = [[other, own[1]], [own[0], code_of(of_n, of_s, b"S")]];
+                for (codes, asked_n, asked_s) in [
+                    (mixed[0], n, s),
+                    (mixed[1], n, s),
+                    (mixed[0], of_n, of_s),
+                    (mixed[1], of_n, of_s),
+                ] {
+                    let (mut lent, mut wanted) = ([9; 12], [9; 12]);
+                    let answer = proved::write(asked_n, asked_s, &codes, &mut lent);
+                    assert_eq!(answer.refusal, refusal);
+                    let by_second = coverage::write(asked_n, asked_s, &codes, &mut wanted);
+                    assert_eq!((answer, lent), (Length::like(by_second), wanted));
+                }
+            }
+        }
+    }
+
     /// Past the length limit nothing else is looked at, and at it all is.
     #[test]
     fn longest() {
@@ -456,7 +485,9 @@ mod printed {
     #[test]
     fn many_codes_that_merge() {
         let size = finest_cells(5);
-        let many: Vec<u64> = (0..6 * 9u64.pow(5)).map(|i| i * size * 16 + 5).collect();
+        let many: Vec<u64> = (0..6 * 9u64.pow(5))
+            .map(|i| (i * size * 16 + 5) * 16)
+            .collect();
         for codes in [&many[..], &many[1..]] {
             let (mut lent, mut wanted) = ([9; 80], [9; 80]);
             let answer = proved::write(0, 0, codes, &mut lent);

@@ -13,27 +13,7 @@ mod entries {
     use second::compare::{compare, About};
     use second::grid;
     use second::proved::{self, Like};
-    use second::random::{Kind, Random, GUARD};
-
-    fn at(resolution: u64) -> About {
-        About {
-            arrangement: None,
-            resolution,
-        }
-    }
-
-    fn arranged_at(n: u64, s: u64, resolution: u64) -> About {
-        About {
-            arrangement: Some((n, s)),
-            resolution,
-        }
-    }
-
-    /// n, s and a code.
-    fn arranged(random: &mut Random, kind: Kind) -> (u64, u64, u64) {
-        let (n, s) = random.arrangement(kind);
-        (n, s, random.code(kind))
-    }
+    use second::random::{Random, GUARD};
 
     /// The answer, and the whole memory after lending the part between the guards.
     fn lend<A>(memory: &[u8], to: impl Fn(&mut [u8]) -> A) -> (A, Vec<u8>) {
@@ -47,15 +27,16 @@ mod entries {
     fn cell_code() {
         compare(
             "jgv_cell_code",
-            &[1, 2, 3],
+            &[1, 2, 3, 5],
             |random, kind| {
+                let (n, s) = random.arrangement(kind);
                 let (face, resolution) = (random.number(kind, 6), random.resolution(kind));
                 let row = random.row(kind, resolution);
-                (face, resolution, row, random.row(kind, resolution))
+                (n, s, face, resolution, row, random.row(kind, resolution))
             },
-            |&(_, resolution, _, _)| at(resolution),
-            |&(f, k, i, j)| Like::like(grid::cell_code(f, k, i, j)),
-            |&(f, k, i, j)| proved::cell_code(f, k, i, j),
+            |&(n, s, _, resolution, _, _)| About::arranged(n, s, resolution),
+            |&(n, s, f, k, i, j)| Like::like(grid::cell_code(n, s, f, k, i, j)),
+            |&(n, s, f, k, i, j)| proved::cell_code(n, s, f, k, i, j),
         );
     }
 
@@ -65,7 +46,7 @@ mod entries {
             "jgv_code_cell",
             &[4],
             Random::code,
-            |&code| at(code % 16),
+            |&code| About::code(code),
             |&code| Like::like(grid::code_cell(code)),
             |&code| proved::code_cell(code),
         );
@@ -75,13 +56,16 @@ mod entries {
     fn name_code() {
         compare(
             "jgv_name_code",
-            &[1, 2, 3],
-            Random::name_bytes,
-            |bytes| at((bytes.len() as u64).wrapping_sub(1)),
-            |bytes| (Like::like(grid::name_code(bytes)), bytes.clone()),
-            |bytes| {
+            &[1, 2, 3, 5],
+            |random, kind| {
+                let (n, s) = random.arrangement(kind);
+                (n, s, random.name_bytes(kind))
+            },
+            |(n, s, bytes)| About::arranged(*n, *s, (bytes.len() as u64).wrapping_sub(1)),
+            |(n, s, bytes)| (Like::like(grid::name_code(*n, *s, bytes)), bytes.clone()),
+            |(n, s, bytes)| {
                 let lent = bytes.clone();
-                (proved::name_code(&lent), lent)
+                (proved::name_code(*n, *s, &lent), lent)
             },
         );
     }
@@ -93,12 +77,12 @@ mod entries {
             &[4, 8],
             |random, kind| {
                 let code = random.code(kind);
-                let length = code as usize % 16 + 1;
+                let length = grid::resolution_of(code) as usize + 1;
                 let shorter = random.below(length as u64) as usize;
                 let room = random.pick(&[shorter, length - 1, length, length + 1, 16, 17, 40]);
                 (code, random.memory(room))
             },
-            |&(code, _)| at(code % 16),
+            |&(code, _)| About::code(code),
             |(code, memory)| lend(memory, |lent| Like::like(grid::code_name(*code, lent))),
             |(code, memory)| lend(memory, |lent| proved::code_name(*code, lent)),
         );
@@ -110,7 +94,7 @@ mod entries {
             "jgv_parent",
             &[4, 12],
             Random::code,
-            |&code| at(code % 16),
+            |&code| About::code(code),
             |&code| Like::like(grid::parent(code)),
             |&code| proved::parent(code),
         );
@@ -122,7 +106,7 @@ mod entries {
             "jgv_child",
             &[3, 4, 12],
             |random, kind| (random.code(kind), random.number(kind, 9)),
-            |&(code, _)| at(code % 16),
+            |&(code, _)| About::code(code),
             |&(code, digit)| Like::like(grid::child(code, digit)),
             |&(code, digit)| proved::child(code, digit),
         );
@@ -134,7 +118,7 @@ mod entries {
             "jgv_size",
             &[4],
             Random::code,
-            |&code| at(code % 16),
+            |&code| About::code(code),
             |&code| Like::like(grid::size(code)),
             |&code| proved::size(code),
         );
@@ -146,7 +130,7 @@ mod entries {
             "jgv_shape",
             &[4],
             Random::code,
-            |&code| at(code % 16),
+            |&code| About::code(code),
             |&code| Like::like(grid::shape(code)),
             |&code| proved::shape(code),
         );
@@ -158,7 +142,7 @@ mod entries {
             "jgv_corner_count",
             &[4],
             Random::code,
-            |&code| at(code % 16),
+            |&code| About::code(code),
             |&code| Like::like(grid::corner_count(code)),
             |&code| proved::corner_count(code),
         );
@@ -168,11 +152,11 @@ mod entries {
     fn square() {
         compare(
             "jgv_square",
-            &[4, 5],
-            arranged,
-            |&(n, s, code)| arranged_at(n, s, code % 16),
-            |&(n, s, code)| Like::like(grid::square(n, s, code)),
-            |&(n, s, code)| proved::square(n, s, code),
+            &[4],
+            Random::code,
+            |&code| About::code(code),
+            |&code| Like::like(grid::square(code)),
+            |&code| proved::square(code),
         );
     }
 
@@ -180,11 +164,11 @@ mod entries {
     fn nucleus() {
         compare(
             "jgv_nucleus",
-            &[4, 5],
-            arranged,
-            |&(n, s, code)| arranged_at(n, s, code % 16),
-            |&(n, s, code)| Like::like(grid::nucleus(n, s, code)),
-            |&(n, s, code)| proved::nucleus(n, s, code),
+            &[4],
+            Random::code,
+            |&code| About::code(code),
+            |&code| Like::like(grid::nucleus(code)),
+            |&code| proved::nucleus(code),
         );
     }
 
@@ -192,11 +176,11 @@ mod entries {
     fn vertices() {
         compare(
             "jgv_vertices",
-            &[4, 5],
-            arranged,
-            |&(n, s, code)| arranged_at(n, s, code % 16),
-            |&(n, s, code)| Like::like(grid::vertices(n, s, code)),
-            |&(n, s, code)| proved::vertices(n, s, code),
+            &[4],
+            Random::code,
+            |&code| About::code(code),
+            |&code| Like::like(grid::vertices(code)),
+            |&code| proved::vertices(code),
         );
     }
 
@@ -211,7 +195,7 @@ mod entries {
                 let (x, y) = random.point(kind, n, s);
                 (n, s, resolution, x, y)
             },
-            |&(n, s, resolution, _, _)| arranged_at(n, s, resolution),
+            |&(n, s, resolution, _, _)| About::arranged(n, s, resolution),
             |&(n, s, k, x, y)| Like::like(grid::point_code(n, s, k, x, y)),
             |&(n, s, k, x, y)| proved::point_code(n, s, k, x, y),
         );
@@ -221,27 +205,24 @@ mod entries {
     fn neighbour() {
         compare(
             "jgv_neighbour",
-            &[3, 4, 5],
-            |random, kind| {
-                let (n, s, code) = arranged(random, kind);
-                (n, s, code, random.number(kind, 4))
-            },
-            |&(n, s, code, _)| arranged_at(n, s, code % 16),
-            |&(n, s, code, direction)| Like::like(grid::neighbour(n, s, code, direction)),
-            |&(n, s, code, direction)| proved::neighbour(n, s, code, direction),
+            &[3, 4],
+            |random, kind| (random.code(kind), random.number(kind, 4)),
+            |&(code, _)| About::code(code),
+            |&(code, direction)| Like::like(grid::neighbour(code, direction)),
+            |&(code, direction)| proved::neighbour(code, direction),
         );
     }
 }
 
-/// Every cell of resolution 0 to 3, through every entry that takes one.
+/// Every cell of resolution 0 to 3 in every arrangement, through every entry that takes one.
 #[cfg(proved)]
 mod all_coarse_cells {
-    use jeguarivo::{Cell, Code, Count, Length, Point, Shape, Size, Square, Vertices};
-    use second::grid::{self, cells_along, code_of, Name, LETTERS};
+    use jeguarivo::{Cell, Code, Count, Name, Point, Shape, Size, Square, Vertices};
+    use second::grid::{self, arrangements, cells_along, code_of, LETTERS};
     use second::proved::{self, Like};
 
-    fn coarse_names() -> Vec<Name> {
-        let mut level: Vec<Name> = LETTERS.iter().map(|&letter| vec![letter]).collect();
+    fn coarse_names() -> Vec<Vec<u8>> {
+        let mut level: Vec<Vec<u8>> = LETTERS.iter().map(|&letter| vec![letter]).collect();
         let mut all = level.clone();
         for _ in 0..3 {
             level = level
@@ -254,12 +235,20 @@ mod all_coarse_cells {
         all
     }
 
+    /// Calls with each coarse cell in each arrangement: n, s, its name and its code.
+    fn each(mut call: impl FnMut(u64, u64, &[u8], u64)) {
+        for (n, s) in arrangements() {
+            for name in coarse_names() {
+                call(n, s, &name, code_of(n, s, &name));
+            }
+        }
+    }
+
     #[test]
-    fn without_an_arrangement() {
-        for name in coarse_names() {
-            let code = code_of(&name);
+    fn codes_and_families() {
+        each(|n, s, name, code| {
             assert_eq!(proved::code_cell(code), Cell::like(grid::code_cell(code)));
-            assert_eq!(proved::name_code(&name), Code::like(Ok(code)));
+            assert_eq!(proved::name_code(n, s, name), Code::like(Ok(code)));
             assert_eq!(proved::parent(code), Code::like(grid::parent(code)));
             for digit in 0..10 {
                 let wanted = Code::like(grid::child(code, digit));
@@ -269,19 +258,19 @@ mod all_coarse_cells {
             assert_eq!(proved::shape(code), Shape::like(grid::shape(code)));
             let count = Count::like(grid::corner_count(code));
             assert_eq!(proved::corner_count(code), count);
-        }
+        });
     }
 
     #[test]
     fn names_into_every_room() {
-        for name in coarse_names() {
+        each(|_, _, _, code| {
             for room in 0..20 {
                 let (mut lent, mut wanted) = (vec![0xA5; room], vec![0xA5; room]);
-                let answer = proved::code_name(code_of(&name), &mut lent);
-                let by_second = grid::code_name(code_of(&name), &mut wanted);
-                assert_eq!((answer, lent), (Length::like(by_second), wanted));
+                let answer = proved::code_name(code, &mut lent);
+                let by_second = grid::code_name(code, &mut wanted);
+                assert_eq!((answer, lent), (Name::like(by_second), wanted));
             }
-        }
+        });
     }
 
     /// Also one row and one column too far.
@@ -291,36 +280,36 @@ mod all_coarse_cells {
             let m = cells_along(resolution);
             for face in 0..=6 {
                 for (row, column) in (0..=m).flat_map(|i| (0..=m).map(move |j| (i, j))) {
-                    let wanted = Code::like(grid::cell_code(face, resolution, row, column));
-                    assert_eq!(proved::cell_code(face, resolution, row, column), wanted);
+                    for (n, s) in arrangements() {
+                        let code = grid::cell_code(n, s, face, resolution, row, column);
+                        let found = proved::cell_code(n, s, face, resolution, row, column);
+                        assert_eq!(found, Code::like(code));
+                    }
                 }
             }
         }
     }
 
     #[test]
-    fn in_all_arrangements() {
-        for (n, s) in (0..16).map(|both| (both / 4, both % 4)) {
-            for name in coarse_names() {
-                let code = code_of(&name);
-                let square = Square::like(grid::square(n, s, code));
-                assert_eq!(proved::square(n, s, code), square);
-                let nucleus = Point::like(grid::nucleus(n, s, code));
-                assert_eq!(proved::nucleus(n, s, code), nucleus);
-                let vertices = Vertices::like(grid::vertices(n, s, code));
-                assert_eq!(proved::vertices(n, s, code), vertices);
-                for direction in 0..5 {
-                    let wanted = Code::like(grid::neighbour(n, s, code, direction));
-                    assert_eq!(proved::neighbour(n, s, code, direction), wanted);
-                }
+    fn squares_and_neighbours() {
+        each(|_, _, _, code| {
+            let square = Square::like(grid::square(code));
+            assert_eq!(proved::square(code), square);
+            let nucleus = Point::like(grid::nucleus(code));
+            assert_eq!(proved::nucleus(code), nucleus);
+            let vertices = Vertices::like(grid::vertices(code));
+            assert_eq!(proved::vertices(code), vertices);
+            for direction in 0..5 {
+                let wanted = Code::like(grid::neighbour(code, direction));
+                assert_eq!(proved::neighbour(code, direction), wanted);
             }
-        }
+        });
     }
 
     /// Nine points of each cell, its vertices among them, and all points one unit around them.
     #[test]
     fn points_at_and_around_every_vertex() {
-        for (n, s) in (0..16).map(|both| (both / 4, both % 4)) {
+        for (n, s) in arrangements() {
             for name in coarse_names() {
                 let square = grid::square_of(n, s, &name);
                 for nth in 0..81 {
@@ -336,34 +325,45 @@ mod all_coarse_cells {
     }
 }
 
-/// The values that 01 and 000 print, from both programs.
+/// The values that the papers and 000 print, from both programs.
 #[cfg(proved)]
 mod printed {
-    use jeguarivo::{Cell, Code, Length, Shape, Square};
-    use second::grid::{self, code_of, M};
+    use jeguarivo::{Cell, Code, Name, Shape, Square};
+    use second::grid::{self, arrangements, code_of, M};
     use second::proved::{self, Like};
+    use second::random::GREATEST;
 
     /// The name that a proved code has, by the proved library.
     fn name_of(code: Code) -> String {
         assert_eq!(code.refusal, 0);
         let mut lent = [0; 16];
-        let Length { refusal, length } = proved::code_name(code.code, &mut lent);
-        assert_eq!(refusal, 0);
-        String::from_utf8(lent[..length as usize].to_vec()).unwrap()
+        let named = proved::code_name(code.code, &mut lent);
+        let (n, s) = grid::arrangement_of(code.code);
+        assert_eq!(
+            named,
+            Name {
+                refusal: 0,
+                n,
+                s,
+                ..named
+            }
+        );
+        String::from_utf8(lent[..named.length as usize].to_vec()).unwrap()
     }
 
     /// P0's neighbours up, right, down and left.
     fn around_p0(n: u64, s: u64) -> Vec<String> {
-        let p0 = proved::name_code(b"P0").code;
+        let p0 = proved::name_code(n, s, b"P0").code;
         let four = (0..4).map(|direction| {
-            let next = proved::neighbour(n, s, p0, direction);
-            assert_eq!(next, Code::like(grid::neighbour(n, s, p0, direction)));
+            let next = proved::neighbour(p0, direction);
+            assert_eq!(next, Code::like(grid::neighbour(p0, direction)));
             name_of(next)
         });
         four.collect()
     }
 
-    /// 01, "Faces, rows, names, codes".
+    /// 01, "Faces, rows, names, codes", and 02: "a code becomes 16 times the old code, plus 4n + s,
+    /// 01's codes with it (N0 at n = s = 0 is 16)".
     #[test]
     fn codes() {
         let codes: [(&[u8], u64); 5] = [
@@ -373,12 +373,21 @@ mod printed {
             (b"O", 3_294_258_113_514_384),
             (b"S888888888888888", 19_765_548_681_086_303),
         ];
-        for (name, code) in codes {
-            assert_eq!(grid::name_code(name), Ok(code));
-            assert_eq!(proved::name_code(name), Code { refusal: 0, code });
+        for (name, old) in codes {
+            for (n, s) in arrangements() {
+                let code = 16 * old + 4 * n + s;
+                assert_eq!(grid::name_code(n, s, name), Ok(code));
+                assert_eq!(proved::name_code(n, s, name), Code { refusal: 0, code });
+            }
         }
-        let past = proved::size(19_765_548_681_086_304);
+        assert_eq!(proved::name_code(0, 0, b"N0").code, 16);
+        assert_eq!(GREATEST, 316_248_778_897_380_863);
+        let greatest = proved::name_code(3, 3, b"S888888888888888");
+        assert_eq!(greatest.code, GREATEST);
+        let past = proved::size(GREATEST + 1);
         assert_eq!((past.refusal, past.size), (4, 0));
+        let last = proved::size(GREATEST);
+        assert_eq!((last.refusal, last.size), (0, 1));
     }
 
     /// Cells as face, resolution, row and column, with their names: the code leads to each.
@@ -395,10 +404,15 @@ mod printed {
             (b"Q33", [3, 2, 4, 0]),
             (b"S888888888888888", [5, 15, greatest, greatest]),
         ];
-        for (name, [face, resolution, row, column]) in places {
-            let code = code_of(name);
+        for ((name, [face, resolution, row, column]), (n, s)) in places
+            .iter()
+            .flat_map(|&place| arrangements().map(move |both| (place, both)))
+        {
+            let code = code_of(n, s, name);
             let wanted = Cell {
                 refusal: 0,
+                n,
+                s,
                 face,
                 resolution,
                 row,
@@ -406,9 +420,9 @@ mod printed {
             };
             assert_eq!(Cell::like(grid::code_cell(code)), wanted);
             assert_eq!(proved::code_cell(code), wanted);
-            let by_second = grid::cell_code(face, resolution, row, column);
+            let by_second = grid::cell_code(n, s, face, resolution, row, column);
             assert_eq!(by_second, Ok(code));
-            let found = proved::cell_code(face, resolution, row, column);
+            let found = proved::cell_code(n, s, face, resolution, row, column);
             assert_eq!(found, Code::like(by_second));
             assert_eq!(name_of(found).as_bytes(), name);
         }
@@ -417,8 +431,11 @@ mod printed {
     #[test]
     fn refused_names() {
         for (name, refusal) in [(&b"N9"[..], 3), (b"X", 1)] {
-            assert_eq!(grid::name_code(name), Err(refusal));
-            assert_eq!(proved::name_code(name), Code::refused(refusal));
+            assert_eq!(grid::name_code(0, 0, name), Err(refusal));
+            assert_eq!(proved::name_code(0, 0, name), Code::refused(refusal));
+            // 5 comes before all else
+            assert_eq!(grid::name_code(0, 4, name), Err(5));
+            assert_eq!(proved::name_code(0, 4, name), Code::refused(5));
         }
     }
 
@@ -426,7 +443,7 @@ mod printed {
     #[test]
     fn shapes() {
         for (name, shape) in [("N", 1), ("N4", 1), ("N0", 2), ("N1", 3), ("P0", 0)] {
-            let code = code_of(name.as_bytes());
+            let code = code_of(3, 1, name.as_bytes());
             assert_eq!(grid::shape(code), Ok(shape), "{name}");
             assert_eq!(proved::shape(code), Shape { refusal: 0, shape }, "{name}");
         }
@@ -470,13 +487,13 @@ mod printed {
     #[test]
     fn last_points() {
         assert_eq!((M, M), (28_697_814, 2 * 3i64.pow(15)));
-        let square = Square::like(grid::square(0, 0, code_of(b"O")));
+        let square = Square::like(grid::square(code_of(0, 0, b"O")));
         assert_eq!((square.left, square.top, square.side), (0, M / 2, M));
-        assert_eq!(proved::square(0, 0, code_of(b"O")), square);
+        assert_eq!(proved::square(code_of(0, 0, b"O")), square);
         for (x, y, name) in [(4 * M - 1, 0, "R5"), (0, -M / 2, "O6")] {
             assert_eq!(
                 grid::point_code(0, 0, 1, x, y),
-                Ok(code_of(name.as_bytes()))
+                Ok(code_of(0, 0, name.as_bytes()))
             );
             assert_eq!(name_of(proved::point_code(0, 0, 1, x, y)), name);
         }

@@ -14,14 +14,7 @@ mod entries {
     use second::compare::{compare, compare_mix, About};
     use second::ground;
     use second::proved::{self, Like};
-    use second::random::Kind;
-
-    fn about(n: u64, s: u64, resolution: u64) -> About {
-        About {
-            arrangement: Some((n, s)),
-            resolution,
-        }
-    }
+    use second::random::{Kind, Random};
 
     /// Half of the inputs are border ones.
     #[test]
@@ -37,7 +30,7 @@ mod entries {
                 let (longitude, z) = random.fix(kind, n, s, resolution);
                 (n, s, resolution, longitude, z)
             },
-            |&(n, s, resolution, _, _)| about(n, s, resolution),
+            |&(n, s, resolution, _, _)| About::arranged(n, s, resolution),
             |&(n, s, k, longitude, z)| Like::like(ground::fix_code(n, s, k, longitude, z)),
             |&(n, s, k, longitude, z)| proved::fix_code(n, s, k, longitude, z),
         );
@@ -47,14 +40,11 @@ mod entries {
     fn ground_nucleus() {
         compare(
             "jgv_ground_nucleus",
-            &[4, 5],
-            |random, kind| {
-                let (n, s) = random.arrangement(kind);
-                (n, s, random.code(kind))
-            },
-            |&(n, s, code)| about(n, s, code % 16),
-            |&(n, s, code)| Like::like(ground::ground_nucleus(n, s, code)),
-            |&(n, s, code)| proved::ground_nucleus(n, s, code),
+            &[4],
+            Random::code,
+            |&code| About::code(code),
+            |&code| Like::like(ground::ground_nucleus(code)),
+            |&code| proved::ground_nucleus(code),
         );
     }
 }
@@ -64,19 +54,20 @@ mod entries {
 mod nuclei {
     use jeguarivo::{Code, Fix};
     use second::compare::say;
-    use second::grid::{code_of, LETTERS};
+    use second::grid::{arrangement_of, arrangements, code_of, resolution_of, LETTERS};
     use second::proved::{self, Like};
     use second::random::{Kind, Random};
     use second::{grid::Name, ground};
 
     /// Checks one cell, by both programs.
-    fn names_itself(n: u64, s: u64, code: u64) {
-        let fix = proved::ground_nucleus(n, s, code);
-        assert_eq!(fix, Fix::like(ground::ground_nucleus(n, s, code)));
-        let (longitude, z) = (fix.longitude, fix.z);
-        let found = proved::fix_code(n, s, code % 16, longitude, z);
+    fn names_itself(code: u64) {
+        let (n, s) = arrangement_of(code);
+        let fix = proved::ground_nucleus(code);
+        assert_eq!(fix, Fix::like(ground::ground_nucleus(code)));
+        let (longitude, z, k) = (fix.longitude, fix.z, resolution_of(code));
+        let found = proved::fix_code(n, s, k, longitude, z);
         assert_eq!(found, Code { refusal: 0, code }, "{n} {s} {fix:?}");
-        assert_eq!(ground::fix_code(n, s, code % 16, longitude, z), Ok(code));
+        assert_eq!(ground::fix_code(n, s, k, longitude, z), Ok(code));
     }
 
     /// The names of all cells up to a resolution.
@@ -95,9 +86,9 @@ mod nuclei {
     fn of_all_cells_up_to_4_in_all_arrangements() {
         let names = names_up_to(4);
         assert_eq!(names.len(), 6 * (1 + 9 + 81 + 729 + 6561));
-        for (n, s) in (0..16).map(|both| (both / 4, both % 4)) {
+        for (n, s) in arrangements() {
             for name in &names {
-                names_itself(n, s, code_of(name));
+                names_itself(code_of(n, s, name));
             }
         }
         say(&format!("ground nuclei: 16 times {} cells", names.len()));
@@ -109,10 +100,9 @@ mod nuclei {
         let mut cells = 0;
         while cells < 120_000 {
             let kind = random.pick(&[Kind::Random, Kind::Border]);
-            let (n, s) = random.arrangement(kind);
             let code = random.code(kind);
-            if code % 16 > 4 {
-                names_itself(n, s, code);
+            if resolution_of(code) > 4 {
+                names_itself(code);
                 cells += 1;
             }
         }
@@ -216,7 +206,7 @@ mod printed {
 
     /// The cell of a fix is the named one, by both programs.
     fn is(n: u64, s: u64, k: u64, longitude: i64, z: i64, name: &str) {
-        let code = code_of(name.as_bytes());
+        let code = code_of(n, s, name.as_bytes());
         let place = format!("{n} {s} {k} {longitude} {z} {name}");
         assert_eq!(ground::fix_code(n, s, k, longitude, z), Ok(code), "{place}");
         let found = proved::fix_code(n, s, k, longitude, z);
@@ -258,14 +248,14 @@ mod printed {
             ("S1", -851_851_851_851_851_852),
         ];
         for (name, z) in nuclei {
-            let (code, longitude) = (code_of(name.as_bytes()), -1_350_000_000);
-            assert_eq!(ground::ground_nucleus(0, 0, code), Ok((longitude, z)));
+            let (code, longitude) = (code_of(0, 0, name.as_bytes()), -1_350_000_000);
+            assert_eq!(ground::ground_nucleus(code), Ok((longitude, z)));
             let wanted = Fix {
                 refusal: 0,
                 longitude,
                 z,
             };
-            assert_eq!(proved::ground_nucleus(0, 0, code), wanted);
+            assert_eq!(proved::ground_nucleus(code), wanted);
         }
     }
 
@@ -278,6 +268,8 @@ mod printed {
         assert_eq!(found, Code::like(ground::fix_code(0, 0, 15, longitude, z)));
         let wanted = Cell {
             refusal: 0,
+            n: 0,
+            s: 0,
             face: 0,
             resolution: 15,
             row: 7_174_453,

@@ -1,23 +1,31 @@
 -- A text answers yes for a cell exactly when every finest cell inside the cell is covered (01 "The coverage text": asking). Assumes nothing.
-use mathlib.Core.Path.{_≡_, refl, sym, ap}
-use mathlib.Core.Logic.{inl, inr, ⊎-elim}
-use mathlib.Core.Bool.{Bool, true, false, _||_}
+use mathlib.Core.Path.{_≡_, refl, sym, ap, _∙_}
+use mathlib.Core.Logic.{_↔_, inl, inr, ⊎-elim}
+use mathlib.Core.Bool.{Bool, true, false, _||_, not}
 use mathlib.Core.List.{List, [], _∷_}
 use Prim.Native.Nat.{ℕ, _≤_}
 use native.Mathlib.Omega.{arith}
+use lib.Dec.{ltb}
+use lib.ListN.{length}
 use Rattle.logic.specs.Laws.Bools.{or-either, clash}
+use Rattle.logic.specs.Refusal.{refuse}
+use Rattle.logic.specs.Laws.Refusal.{passes, either, other}
 use Rattle.cell.specs.declared.Cell.{Cell}
+use Rattle.cell.specs.declared.Arrangement.{Arrangement}
 use Rattle.cell.specs.Cell.{IsCell}
+use Rattle.code.specs.Code.{arrangementOf, isCode, isOf, codeRefusal}
+use Rattle.code.specs.Laws.Code.{a-code, code-passes, four-refused, of-arrangement, arrangement-of}
 use Rattle.code.specs.Inside.{liesWithin}
 use Rattle.code.specs.Laws.Inside.{lies-inside, inside-lies}
 use Rattle.reading.specs.declared.Level.{Level}
 use Rattle.reading.specs.Reading.{Nodes, OfFaces}
 use Rattle.reading.specs.Ground.{wholeCells, Covers, Cells}
 use Rattle.reading.specs.Text.{Reads}
-use Rattle.reading.specs.TextReading.{nodesOf, isText}
+use Rattle.reading.specs.TextReading.{nodesOf, textArrangement, isText}
 use Rattle.reading.specs.Laws.TextReading.{reads-own}
 use Rattle.reading.specs.Laws.Demand.{whole-cells, one-cell, all-covered}
-use Rattle.asking.specs.Ask.{AllCovered, anyWithin}
+use Rattle.reader.specs.Check.{textRefusal, otherVersion}
+use Rattle.asking.specs.Ask.{AllCovered, anyWithin, askRefusal}
 
 -- ---- one whole cell has the cell inside
 
@@ -61,3 +69,34 @@ pub text-asked :
     (t : List ℕ) → isText t ≡ true → (x : Cell) → IsCell x →
     (anyWithin (wholeCells (nodesOf t)) x ≡ true → AllCovered (wholeCells (nodesOf t)) x) × (AllCovered (wholeCells (nodesOf t)) x → anyWithin (wholeCells (nodesOf t)) x ≡ true)
 text-asked t e x v = asked-exactly tt (omega arith) (reads-own t e .body) x v
+
+-- ---- "14 also for .. a question of another arrangement" (02, W-210)
+
+text-other : (t : List ℕ) → textRefusal t ≡ 14 → ⊥
+unfolding textRefusal
+text-other t e =
+    ⊎-elim (other (ltb 65536 (length t)) 13 13 (λ z. omega arith))
+    (λ k. ⊎-elim (other (otherVersion t) 10 13 (λ z. omega arith)) (λ m. other (not (isText t)) 9 13 (λ z. omega arith) (m .1)) (either (refuse (otherVersion t) 10) _ (k .1)))
+    (either (refuse (ltb 65536 (length t)) 13) _ e)
+
+pub another-exactly : (t : List ℕ) (code : ℕ) → (askRefusal t code ≡ 14) ↔ ((isCode code ≡ true) × (textRefusal t ≡ 0) × (arrangementOf code ≡ textArrangement t → ⊥))
+unfolding askRefusal
+another-exactly t code = (to, λ h. passes _ (code-passes code (h .0)) ∙ passes _ (h .1) ∙ differs (isOf (textArrangement t) code) refl (h .2))
+  where
+    a : Arrangement
+    a = textArrangement t
+
+    differs : (b : Bool) → isOf a code ≡ b → (arrangementOf code ≡ a → ⊥) → refuse (not b) 14 ≡ 14
+    differs true e n = absurd (n (of-arrangement a code e))
+    differs false e n = refl
+
+    refused : (b : Bool) → isOf a code ≡ b → refuse (not b) 14 ≡ 14 → arrangementOf code ≡ a → ⊥
+    refused true e h g = omega arith
+    refused false e h g = clash (sym (arrangement-of a code g) ∙ e)
+
+    to : askRefusal t code ≡ 14 → (isCode code ≡ true) × (textRefusal t ≡ 0) × (arrangementOf code ≡ a → ⊥)
+    to e =
+        ⊎-elim (λ h. absurd (let f = four-refused code (λ z. omega arith) in omega arith))
+        (λ k.
+        ⊎-elim (λ h. absurd (text-other t h)) (λ m. (a-code code (k .0), m .0, refused (isOf a code) refl (m .1))) (either (textRefusal t) _ (k .1)))
+        (either (codeRefusal code) _ e)

@@ -7,7 +7,7 @@ use Rattle.logic.specs.Laws.Refusal.{stops, passes}
 use Rattle.cell.specs.declared.Cell.{Cell}
 use Rattle.cell.specs.declared.Found.{Found}
 use Rattle.cell.specs.declared.Found.the-variants.{At, Refused}
-use Rattle.cell.specs.Cell.{IsCell, found, cellIn}
+use Rattle.cell.specs.Cell.{found}
 
 pub found-at : (r : ℕ) (c x : Cell) → At x ≡ found r c → (r ≡ 0) × (x ≡ c)
 unfolding found
@@ -18,12 +18,6 @@ pub found-refused : (r : ℕ) (c : Cell) (q : ℕ) → Refused q ≡ found r c �
 unfolding found
 found-refused zero c q e = let k : _≡_ {A = ℕ} 0 1 = cc in absurd (omega arith)
 found-refused (suc r) c q e = (cc, λ z. omega arith)
-
--- it is a cell's where nothing is refused, and else that of N, whose numbers are 0
-pub found-is-cell : (r : ℕ) (c : Cell) → (r ≡ 0 → IsCell c) → IsCell (cellIn (found r c))
-unfolding found
-found-is-cell zero c h = h refl
-found-is-cell (suc r) c h = record { fine = omega arith; faced = omega arith; rowed = omega arith; columned = omega arith }
 
 refusal : (r : ℕ) (c : Cell) → (r ≡ 0 → ⊥) → Refused r ≡ found r c
 unfolding found

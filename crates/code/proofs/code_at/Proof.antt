@@ -1,42 +1,23 @@
--- `code::code_at` meets its contract: the path, moved up to the finest digits, is below 9^15. Assumes nothing.
-use mathlib.Core.Path.{sym, ap, subst}
-use Prim.Native.Nat.{ℕ, _+_, _*_, _<_}
+-- `code::code_at` meets its contract. Assumes nothing.
+use mathlib.Core.Path.{ap, _∙_}
+use Prim.Native.Nat.{ℕ, _+_, _*_}
 use native.Mathlib.Omega.{arith}
 use borrow.Author.Needs.{needs}
 use Rattle.code.specs.Code.{codeAt}
-use Rattle.code.specs.Laws.Code.{finest-small}
 use Rattle.code.proofs.code_at.Statement.{statement}
 use Rattle.code.proofs.code_at.Tie as tie
 
-small : (c : tie.After-nine-power) → c .before .args .path * c .nine-power .result < 205891132094649
-small c =
-    let a = c .before .args in
-    subst (λ (x : ℕ). a .path * x < 205891132094649) (sym (c .nine-power .ensures)) (finest-small (a .resolution) (a .path) (c .before .pre .1) (c .before .pre .2))
+cell-code-at-requires : tie.Need-cell-code-at-requires
+cell-code-at-requires c κs = search needs
 
-sub-nine-power : tie.Need-sub-nine-power
-sub-nine-power c = search needs
-
-nine-power-requires : tie.Need-nine-power-requires
-nine-power-requires c κs = search needs
-
-mul-finest : tie.Need-mul-finest
-mul-finest c = let s = small c in omega arith
-
-mul-result : tie.Need-mul-result
-mul-result c = search needs
-
-add-result : tie.Need-add-result
-add-result c = let s = small c in omega arith
-
-mul-result-2 : tie.Need-mul-result-2
-mul-result-2 c = let s = small c in omega arith
-
-add-result-2 : tie.Need-add-result-2
-add-result-2 c = let s = small c in omega arith
+with-arrangement-requires : tie.Need-with-arrangement-requires
+with-arrangement-requires c κs = (c .before .pre .0, omega (arith, c .cell-code-at .ensures .1))
 
 returns : tie.Need-returns
 unfolding codeAt
-returns c = let a = c .before .args in ap (λ (x : ℕ). (a .face * 205891132094649 + a .path * x) * 16 + a .resolution) (c .nine-power .ensures)
+returns c =
+    let a = c .before .before .args .arrangement in
+    c .with-arrangement .ensures ∙ ap (λ (x : ℕ). 16 * x + (4 * a .north + a .south)) (c .before .cell-code-at .ensures .0)
 
 pub code-at-spec : {M : Type 1} → statement M
-code-at-spec = tie.close (tie.spec sub-nine-power nine-power-requires mul-finest mul-result add-result mul-result-2 add-result-2 returns)
+code-at-spec = tie.close (tie.spec cell-code-at-requires with-arrangement-requires returns)

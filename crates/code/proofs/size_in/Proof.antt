@@ -1,6 +1,6 @@
 -- `code::size_in` meets its contract. Assumes nothing.
 use borrow.Author.Needs.{needs}
-use Rattle.code.specs.Code.{cellOf, sizeOf}
+use Rattle.code.specs.Code.{cellCoded, cellOf, sizeOf}
 use Rattle.code.proofs.size_in.Statement.{statement}
 use Rattle.code.proofs.size_in.Tie as tie
 
@@ -11,7 +11,7 @@ nine-power-requires : tie.Need-nine-power-requires
 nine-power-requires c κs = search needs
 
 returns : tie.Need-returns
-unfolding sizeOf cellOf
+unfolding sizeOf cellOf cellCoded
 returns c = c .nine-power .ensures
 
 pub size-in-spec : {M : Type 1} → statement M

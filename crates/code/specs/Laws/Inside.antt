@@ -14,17 +14,21 @@ use Rattle.ternary.specs.Weave.{weave}
 use Rattle.ternary.specs.Laws.Weave.{weave-prefix, weave-one}
 use Rattle.cell.specs.declared.Cell.{Cell}
 use Rattle.cell.specs.Cell.{IsCell}
-use Rattle.code.specs.Code.{pathOf, codeAt, codeOf, cellOf, isCode, sizeOf}
-use Rattle.code.specs.Laws.Code.{path-weave, path-small, code-is-cell, code-cell}
+use Rattle.code.specs.Code.{pathOf, cellCodeAt, cellCode, cellCoded, isCellCode, cellOf, isCode, sizeOf}
+use Rattle.code.specs.Laws.Code.{path-weave, path-small, coded-is-cell, coded-cell}
 use Rattle.code.specs.Inside.{Inside, startOf, endOf, Within, liesWithin}
 
 -- a code without its resolution is the number of the first finest cell
-pub start-code : (c : Cell) → IsCell c → codeOf c ≡ startOf c * 16 + c .resolution
-unfolding codeOf codeAt startOf
+pub start-code : (c : Cell) → IsCell c → cellCode c ≡ startOf c * 16 + c .resolution
+unfolding cellCode cellCodeAt startOf
 start-code c v = refl
 
-pub start-at : (code : ℕ) → isCode code ≡ true → code / 16 ≡ startOf (cellOf code)
-start-at code t = let v = code-is-cell code t in omega (arith, v .fine, code-cell code t, start-code (cellOf code) v)
+pub start-coded : (x : ℕ) → isCellCode x ≡ true → x / 16 ≡ startOf (cellCoded x)
+start-coded x t = let v = coded-is-cell x t in omega (arith, v .fine, coded-cell x t, start-code (cellCoded x) v)
+
+pub start-at : (code : ℕ) → isCode code ≡ true → code / 256 ≡ startOf (cellOf code)
+unfolding isCode cellOf
+start-at code t = let e = start-coded (code / 16) t in omega arith
 
 -- a cell's finest cells are among its face's
 pub end-small : (c : Cell) → IsCell c → endOf c ≤ c .face * 205891132094649 + 205891132094649
@@ -221,11 +225,11 @@ module _ (c x : Cell) where
 
     -- ---- code order: by the first finest cell, and of one start the coarser cell first
 
-    pub code-start : codeOf c ≤ codeOf x → startOf c ≤ startOf x
+    pub code-start : cellCode c ≤ cellCode x → startOf c ≤ startOf x
     code-start h = omega (arith, v .fine, w .fine, start-code c v, start-code x w)
 
     -- the finest cells of a cell that comes next in code order, and not inside, come after those of the first
-    pub next-before : codeOf c < codeOf x → liesWithin c x ≡ false → endOf c ≤ startOf x
+    pub next-before : cellCode c < cellCode x → liesWithin c x ≡ false → endOf c ≤ startOf x
     unfolding endOf
     next-before l e =
         ⊎-elim

@@ -9,12 +9,13 @@ use lib.Dec.{ltb, eqb}
 use borrow.Author.Tests.{eq-eqb, lt-ltb}
 use Rattle.ternary.specs.Laws.Powers.{nine-split, nine-pos}
 use Rattle.cell.specs.declared.Cell.{Cell}
+use Rattle.cell.specs.declared.Arrangement.{Arrangement}
 use Rattle.cell.specs.Cell.{IsCell}
-use Rattle.code.specs.Code.{pathOf, codeOf, cellOf, isCode, sizeOf}
-use Rattle.code.specs.Laws.Code.{code-is-cell}
+use Rattle.code.specs.Code.{pathOf, cellCode, cellCoded, isCellCode, codeOf, sizeOf}
+use Rattle.code.specs.Laws.Code.{coded-is-cell}
 use Rattle.code.specs.Inside.{startOf, endOf}
-use Rattle.code.specs.Laws.Inside.{start-code, start-at}
-use Rattle.code.specs.Number.{numberOf, startAs, endAs, codeAs, cellAs}
+use Rattle.code.specs.Laws.Inside.{start-code, start-coded}
+use Rattle.code.specs.Number.{numberOf, startAs, endAs, cellCodeAs, codeAs, cellAs}
 
 pub start-as : (c : Cell) → IsCell c → startAs (c .resolution) (numberOf c) ≡ startOf c
 unfolding startAs numberOf startOf
@@ -27,9 +28,13 @@ pub end-as : (c : Cell) → IsCell c → endAs (c .resolution) (numberOf c) ≡ 
 unfolding endAs endOf sizeOf
 end-as c v = ap (λ (x : ℕ). x + 9 ^ (15 - c .resolution)) (start-as c v)
 
-pub code-as : (c : Cell) → IsCell c → codeAs (c .resolution) (numberOf c) ≡ codeOf c
-unfolding codeAs
-code-as c v = ap (λ (x : ℕ). x * 16 + c .resolution) (start-as c v) ∙ sym (start-code c v)
+cell-code-as : (c : Cell) → IsCell c → cellCodeAs (c .resolution) (numberOf c) ≡ cellCode c
+unfolding cellCodeAs
+cell-code-as c v = ap (λ (x : ℕ). x * 16 + c .resolution) (start-as c v) ∙ sym (start-code c v)
+
+pub code-as : (a : Arrangement) (c : Cell) → IsCell c → codeAs a (c .resolution) (numberOf c) ≡ codeOf a c
+unfolding codeAs codeOf
+code-as a c v = ap (λ (x : ℕ). 16 * x + (4 * a .north + a .south)) (cell-code-as c v)
 
 -- the finest cells of a number of k + 1 digits are among the first 9^16
 pub end-as-small : (k n : ℕ) → k ≤ 15 → n < 9 ^ (k + 1) → n * 9 ^ (15 - k) + 9 ^ (15 - k) ≤ 1853020188851841
@@ -63,27 +68,27 @@ module _ (k n : ℕ) (h : k ≤ 15) (l : n < 6 * 9 ^ k) where
       ∙ mod-mod-of-dvd z (n * z) (dvd-mul-right z (9 ^ (15 - (15 - k))))
       ∙ mul-mod-left n z
 
-  quotient : codeAs k n / 16 ≡ startAs k n
-  unfolding codeAs
+  quotient : cellCodeAs k n / 16 ≡ startAs k n
+  unfolding cellCodeAs
   quotient = omega arith
 
-  rest : codeAs k n % 16 ≡ k
-  unfolding codeAs
+  rest : cellCodeAs k n % 16 ≡ k
+  unfolding cellCodeAs
   rest = omega arith
 
-  code-good : isCode (codeAs k n) ≡ true
-  unfolding isCode startAs
+  code-good : isCellCode (cellCodeAs k n) ≡ true
+  unfolding isCellCode startAs
   code-good =
       let s = small in
       ap₂ (λ (x y : ℕ). ltb (x / 9 ^ 15) 6 && eqb (x % 9 ^ 15 % 9 ^ (15 - y)) 0) quotient rest
       ∙ ap₂ _&&_ (lt-ltb (n * 9 ^ (15 - k) / 9 ^ 15) 6 (omega arith)) (eq-eqb (n * 9 ^ (15 - k) % 9 ^ 15 % 9 ^ (15 - k)) 0 even)
 
   pub cell-as : IsCell (cellAs k n)
-  cell-as = code-is-cell (codeAs k n) code-good
+  cell-as = coded-is-cell (cellCodeAs k n) code-good
 
   pub as-fine : cellAs k n .resolution ≡ k
-  unfolding cellOf
+  unfolding cellCoded
   as-fine = rest
 
   pub as-start : startOf (cellAs k n) ≡ startAs k n
-  as-start = sym (start-at (codeAs k n) code-good) ∙ quotient
+  as-start = sym (start-coded (cellCodeAs k n) code-good) ∙ quotient

@@ -15,7 +15,7 @@ use Rattle.cell.specs.declared.Cell.{Cell}
 use Rattle.cell.specs.Cell.{IsCell}
 use Rattle.cell.specs.Hierarchy.{childOf}
 use Rattle.code.specs.Code.{pathOf, sizeOf}
-use Rattle.code.specs.Laws.Code.{path-weave, code-one}
+use Rattle.code.specs.Laws.Code.{path-weave, cell-code-one}
 use Rattle.code.specs.Inside.{Inside, startOf, endOf}
 use Rattle.code.specs.Laws.Inside.{start-code, end-small, size-pos, finest-inside, inside-finest}
 use Rattle.code.specs.Finest.{Finest}
@@ -68,7 +68,7 @@ finest-at n h =
 -- of one only,
 pub one-finest : {x y : Cell} → Finest x → Finest y → startOf x ≡ startOf y → x ≡ y
 one-finest {x} {y} f g e =
-    code-one x y (f .cell) (g .cell) (omega (arith, f .finest, g .finest, start-code x (f .cell), start-code y (g .cell)))
+    cell-code-one x y (f .cell) (g .cell) (omega (arith, f .finest, g .finest, start-code x (f .cell), start-code y (g .cell)))
 
 -- and no other number is one
 pub finest-small : (x : Cell) → Finest x → startOf x < 6 * 9 ^ 15

@@ -16,15 +16,15 @@ use Rattle.coverage.proofs.take_all.Statement.{statement}
 use Rattle.coverage.proofs.take_all.Tie as tie
 
 abbrev Inv-loop : tie.InvT-loop
-Inv-loop bytes₀ room₀ codes₀ from₀ end₀ count₀ t15 t16 t17 bytes room codes from end count =
+Inv-loop arrangement bytes₀ room₀ codes₀ from₀ end₀ count₀ t15 t16 t17 bytes room codes from end count =
     (from ≤ end) × (end ≤ length bytes) × (count ≤ length codes) × (length bytes ≡ length bytes₀) × (length room ≡ length room₀) × (length codes ≡ length codes₀)
-    × OfEnded (withName (length codes)) (read []) (read (take count codes))
+    × OfEnded (withName arrangement (length codes)) (read []) (read (take count codes))
 
 abbrev μ-loop : tie.MeasureT-loop
-μ-loop bytes₀ room₀ codes₀ from₀ end₀ count₀ t15 t16 t17 bytes room codes from end count = length codes₀ - count
+μ-loop arrangement bytes₀ room₀ codes₀ from₀ end₀ count₀ t15 t16 t17 bytes room codes from end count = length codes₀ - count
 
 loop-holds : tie.Need-loop-holds Inv-loop μ-loop
-loop-holds c = (omega arith, omega arith, omega arith, refl, refl, refl, no-line (withName _) (read []))
+loop-holds c = (omega arith, omega arith, omega arith, refl, refl, refl, no-line (withName _ _) (read []))
 
 slice-aggregate-next-line : tie.Need-slice-aggregate-next-line Inv-loop μ-loop
 slice-aggregate-next-line c = search needs
@@ -52,23 +52,25 @@ loop-less : tie.Need-loop-less Inv-loop μ-loop
 loop-less c =
     let n = c .before .before .before .before .before .before .before .before .before .before .before .before .before .before .before in
     let l = n .before .before .before .before .loop in
+    let a = n .before .before .before .before .before .before .before .before .args in
     let line = c .before .before .before .before .before .before .before .before .before .length .given in
     let t = c .before .before .before .before .before .take-name in
-    let m = taken-more (n .next-line .last .1 .1 .1 .1 .0) (search needs) (l .codes) (t .last .1 .0) (l .count) (line .0 .0) (l .inv .6) (t .ensures) _ (c .before .more .given .1) in
+    let m = taken-more (a .arrangement) (n .next-line .last .1 .1 .1 .1 .0) (search needs) (l .codes) (t .last .1 .1 .0) (l .count) (line .0 .0) (l .inv .6) (t .ensures) _ (c .before .more .given .1) in
     omega (arith, m .0, m .1, l .inv .5)
 
 loop-again : tie.Need-loop-again Inv-loop μ-loop
 loop-again c =
     let n = c .before .before .before .before .before .before .before .before .before .before .before .before .before .before .before in
     let l = n .before .before .before .before .loop in
+    let a = n .before .before .before .before .before .before .before .before .args in
     let line = c .before .before .before .before .before .before .before .before .before .length .given in
     let g = line-given _ _ _ (n .next-line .ensures) _ _ _ (line .1) in
     let t = c .before .before .before .before .before .take-name in
     let e = c .before .more .given .1 in
-    let m = taken-more (n .next-line .last .1 .1 .1 .1 .0) (search needs) (l .codes) (t .last .1 .0) (l .count) (line .0 .0) (l .inv .6) (t .ensures) _ e in
-    let v = line-read (n .next-line .last .1 .1 .1 .1 .0) (search needs) (l .codes) (t .last .1 .0) (l .count) (line .0 .0) (l .inv .6) (t .ensures)
+    let m = taken-more (a .arrangement) (n .next-line .last .1 .1 .1 .1 .0) (search needs) (l .codes) (t .last .1 .1 .0) (l .count) (line .0 .0) (l .inv .6) (t .ensures) _ e in
+    let v = line-read (a .arrangement) (n .next-line .last .1 .1 .1 .1 .0) (search needs) (l .codes) (t .last .1 .1 .0) (l .count) (line .0 .0) (l .inv .6) (t .ensures)
     (unread (l .bytes) (l .from) (l .end)) (n .next-line .last .1 .0) _ _ _ g e in
-    let same : length (t .last .1 .0) ≡ length (l .codes) = search needs in
+    let same : length (t .last .1 .1 .0) ≡ length (l .codes) = search needs in
     (g .6, g .7, m .0, search needs, search needs, search needs, rw same v)
 
 enum-known-refusal : tie.Need-enum-known-refusal Inv-loop μ-loop
@@ -96,11 +98,12 @@ returns : tie.Need-returns Inv-loop μ-loop
 returns c =
     let n = c .before .before .before .before .before .before .before .before .before .before .before .before .before .before .before .before .before in
     let l = n .before .before .before .before .loop in
+    let a = n .before .before .before .before .before .before .before .before .args in
     let line = c .before .before .before .before .before .before .before .before .before .before .before .length .given in
     let g = line-given _ _ _ (n .next-line .ensures) _ _ _ (line .1) in
     let t = c .before .before .before .before .before .before .before .take-name in
     rw (sym (l .inv .5))
-    (line-stops (n .next-line .last .1 .1 .1 .1 .0) (search needs) (l .codes) (t .last .1 .0) (l .count) (line .0 .0) (l .inv .6) (t .ensures) (unread (l .bytes) (l .from) (l .end))
+    (line-stops (a .arrangement) (n .next-line .last .1 .1 .1 .1 .0) (search needs) (l .codes) (t .last .1 .1 .0) (l .count) (line .0 .0) (l .inv .6) (t .ensures) (unread (l .bytes) (l .from) (l .end))
     (n .next-line .last .1 .0) _ _ _ g (c .before .before .before .refusal .given .1))
 
 enum-known-length-2 : tie.Need-enum-known-length-2 Inv-loop μ-loop
@@ -132,11 +135,12 @@ returns-2 : tie.Need-returns-2 Inv-loop μ-loop
 returns-2 c =
     let n = c .before .before .before .before .before .before .before .before .before .before .before .before .before .before .before in
     let l = n .before .before .before .before .loop in
+    let a = n .before .before .before .before .before .before .before .before .args in
     let line = c .before .before .before .before .before .before .before .before .before .length2 .given in
     let g = last-given _ _ _ (n .next-line .ensures) _ (line .1) in
     let t = c .before .before .before .before .before .take-name2 in
     rw (sym (l .inv .5))
-    (last-read (n .next-line .last .1 .1 .1 .1 .0) (search needs) (l .codes) (t .last .1 .0) (l .count) (line .0 .0) (l .inv .6) (t .ensures) (unread (l .bytes) (l .from) (l .end))
+    (last-read (a .arrangement) (n .next-line .last .1 .1 .1 .1 .0) (search needs) (l .codes) (t .last .1 .1 .0) (l .count) (line .0 .0) (l .inv .6) (t .ensures) (unread (l .bytes) (l .from) (l .end))
     (n .next-line .last .1 .0) _ g (c .before .more2 .given .1))
 
 enum-known-refusal-2 : tie.Need-enum-known-refusal-2 Inv-loop μ-loop
@@ -164,11 +168,12 @@ returns-3 : tie.Need-returns-3 Inv-loop μ-loop
 returns-3 c =
     let n = c .before .before .before .before .before .before .before .before .before .before .before .before .before .before .before .before .before in
     let l = n .before .before .before .before .loop in
+    let a = n .before .before .before .before .before .before .before .before .args in
     let line = c .before .before .before .before .before .before .before .before .before .before .before .length2 .given in
     let g = last-given _ _ _ (n .next-line .ensures) _ (line .1) in
     let t = c .before .before .before .before .before .before .before .take-name2 in
     rw (sym (l .inv .5))
-    (last-stops (n .next-line .last .1 .1 .1 .1 .0) (search needs) (l .codes) (t .last .1 .0) (l .count) (line .0 .0) (l .inv .6) (t .ensures) (unread (l .bytes) (l .from) (l .end))
+    (last-stops (a .arrangement) (n .next-line .last .1 .1 .1 .1 .0) (search needs) (l .codes) (t .last .1 .1 .0) (l .count) (line .0 .0) (l .inv .6) (t .ensures) (unread (l .bytes) (l .from) (l .end))
     (n .next-line .last .1 .0) _ g (c .before .before .before .refusal2 .given .1))
 
 enum-told : tie.Need-enum-told Inv-loop μ-loop
@@ -184,7 +189,7 @@ same-length-12 : tie.Need-same-length-12 Inv-loop μ-loop
 same-length-12 c = search needs
 
 returns-4 : tie.Need-returns-4 Inv-loop μ-loop
-returns-4 c = let l = c .before .before .before .before .before .before .before .before .before .before .loop in (then-none (withName _) (rw (sym (l .inv .5)) (l .inv .6)), l .inv .2)
+returns-4 c = let l = c .before .before .before .before .before .before .before .before .before .before .loop in (then-none (withName _ _) (rw (sym (l .inv .5)) (l .inv .6)), l .inv .2)
 
 enum-told-2 : tie.Need-enum-told-2 Inv-loop μ-loop
 enum-told-2 c = search needs

@@ -24,8 +24,8 @@ mul-codes c = search needs
 slice-write-codes : tie.Need-slice-write-codes
 slice-write-codes c = search needs
 
-add-t13 : tie.Need-add-t13
-add-t13 c = search needs
+add-t14 : tie.Need-add-t14
+add-t14 c = search needs
 
 same-length : tie.Need-same-length
 same-length c = search needs
@@ -33,7 +33,7 @@ same-length c = search needs
 returns : tie.Need-returns
 returns c =
     let a = c .before .before .before .before .before .before .before .before .before .args in
-    name-taken (a .line .now) (a .codes .now) (a .count) (c .before .before .before .before .before .before .before .before .before .pre)
+    name-taken (a .arrangement) (a .line .now) (a .codes .now) (a .count) (c .before .before .before .before .before .before .before .before .before .pre .1)
     (c .before .before .before .before .before .before .trimmed-length .ensures .0) (c .before .before .before .before .name-code .ensures) _ (c .before .before .code .given .1) (c .if1 .taken)
 
 enum-known-refusal : tie.Need-enum-known-refusal
@@ -42,13 +42,13 @@ enum-known-refusal c = search needs
 returns-2 : tie.Need-returns-2
 returns-2 c =
     let a = c .before .before .before .before .before .before .before .before .before .args in
-    name-full (a .line .now) (a .codes .now) (a .count) (c .before .before .before .before .before .before .before .before .before .pre)
+    name-full (a .arrangement) (a .line .now) (a .codes .now) (a .count) (c .before .before .before .before .before .before .before .before .before .pre .1)
     (c .before .before .before .before .before .before .trimmed-length .ensures .0) (c .before .before .before .before .name-code .ensures) _ (c .before .before .code .given .1) (c .if1 .left)
 
 returns-3 : tie.Need-returns-3
 returns-3 c =
     let a = c .before .before .before .before .before .before .before .before .args in
-    name-refused (a .line .now) (a .codes .now) (a .count) (c .before .before .before .before .before .before .before .before .pre)
+    name-refused (a .arrangement) (a .line .now) (a .codes .now) (a .count) (c .before .before .before .before .before .before .before .before .pre .1)
     (c .before .before .before .before .before .trimmed-length .ensures .0) (c .before .before .before .name-code .ensures) _ (c .before .refusal .given .1)
 
 pub take-name-spec : {M : Type 1} → statement M
@@ -61,7 +61,7 @@ take-name-spec =
     enum-known-code
     mul-codes
     slice-write-codes
-    add-t13
+    add-t14
     same-length
     returns
     enum-known-refusal

@@ -29,7 +29,7 @@ slice-aggregate-put-text-2 : tie.Need-slice-aggregate-put-text-2
 slice-aggregate-put-text-2 c = search needs
 
 put-text-requires : tie.Need-put-text-requires
-put-text-requires c κs = read-fits _ _ _ (c .before .before .before .before .before .before .before .before .take-all .ensures) (c .before .before .before .count .given .1)
+put-text-requires c κs = read-fits _ _ _ _ (c .before .before .before .before .before .before .before .before .take-all .ensures) (c .before .before .before .count .given .1)
 
 enum-known-length : tie.Need-enum-known-length
 enum-known-length c = search needs

@@ -1,9 +1,8 @@
 -- `flight::line_code` meets its contract: each way is one case of the line's reading. Assumes nothing.
 use mathlib.Core.Path.{sym, ap, ap₂, _∙_}
 use Rattle.signed.specs.Laws.Sign.{back-result}
-use Rattle.cell.specs.Laws.Found.{found-is-cell}
 use Rattle.code.specs.Code.{foundCode}
-use Rattle.code.specs.Laws.Code.{found-coded}
+use Rattle.code.specs.Laws.Code.{found-coded, found-placed}
 use Rattle.locate.specs.Laws.Fix.{fix-allowed}
 use Rattle.flight.specs.Flight.{fixCoded, ofLine, lineCode}
 use borrow.Author.Needs.{needs}
@@ -32,7 +31,7 @@ locate-requires : tie.Need-locate-requires
 locate-requires c κs = search needs
 
 found-code-requires : tie.Need-found-code-requires
-found-code-requires c κs = rw (c .locate .ensures) (found-is-cell _ _ (fix-allowed _ _ _ _))
+found-code-requires c κs = rw (c .locate .ensures) (found-placed _ _ (fix-allowed _ _ _ _))
 
 returns-2 : tie.Need-returns-2
 unfolding lineCode ofLine fixCoded
@@ -42,7 +41,7 @@ returns-2 c =
     let f = x .before .before in
     let a = f .before .before .args in
     let g = x .longitude .given in
-    c .found-code .ensures ∙ ap foundCode (c .before .locate .ensures) ∙ found-coded _ _
+    c .found-code .ensures ∙ ap (foundCode (a .setting .arrangement)) (c .before .locate .ensures) ∙ found-coded _ _ _
     ∙ ap₂ (fixCoded (a .setting)) (back-result (g .0 .0) (k .known-told .given .0 .1)) (back-result (g .0 .1 .0) (k .known-told .given .1 .0 .1))
     ∙ ap (ofLine (a .setting)) (sym (g .1) ∙ f .fix-in .ensures)
 

@@ -1,6 +1,6 @@
 -- `jgv_cell_code` meets its contract. Assumes nothing.
 use mathlib.Core.Path.{ap, _∙_}
-use Rattle.jeguarivo.specs.Entries.{codedAnswer, cellCode, codeAnswer}
+use Rattle.jeguarivo.specs.Entries.{codedAnswer, codeOfCell, codeAnswer}
 use borrow.Author.Needs.{needs}
 use Rattle.jeguarivo.proofs.jgv_cell_code.Statement.{statement}
 use Rattle.jeguarivo.proofs.jgv_cell_code.Tie as tie
@@ -12,7 +12,7 @@ coded-answer-requires : tie.Need-coded-answer-requires
 coded-answer-requires c κs = search needs
 
 returns : tie.Need-returns
-unfolding cellCode codeAnswer
+unfolding codeOfCell codeAnswer
 returns c = c .coded-answer .ensures ∙ ap codedAnswer (c .before .coded-cell .ensures)
 
 pub jgv-cell-code-spec : {M : Type 1} → statement M

@@ -8,17 +8,19 @@ use borrow.Author.Needs.{needs}
 use Rattle.jeguarivo.proofs.jgv_nucleus.Statement.{statement}
 use Rattle.jeguarivo.proofs.jgv_nucleus.Tie as tie
 
-placed-requires : tie.Need-placed-requires
-placed-requires c κs = search needs
+cell-of-requires : tie.Need-cell-of-requires
+cell-of-requires c κs = search needs
 
 enum-known-cell : tie.Need-enum-known-cell
 enum-known-cell c = search needs
 
+arrangement-of-requires : tie.Need-arrangement-of-requires
+arrangement-of-requires c κs = search needs
+
 nucleus-of-requires : tie.Need-nucleus-of-requires
 nucleus-of-requires c κs =
-    let p = c .before .before .before in
-    let a = p .before .args in
-    placed-stands (a .n) (a .s) (a .code) (p .placed .ensures) (c .before .cell .given .1)
+    let k = c .before .before .before .before in
+    placed-stands (k .before .args .code) (k .cell-of .ensures) (c .before .before .cell .given .1) (c .arrangement-of .ensures)
 
 enum-known-refusal : tie.Need-enum-known-refusal
 enum-known-refusal c = search needs
@@ -27,20 +29,28 @@ returns : tie.Need-returns
 unfolding cellNucleus
 returns c =
     let q = c .before in
-    let x = q .before .before in
-    let p = x .before .before in
-    let a = p .before .args in
-    placed-value (a .n) (a .s) (a .code) (p .placed .ensures) (λ a c. aPoint (nucleusOf a c)) noPoint (x .cell .given .1)
-    ((λ i. record { refusal = 0; x = back-result (q .nucleus-of .result .x) (c .struct-told .given .0 .1) i; y = back-result (q .nucleus-of .result .y) (c .struct-told .given .1 .0 .1) i })
-    ∙ ap aPoint (q .nucleus-of .ensures))
+    let r = q .nucleus-of .result in
+    let told = c .struct-told .given in
+    let g = q .before in
+    let x = g .before .before in
+    let k = x .before .before in
+    placed-value (k .before .args .code) (k .cell-of .ensures) (x .cell .given .1) (g .arrangement-of .ensures) (λ a c. aPoint (nucleusOf a c)) noPoint
+    ((λ i. record { refusal = 0; x = back-result (r .x) (told .0 .1) i; y = back-result (r .y) (told .1 .0 .1) i }) ∙ ap aPoint (q .nucleus-of .ensures))
 
 returns-2 : tie.Need-returns-2
 unfolding cellNucleus
 returns-2 c =
-    let p = c .before .before .before in
-    let a = p .before .args in
-    placed-none (a .n) (a .s) (a .code) (p .placed .ensures) (λ a c. aPoint (nucleusOf a c)) noPoint (c .before .refusal .given .1)
+    let k = c .before .before .before in
+    placed-none (k .before .args .code) (k .cell-of .ensures) (λ a c. aPoint (nucleusOf a c)) noPoint (c .before .refusal .given .1)
 
 pub jgv-nucleus-spec : {M : Type 1} → statement M
 jgv-nucleus-spec =
-    tie.close (tie.spec placed-requires enum-known-cell nucleus-of-requires enum-known-refusal returns returns-2)
+    tie.close
+    (tie.spec
+    cell-of-requires
+    enum-known-cell
+    arrangement-of-requires
+    nucleus-of-requires
+    enum-known-refusal
+    returns
+    returns-2)

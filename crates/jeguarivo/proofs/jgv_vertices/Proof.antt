@@ -7,17 +7,19 @@ use borrow.Author.Needs.{needs}
 use Rattle.jeguarivo.proofs.jgv_vertices.Statement.{statement}
 use Rattle.jeguarivo.proofs.jgv_vertices.Tie as tie
 
-placed-requires : tie.Need-placed-requires
-placed-requires c κs = search needs
+cell-of-requires : tie.Need-cell-of-requires
+cell-of-requires c κs = search needs
 
 enum-known-cell : tie.Need-enum-known-cell
 enum-known-cell c = search needs
 
+arrangement-of-requires : tie.Need-arrangement-of-requires
+arrangement-of-requires c κs = search needs
+
 vertices-of-requires : tie.Need-vertices-of-requires
 vertices-of-requires c κs =
-    let p = c .before .before .before in
-    let a = p .before .args in
-    placed-stands (a .n) (a .s) (a .code) (p .placed .ensures) (c .before .cell .given .1)
+    let k = c .before .before .before .before in
+    placed-stands (k .before .args .code) (k .cell-of .ensures) (c .before .before .cell .given .1) (c .arrangement-of .ensures)
 
 enum-known-refusal : tie.Need-enum-known-refusal
 enum-known-refusal c = search needs
@@ -26,18 +28,26 @@ returns : tie.Need-returns
 unfolding cellVertices
 returns c =
     let q = c .before .before in
-    let x = q .before .before in
-    let p = x .before .before in
-    let a = p .before .args in
-    placed-value (a .n) (a .s) (a .code) (p .placed .ensures) (λ a c. theVertices (verticesOf a c)) noVertices (x .cell .given .1) (ap theVertices (q .vertices-of .ensures))
+    let g = q .before in
+    let x = g .before .before in
+    let k = x .before .before in
+    placed-value (k .before .args .code) (k .cell-of .ensures) (x .cell .given .1) (g .arrangement-of .ensures) (λ a c. theVertices (verticesOf a c)) noVertices
+    (ap theVertices (q .vertices-of .ensures))
 
 returns-2 : tie.Need-returns-2
 unfolding cellVertices
 returns-2 c =
-    let p = c .before .before .before in
-    let a = p .before .args in
-    placed-none (a .n) (a .s) (a .code) (p .placed .ensures) (λ a c. theVertices (verticesOf a c)) noVertices (c .before .refusal .given .1)
+    let k = c .before .before .before in
+    placed-none (k .before .args .code) (k .cell-of .ensures) (λ a c. theVertices (verticesOf a c)) noVertices (c .before .refusal .given .1)
 
 pub jgv-vertices-spec : {M : Type 1} → statement M
 jgv-vertices-spec =
-    tie.close (tie.spec placed-requires enum-known-cell vertices-of-requires enum-known-refusal returns returns-2)
+    tie.close
+    (tie.spec
+    cell-of-requires
+    enum-known-cell
+    arrangement-of-requires
+    vertices-of-requires
+    enum-known-refusal
+    returns
+    returns-2)

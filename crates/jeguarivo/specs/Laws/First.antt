@@ -23,8 +23,8 @@ use Rattle.cell.specs.Cell.{cellRefusal, arrangementRefusal, found}
 use Rattle.cell.specs.Laws.Cell.{cell-is}
 use Rattle.cell.specs.Neighbour.{neighbourOf}
 use Rattle.cell.specs.Hierarchy.{parentOf, parentRefusal, childOf, childRefusal}
-use Rattle.code.specs.Code.{codeOf, cellOf, isCode, codeRefusal, coded}
-use Rattle.code.specs.Laws.Code.{code-is-cell, code-cell}
+use Rattle.code.specs.Code.{codeOf, cellOf, cellCode, arrangementOf, isCode, isOf, codeRefusal, coded}
+use Rattle.code.specs.Laws.Code.{code-is-cell, code-cell, code-order, of-arrangement, arrangement-of}
 use Rattle.code.specs.Laws.Exact.{NoCell, no-cell, some-cell}
 use Rattle.name.specs.Name.{nameOf, firstLetter, isDigit, allDigits, nameRefusal, nameCode, codeNameRefusal, named}
 use Rattle.plane.specs.Plane.{squareOf, nucleusOf, verticesOf, pointRefusal, pointCell, inImage, inBelt, inNorth, inSouth, faceSide, half, threeHalves}
@@ -32,27 +32,27 @@ use Rattle.locate.specs.Fix.{InRange, fixRefusal, fixCell, inRange}
 use Rattle.locate.specs.Laws.Fix.{within-range, range-holds}
 use Rattle.reading.specs.Ground.{Apart, Rising}
 use Rattle.reading.specs.Text.{heading, ReadsAs, Accepted}
-use Rattle.reading.specs.TextReading.{nodesOf, northOf, southOf, isText}
+use Rattle.reading.specs.TextReading.{nodesOf, northOf, southOf, textArrangement, isText}
 use Rattle.reading.specs.Laws.TextReading.{reads-own}
 use Rattle.reader.specs.Check.{WrongVersion, otherVersion, textRefusal, answer, checkedOf}
 use Rattle.reader.specs.Laws.Check.{version-bytes, bytes-version, is-accepted, is-not}
 use Rattle.listing.specs.List.{listingRefusal, listed, codesOf}
 use Rattle.asking.specs.Ask.{askRefusal, asked}
-use Rattle.writing.specs.Write.{allCodes, ordered, codesRefusal, writeRefusal, textOf, written}
-use Rattle.writing.specs.Laws.List.{good-list, list-good}
+use Rattle.writing.specs.Write.{allCodes, allOf, Another, ordered, codesRefusal, writeRefusal, textOf, written}
+use Rattle.writing.specs.Laws.List.{tested, good-list, list-good}
 use Rattle.nucleus.specs.Nucleus.{groundNucleus}
 use Rattle.jeguarivo.specs.declared.SquareAnswer.{SquareAnswer}
 use Rattle.jeguarivo.specs.declared.PointAnswer.{PointAnswer}
 use Rattle.jeguarivo.specs.declared.VerticesAnswer.{VerticesAnswer}
 use Rattle.jeguarivo.specs.declared.FixAnswer.{FixAnswer}
-use Rattle.jeguarivo.specs.Entries.{arrangement, codeAnswer, cellCode, nameAnswer, parentCode, childCode, pointCode, fixCode, neighbourCode, codeCell}
-use Rattle.jeguarivo.specs.Entries.{foundAnswer, namedAnswer, writtenName, cellSize, cellShape, cornerCount, placedRefusal, placedAnswer, cellSquare}
+use Rattle.jeguarivo.specs.Entries.{arrangement, codeAnswer, codeOfCell, nameAnswer, parentCode, childCode, pointCode, fixCode, neighbourCode, codeCell}
+use Rattle.jeguarivo.specs.Entries.{cellNumbers, nameNumbers, writtenName, cellSize, cellShape, cornerCount, placedAnswer, cellSquare}
 use Rattle.jeguarivo.specs.Entries.{cellNucleus, cellVertices, groundFix, aSquare, noSquare, aPoint, noPoint, theVertices, noVertices, aFix, noFix}
 use Rattle.jeguarivo.specs.Texts.{checkNumbers, listNumbers, askNumbers, writtenNumbers}
 use Rattle.jeguarivo.specs.Order.{Chain, NoneOf, FirstOf}
 use Rattle.jeguarivo.specs.Laws.Order.{Decides, last, then, twice, lt-decides, le-decides, eq-decides, ltZ-decides, leZ-decides, not-decides, and-decides, or-decides}
 use Rattle.jeguarivo.specs.Refusals.{NoLetter, NoDigit, OnImage, arrangementTests, codeTests, textTests, cellTests, nameTests, codeNameTests}
-use Rattle.jeguarivo.specs.Refusals.{parentTests, childTests, pointTests, fixTests, neighbourTests, placedTests, listTests, askTests, writeTests}
+use Rattle.jeguarivo.specs.Refusals.{parentTests, childTests, pointTests, fixTests, neighbourTests, headingOf, listTests, askTests, writeTests}
 
 -- ---- what the tests decide
 
@@ -86,6 +86,14 @@ cells-of : (codes : List ℕ) → Decides (not (allCodes codes)) (Any NoCell cod
 unfolding allCodes
 cells-of [] = record { holds = λ e. clash (sym e); fails = λ e h. h }
 cells-of (c ∷ cs) = not-and (isCode c) (allCodes cs) (cell-of c) (cells-of cs)
+
+of-another : (a : Arrangement) (codes : List ℕ) → Decides (not (allOf a codes)) (Another a codes)
+unfolding allOf
+of-another a [] = record { holds = λ e. clash (sym e); fails = λ e h. h }
+of-another a (c ∷ cs) = not-and (isOf a c) (allOf a cs) (not-decides own) (of-another a cs)
+  where
+    own : Decides (isOf a c) (arrangementOf c ≡ a)
+    own = record { holds = of-arrangement a c; fails = λ e g. clash (sym (arrangement-of a c g) ∙ e) }
 
 version : (t : List ℕ) → Decides (otherVersion t) (WrongVersion t)
 version t = record { holds = version-bytes t; fails = λ e h. clash (sym (bytes-version t h) ∙ e) }
@@ -129,22 +137,24 @@ coded-first {xs} {r} code f = subst (FirstOf xs) (sym (code-refusal r code)) f
 -- ---- the entries
 
 -- jgv_cell_code
-pub cell-code-first : (f k i j : ℕ) → FirstOf (cellTests f k i j) (cellCode f k i j .refusal)
-unfolding cellCode cellRefusal
-cell-code-first f k i j =
-    coded-first (codeOf (record { face = f; resolution = k; row = i; column = j }))
-    (then (last 1 (lt-decides 15 k)) refl (λ _. then (last 0 (lt-decides 5 f)) refl (λ _. twice 2 (le-decides (3 ^ k) i) (le-decides (3 ^ k) j))))
+pub cell-code-first : (n s f k i j : ℕ) → FirstOf (cellTests n s f k i j) (codeOfCell n s f k i j .refusal)
+unfolding codeOfCell cellRefusal
+cell-code-first n s f k i j =
+    coded-first (codeOf (arrangement n s) (record { face = f; resolution = k; row = i; column = j }))
+    (then (arrangement-first n s) refl
+    (λ _. then (last 1 (lt-decides 15 k)) refl (λ _. then (last 0 (lt-decides 5 f)) refl (λ _. twice 2 (le-decides (3 ^ k) i) (le-decides (3 ^ k) j)))))
 
 -- jgv_name_code
-pub name-code-first : (bs : List ℕ) → FirstOf (nameTests bs) (nameAnswer bs .refusal)
+pub name-code-first : (n s : ℕ) (bs : List ℕ) → FirstOf (nameTests n s bs) (nameAnswer n s bs .refusal)
 unfolding nameAnswer nameRefusal
-name-code-first bs =
-    coded-first (nameCode bs)
-    (then (last 1 (lt-decides 16 (length bs))) refl (λ _. then (last 0 (letter bs)) refl (λ _. last 2 (digits (drop 1 bs)))))
+name-code-first n s bs =
+    coded-first (nameCode (arrangement n s) bs)
+    (then (arrangement-first n s) refl
+    (λ _. then (last 1 (lt-decides 16 (length bs))) refl (λ _. then (last 0 (letter bs)) refl (λ _. last 2 (digits (drop 1 bs))))))
 
-pub name-refusal : (bs : List ℕ) → nameAnswer bs .refusal ≡ nameRefusal bs
+pub name-refusal : (n s : ℕ) (bs : List ℕ) → nameAnswer n s bs .refusal ≡ arrangementRefusal (arrangement n s) otherwise nameRefusal bs
 unfolding nameAnswer
-name-refusal bs = code-refusal (nameRefusal bs) (nameCode bs)
+name-refusal n s bs = code-refusal (arrangementRefusal (arrangement n s) otherwise nameRefusal bs) (nameCode (arrangement n s) bs)
 
 -- jgv_point_code
 image : (n s : ℕ) (x y : ℤ) → Decides (inImage (arrangement n s) x y) (OnImage n s x y)
@@ -161,7 +171,7 @@ image n s x y =
 pub point-code-first : (n s k : ℕ) (x y : ℤ) → FirstOf (pointTests n s k x y) (pointCode n s k x y .refusal)
 unfolding pointCode pointRefusal
 point-code-first n s k x y =
-    coded-first (codeOf (pointCell (arrangement n s) k x y))
+    coded-first (codeOf (arrangement n s) (pointCell (arrangement n s) k x y))
     (then (arrangement-first n s) refl (λ _. then (last 1 (lt-decides 15 k)) refl (λ _. last 6 (not-decides (image n s x y)))))
 
 -- jgv_fix_code
@@ -171,15 +181,15 @@ range L z = record { holds = range-holds; fails = λ e w. clash (sym (within-ran
 pub fix-code-first : (n s k : ℕ) (L z : ℤ) → FirstOf (fixTests n s k L z) (fixCode n s k L z .refusal)
 unfolding fixCode fixRefusal
 fix-code-first n s k L z =
-    coded-first (codeOf (fixCell (arrangement n s) k L z))
+    coded-first (codeOf (arrangement n s) (fixCell (arrangement n s) k L z))
     (then (arrangement-first n s) refl (λ _. then (last 1 (lt-decides 15 k)) refl (λ _. last 5 (not-decides (range L z)))))
 
 -- jgv_neighbour
-pub neighbour-first : (n s code d : ℕ) → FirstOf (neighbourTests n s code d) (neighbourCode n s code d .refusal)
+pub neighbour-first : (code d : ℕ) → FirstOf (neighbourTests code d) (neighbourCode code d .refusal)
 unfolding neighbourCode
-neighbour-first n s code d =
-    coded-first (codeOf (neighbourOf (arrangement n s) (cellOf code) d))
-    (then (arrangement-first n s) refl (λ _. then (last 2 (lt-decides 3 d)) refl (λ _. code-first code)))
+neighbour-first code d =
+    coded-first (codeOf (arrangementOf code) (neighbourOf (arrangementOf code) (cellOf code) d))
+    (then (last 2 (lt-decides 3 d)) refl (λ _. code-first code))
 
 -- jgv_parent
 module _ (code : ℕ) where
@@ -190,7 +200,7 @@ module _ (code : ℕ) where
   pub parent-first : FirstOf (parentTests code) (parentCode code .refusal)
   unfolding parentCode parentRefusal
   parent-first =
-      coded-first (codeOf (parentOf (cellOf code)))
+      coded-first (codeOf (arrangementOf code) (parentOf (cellOf code)))
       (then (code-first code) refl
       (λ n. subst (FirstOf ((12, cellOf code .resolution ≡ 0) ∷ [])) (sym (passes (refuse (eqb (cellOf code .resolution) 0) 12) (real (n .0))))
       (last 11 (eq-decides (cellOf code .resolution) 0))))
@@ -200,7 +210,7 @@ module _ (code : ℕ) where
   unfolding childCode childRefusal
   child-first digit =
       let twelve : ℕ = refuse (eqb (cellOf code .resolution) 15) 12 in
-      coded-first (codeOf (childOf (cellOf code) digit))
+      coded-first (codeOf (arrangementOf code) (childOf (cellOf code) digit))
       (then (last 2 (lt-decides 8 digit)) refl
       (λ d. then (code-first code) refl
       (λ n.
@@ -214,7 +224,7 @@ module _ (code : ℕ) where
   unfolding codeCell found
   code-cell-first = subst (FirstOf (codeTests code)) (sym (go (codeRefusal code))) (code-first code)
     where
-      go : (r : ℕ) → foundAnswer (found r (cellOf code)) .refusal ≡ r
+      go : (r : ℕ) → cellNumbers (arrangementOf code) (found r (cellOf code)) .refusal ≡ r
       go zero = refl
       go (suc r) = refl
 
@@ -238,7 +248,7 @@ module _ (code : ℕ) where
       subst (FirstOf (codeNameTests code room)) (sym (go (codeNameRefusal code room)))
       (then (code-first code) refl (λ _. last 7 (lt-decides room (length (nameOf (cellOf code))))))
     where
-      go : (r : ℕ) → namedAnswer (named r (length (nameOf (cellOf code)))) .refusal ≡ r
+      go : (r : ℕ) → nameNumbers (arrangementOf code) (named r (length (nameOf (cellOf code)))) .refusal ≡ r
       go zero = refl
       go (suc r) = refl
 
@@ -249,30 +259,28 @@ of-given of zero e f = e
 of-given of (suc r) e f = f
 
 placed-first :
-    {A : Type 0} (of : A → ℕ) (n s code : ℕ) (value : Arrangement → Cell → A) (none : ℕ → A) → ((a : Arrangement) (c : Cell) → of (value a c) ≡ 0) →
-    ((r : ℕ) → of (none r) ≡ r) → FirstOf (placedTests n s code) (of (placedAnswer n s code value none))
-unfolding placedAnswer placedRefusal
-placed-first of n s code v none e f =
-    let r : ℕ = placedRefusal (arrangement n s) code in
-    subst (FirstOf (placedTests n s code)) (sym (of-given of r (e (arrangement n s) (cellOf code)) (f r)))
-    (then (arrangement-first n s) refl (λ _. code-first code))
+    {A : Type 0} (of : A → ℕ) (code : ℕ) (value : Arrangement → Cell → A) (none : ℕ → A) → ((a : Arrangement) (c : Cell) → of (value a c) ≡ 0) →
+    ((r : ℕ) → of (none r) ≡ r) → FirstOf (codeTests code) (of (placedAnswer code value none))
+unfolding placedAnswer
+placed-first of code v none e f =
+    subst (FirstOf (codeTests code)) (sym (of-given of (codeRefusal code) (e (arrangementOf code) (cellOf code)) (f (codeRefusal code)))) (code-first code)
 
-module _ (n s code : ℕ) where
-  pub square-first : FirstOf (placedTests n s code) (cellSquare n s code .refusal)
+module _ (code : ℕ) where
+  pub square-first : FirstOf (codeTests code) (cellSquare code .refusal)
   unfolding cellSquare
-  square-first = placed-first (λ (x : SquareAnswer). x .refusal) n s code (λ a c. aSquare (squareOf a c)) noSquare (λ a c. refl) (λ r. refl)
+  square-first = placed-first (λ (x : SquareAnswer). x .refusal) code (λ a c. aSquare (squareOf a c)) noSquare (λ a c. refl) (λ r. refl)
 
-  pub nucleus-first : FirstOf (placedTests n s code) (cellNucleus n s code .refusal)
+  pub nucleus-first : FirstOf (codeTests code) (cellNucleus code .refusal)
   unfolding cellNucleus
-  nucleus-first = placed-first (λ (x : PointAnswer). x .refusal) n s code (λ a c. aPoint (nucleusOf a c)) noPoint (λ a c. refl) (λ r. refl)
+  nucleus-first = placed-first (λ (x : PointAnswer). x .refusal) code (λ a c. aPoint (nucleusOf a c)) noPoint (λ a c. refl) (λ r. refl)
 
-  pub vertices-first : FirstOf (placedTests n s code) (cellVertices n s code .refusal)
+  pub vertices-first : FirstOf (codeTests code) (cellVertices code .refusal)
   unfolding cellVertices
-  vertices-first = placed-first (λ (x : VerticesAnswer). x .refusal) n s code (λ a c. theVertices (verticesOf a c)) noVertices (λ a c. refl) (λ r. refl)
+  vertices-first = placed-first (λ (x : VerticesAnswer). x .refusal) code (λ a c. theVertices (verticesOf a c)) noVertices (λ a c. refl) (λ r. refl)
 
-  pub ground-first : FirstOf (placedTests n s code) (groundFix n s code .refusal)
+  pub ground-first : FirstOf (codeTests code) (groundFix code .refusal)
   unfolding groundFix
-  ground-first = placed-first (λ (x : FixAnswer). x .refusal) n s code (λ a c. aFix (groundNucleus a c)) noFix (λ a c. refl) (λ r. refl)
+  ground-first = placed-first (λ (x : FixAnswer). x .refusal) code (λ a c. aFix (groundNucleus a c)) noFix (λ a c. refl) (λ r. refl)
 
 -- jgv_coverage_check
 answer-refusal : (r : ℕ) (t : List ℕ) → checkNumbers (answer r t) .refusal ≡ r
@@ -309,8 +317,11 @@ module _ (t : List ℕ) where
   read n = reads-own t (passed (grammar t) (n .1 .1 .0))
 
   -- "the heading's"
-  headed : (n s : ℕ) → NoneOf (textTests t) → Decides (eqb n (northOf t) && eqb s (southOf t)) (take 7 t ≡ heading n s)
-  headed n s k =
+  headed : (code : ℕ) → NoneOf (textTests t) → Decides (isOf (textArrangement t) code) (take 7 t ≡ headingOf code)
+  unfolding isOf
+  headed code k =
+      let n : ℕ = arrangementOf code .north in
+      let s : ℕ = arrangementOf code .south in
       let h : take 7 t ≡ heading (northOf t) (southOf t) = ap (take 7) (read k .body .all) in
       let d = and-decides (eq-decides n (northOf t)) (eq-decides s (southOf t)) in
       record { holds = λ e. let p = d .holds e in h ∙ ap₂ heading (sym (p .0)) (sym (p .1)); fails = λ e q. d .fails e (same n s (northOf t) (southOf t) (sym q ∙ h)) }
@@ -326,59 +337,74 @@ module _ (t : List ℕ) where
   ask-refusal zero code = refl
   ask-refusal (suc r) code = refl
 
-  pub ask-first : (n s code : ℕ) → FirstOf (askTests n s t code) (askNumbers (asked (askRefusal (arrangement n s) t code) t code) .refusal)
+  pub ask-first : (code : ℕ) → FirstOf (askTests t code) (askNumbers (asked (askRefusal t code) t code) .refusal)
   unfolding askRefusal
-  ask-first n s code =
-      subst (FirstOf (askTests n s t code)) (sym (ask-refusal (askRefusal (arrangement n s) t code) code))
-      (then (arrangement-first n s) refl (λ _. then (code-first code) refl (λ _. then (text-first t) refl (λ k. last 13 (not-decides (headed n s k))))))
+  ask-first code =
+      subst (FirstOf (askTests t code)) (sym (ask-refusal (askRefusal t code) code))
+      (then (code-first code) refl (λ _. then (text-first t) refl (λ k. last 13 (not-decides (headed code k)))))
 
 -- jgv_coverage_write
 
 -- what holds of the values of a list
-map-all : {A B : Type 0} (P : B → Type 0) (f : A → B) (xs : List A) → All P (map f xs) → All (λ (x : A). P (f x)) xs
-map-all P f [] h = tt
-map-all P f (x ∷ xs) h = (h .0, map-all P f xs (h .1))
+module _ {A B : Type 0} (f : A → B) where
+  map-all : (P : B → Type 0) (Q : A → Type 0) → ((x : A) → P (f x) → Q x) → (xs : List A) → All P (map f xs) → All Q xs
+  map-all P Q g [] h = tt
+  map-all P Q g (x ∷ xs) h = (g x (h .0), map-all P Q g xs (h .1))
 
-map-pairs : {A B : Type 0} (R : B → B → Type 0) (f : A → B) (xs : List A) → Pairwise R (map f xs) → Pairwise (λ (x y : A). R (f x) (f y)) xs
-map-pairs R f [] h = tt
-map-pairs R f (x ∷ xs) h = (map-all (R (f x)) f xs (h .0), map-pairs R f xs (h .1))
+  map-pairs : (R : B → B → Type 0) (S : A → A → Type 0) → ((x y : A) → R (f x) (f y) → S x y) → (xs : List A) → Pairwise R (map f xs) → Pairwise S xs
+  map-pairs R S g [] h = tt
+  map-pairs R S g (x ∷ xs) h = (map-all (R (f x)) (S x) (g x) xs (h .0), map-pairs R S g xs (h .1))
 
-pairs-map : {A B : Type 0} (R : B → B → Type 0) (f : A → B) (xs : List A) → Pairwise (λ (x y : A). R (f x) (f y)) xs → Pairwise R (map f xs)
-pairs-map R f [] h = tt
-pairs-map {A} R f (x ∷ xs) h = (all-map (λ (y : A). R (f x) (f y)) (R (f x)) f (λ y k. k) xs (h .0), pairs-map R f xs (h .1))
+  pairs-map : (R : B → B → Type 0) (S : A → A → Type 0) → ((x y : A) → S x y → R (f x) (f y)) → (xs : List A) → Pairwise S xs → Pairwise R (map f xs)
+  pairs-map R S g [] h = tt
+  pairs-map R S g (x ∷ xs) h = (all-map (S x) (R (f x)) f (g x) xs (h .0), pairs-map R S g xs (h .1))
 
-codes-back : (codes : List ℕ) → allCodes codes ≡ true → map codeOf (map cellOf codes) ≡ codes
-unfolding allCodes
-codes-back [] e = refl
-codes-back (c ∷ cs) e = ap₂ _∷_ (code-cell c (and-left (isCode c) (allCodes cs) e)) (codes-back cs (and-right (isCode c) (allCodes cs) e))
+codes-back : (a : Arrangement) (codes : List ℕ) → allCodes codes ≡ true → allOf a codes ≡ true → map (codeOf a) (map cellOf codes) ≡ codes
+unfolding allCodes allOf
+codes-back a [] e o = refl
+codes-back a (c ∷ cs) e o =
+    let g : arrangementOf c ≡ a = of-arrangement a c (and-left (isOf a c) (allOf a cs) o) in
+    ap₂ _∷_ (ap (λ (r : Arrangement). codeOf r (cellOf c)) (sym g) ∙ code-cell c (and-left (isCode c) (allCodes cs) e))
+    (codes-back a cs (and-right (isCode c) (allCodes cs) e) (and-right (isOf a c) (allOf a cs) o))
 
-module _ (codes : List ℕ) (a : allCodes codes ≡ true) where
+module _ (a : Arrangement) (codes : List ℕ) (e : allCodes codes ≡ true) (o : allOf a codes ≡ true) where
   rise-cells : Rise codes → Rising (map cellOf codes)
-  rise-cells h = map-pairs (λ (x y : ℕ). x < y) codeOf (map cellOf codes) (rw (codes-back codes a) h)
+  rise-cells h =
+      map-pairs (codeOf a) (λ (x y : ℕ). x < y) (λ (c d : Cell). cellCode c < cellCode d) (λ c d. code-order a c d .0) (map cellOf codes) (rw (codes-back a codes e o) h)
 
   cells-rise : Rising (map cellOf codes) → Rise codes
-  cells-rise h = rw (codes-back codes a) at (pairs-map (λ (x y : ℕ). x < y) codeOf (map cellOf codes) h)
+  cells-rise h =
+      rw (codes-back a codes e o) at
+      (pairs-map (codeOf a) (λ (x y : ℕ). x < y) (λ (c d : Cell). cellCode c < cellCode d) (λ c d. code-order a c d .1) (map cellOf codes) h)
 
   in-rising-order : Decides (ordered codes) (Rise codes × Apart (map cellOf codes))
-  unfolding codesRefusal _otherwise_
+  unfolding _otherwise_
   in-rising-order =
       record {
-        holds = λ e. let g = good-list codes (ap₂ (λ (x y : Bool). refuse (not x) 4 otherwise refuse (not y) 11) a e) in (cells-rise (g .rising), g .apart);
-        fails = λ e h. off (ap₂ (λ (x y : Bool). refuse (not x) 4 otherwise refuse (not y) 11) a e)
-            (list-good codes (record { coded = a; rising = rise-cells (h .0); apart = h .1 }));
+        holds = λ r. let g = good-list a codes (tested a codes e o r) in (cells-rise (g .rising), g .apart);
+        fails = λ r h. off (tested a codes e o r) (list-good a codes (record { coded = e; own = o; rising = rise-cells (h .0); apart = h .1 }));
       }
     where
-      off : codesRefusal codes ≡ 11 → codesRefusal codes ≡ 0 → ⊥
+      off : codesRefusal a codes ≡ 11 → codesRefusal a codes ≡ 0 → ⊥
       off p q = omega arith
 
--- a list that is not one out of order is in order
-pub of-order : (codes : List ℕ) → (Any NoCell codes → ⊥) → ((Rise codes × Apart (map cellOf codes) → ⊥) → ⊥) → Rise codes × Apart (map cellOf codes)
-of-order codes a n = let d = in-rising-order codes (missed (allCodes codes) (cells-of codes) a) in d .holds (passed d n)
+-- a list of codes of one arrangement that is not one out of order is in order
+pub of-order :
+    (a : Arrangement) (codes : List ℕ) → (Any NoCell codes → ⊥) → (Another a codes → ⊥) → ((Rise codes × Apart (map cellOf codes) → ⊥) → ⊥) →
+    Rise codes × Apart (map cellOf codes)
+of-order a codes e o n =
+    let d = in-rising-order a codes (missed (allCodes codes) (cells-of codes) e) (missed (allOf a codes) (of-another a codes) o) in
+    d .holds (passed d n)
 
-codes-first : (codes : List ℕ) → FirstOf ((4, Any NoCell codes) ∷ (11, Rise codes × Apart (map cellOf codes) → ⊥) ∷ []) (codesRefusal codes)
+codes-first :
+    (a : Arrangement) (codes : List ℕ) →
+    FirstOf ((4, Any NoCell codes) ∷ (14, Another a codes) ∷ (11, Rise codes × Apart (map cellOf codes) → ⊥) ∷ []) (codesRefusal a codes)
 unfolding codesRefusal
-codes-first codes =
-    then (last 3 (cells-of codes)) refl (λ n. last 10 (not-decides (in-rising-order codes (missed (allCodes codes) (cells-of codes) (n .0)))))
+codes-first a codes =
+    then (last 3 (cells-of codes)) refl
+    (λ n. then (last 13 (of-another a codes)) refl
+    (λ m. last 10
+    (not-decides (in-rising-order a codes (missed (allCodes codes) (cells-of codes) (n .0)) (missed (allOf a codes) (of-another a codes) (m .0))))))
 
 pub write-refusal : (r n : ℕ) → writtenNumbers (written r n) .refusal ≡ r
 unfolding written
@@ -392,4 +418,4 @@ unfolding writeRefusal
 write-first n s codes room =
     let z : ℕ = length (textOf (arrangement n s) codes) in
     subst (FirstOf (writeTests n s codes room)) (sym (write-refusal (writeRefusal (arrangement n s) codes room) z))
-    (then (arrangement-first n s) refl (λ _. then (codes-first codes) refl (λ _. then (last 12 (lt-decides 65536 z)) refl (λ _. last 7 (lt-decides room z)))))
+    (then (arrangement-first n s) refl (λ _. then (codes-first (arrangement n s) codes) refl (λ _. then (last 12 (lt-decides 65536 z)) refl (λ _. last 7 (lt-decides room z)))))

@@ -4,6 +4,8 @@ use mathlib.Core.Path.{_≡_, refl, sym, ap, _∙_}
 use mathlib.Core.List.{List, [], _∷_}
 use Prim.Native.Nat.{ℕ, _+_}
 use Rattle.cell.specs.declared.Cell.{Cell}
+use Rattle.cell.specs.declared.Arrangement.{Arrangement}
+use Rattle.cell.specs.Cell.{IsArrangement}
 use Rattle.code.specs.Code.{cellOf}
 use Rattle.code.specs.Laws.Code.{cell-code}
 use Rattle.name.specs.Name.{digitBytes, nameOf, nameCode}
@@ -26,6 +28,7 @@ module _ (q : Name) (n : IsName 6 15 q) where
   pub named-bytes : nameOf (cellNamed q) ≡ bytesOf q
   named-bytes = bytes-of-cell (cellNamed q) ∙ ap bytesOf (name-named q n)
 
-  -- and what they name, read as a name, is the cell
-  pub bytes-named : cellOf (nameCode (bytesOf q)) ≡ cellNamed q
-  bytes-named = ap (λ (bs : List ℕ). cellOf (nameCode bs)) (sym named-bytes) ∙ ap cellOf (name-code (cellNamed q)) ∙ cell-code (cellNamed q) (named-cell q n)
+  -- and what they name, read as a name in any arrangement, is the cell
+  pub bytes-named : {a : Arrangement} → IsArrangement a → cellOf (nameCode a (bytesOf q)) ≡ cellNamed q
+  bytes-named {a} g =
+      ap (λ (bs : List ℕ). cellOf (nameCode a bs)) (sym named-bytes) ∙ ap cellOf (name-code a (cellNamed q)) ∙ cell-code g (cellNamed q) (named-cell q n)

@@ -9,26 +9,28 @@ use lib.IntN.{ℤ}
 use lib.ListN.{length, drop, take}
 use Rattle.logic.specs.Lists.{All, Any}
 use Rattle.logic.specs.Rise.{Rise}
+use Rattle.logic.specs.Laws.Refusal.{both, passes}
 use Rattle.cell.specs.declared.Cell.{Cell}
-use Rattle.cell.specs.Cell.{IsCell}
+use Rattle.cell.specs.Cell.{IsCell, IsArrangement, arrangementRefusal}
+use Rattle.cell.specs.Laws.Cell.{is-arrangement, arrangement-is}
 use Rattle.code.specs.Code.{cellOf}
 use Rattle.code.specs.Laws.Code.{code-is-cell}
 use Rattle.code.specs.Laws.Exact.{NoCell}
 use Rattle.name.specs.Name.{nameOf, nameCode, nameRefusal}
 use Rattle.name.specs.Laws.Name.{accepted, name-accepted, name-code-is, code-name}
 use Rattle.reading.specs.Ground.{Apart}
-use Rattle.reading.specs.Text.{heading, Accepted}
+use Rattle.reading.specs.Text.{Accepted}
 use Rattle.reader.specs.Check.{WrongVersion, checkedOf}
 use Rattle.listing.specs.List.{listingRefusal, listed, codesOf}
 use Rattle.asking.specs.Ask.{askRefusal, asked}
-use Rattle.writing.specs.Write.{writeRefusal, textOf, written}
+use Rattle.writing.specs.Write.{Another, writeRefusal, textOf, written}
 use Rattle.locate.specs.Fix.{InRange}
-use Rattle.jeguarivo.specs.Entries.{arrangement, cellCode, nameAnswer, parentCode, childCode, pointCode, fixCode, neighbourCode, codeCell, writtenName, cellSquare}
+use Rattle.jeguarivo.specs.Entries.{arrangement, codeOfCell, nameAnswer, parentCode, childCode, pointCode, fixCode, neighbourCode, codeCell, writtenName, cellSquare}
 use Rattle.jeguarivo.specs.Texts.{checkNumbers, listNumbers, askNumbers, writtenNumbers}
 use Rattle.jeguarivo.specs.Order.{order, orderInWriting, numbers, inOrder, NoneOf}
 use Rattle.jeguarivo.specs.Laws.Order.{given-exactly, none-exactly}
 use Rattle.jeguarivo.specs.Refusals.{NoLetter, NoDigit, OnImage, codeTests, textTests, cellTests, nameTests, codeNameTests, parentTests, childTests}
-use Rattle.jeguarivo.specs.Refusals.{pointTests, fixTests, neighbourTests, placedTests, listTests, askTests, writeTests}
+use Rattle.jeguarivo.specs.Refusals.{pointTests, fixTests, neighbourTests, headingOf, listTests, askTests, writeTests}
 use Rattle.jeguarivo.specs.Laws.First.{name-refusal, cell-code-first, name-code-first, point-code-first, fix-code-first, neighbour-first, parent-first}
 use Rattle.jeguarivo.specs.Laws.First.{child-first, code-cell-first, code-name-first, square-first, check-first, list-first, ask-first, write-first}
 use Rattle.jeguarivo.specs.Laws.First.{of-grammar, of-order}
@@ -38,21 +40,20 @@ use Rattle.jeguarivo.specs.Laws.First.{of-grammar, of-order}
 module _ (n s k f i j code digit room : ℕ) (x y : ℤ) (bytes codes : List ℕ) where
   pub in-order :
       All (λ (ns : List ℕ). inOrder order ns ≡ true)
-      (numbers (cellTests f k i j) ∷
+      (numbers (cellTests n s f k i j) ∷
       numbers (codeTests code) ∷
-      numbers (nameTests bytes) ∷
+      numbers (nameTests n s bytes) ∷
       numbers (codeNameTests code room) ∷
       numbers (parentTests code) ∷
       numbers (childTests code digit) ∷
       numbers (pointTests n s k x y) ∷
       numbers (fixTests n s k x y) ∷
-      numbers (neighbourTests n s code digit) ∷
-      numbers (placedTests n s code) ∷
+      numbers (neighbourTests code digit) ∷
       numbers (textTests bytes) ∷
       numbers (listTests bytes room) ∷
-      numbers (askTests n s bytes code) ∷ [])
+      numbers (askTests bytes code) ∷ [])
   unfolding inOrder
-  in-order = (refl, (refl, (refl, (refl, (refl, (refl, (refl, (refl, (refl, (refl, (refl, (refl, (refl, tt)))))))))))))
+  in-order = (refl, (refl, (refl, (refl, (refl, (refl, (refl, (refl, (refl, (refl, (refl, (refl, tt))))))))))))
 
   -- "in writing, 13 is judged on the text of a good list, so there it comes last but for 8"
   pub in-order-writing : inOrder orderInWriting (numbers (writeTests n s codes room)) ≡ true
@@ -61,42 +62,63 @@ module _ (n s k f i j code digit room : ℕ) (x y : ℤ) (bytes codes : List ℕ
 
 -- ---- of a cell's numbers
 
-module _ (face k row column : ℕ) where
+module _ (n s face k row column : ℕ) where
+  -- 5: "n or s given as a number above 3"
+  pub five-cell : (codeOfCell n s face k row column .refusal ≡ 5) ↔ ((3 < n) ⊎ (3 < s))
+  five-cell = given-exactly 4 (cell-code-first n s face k row column) refl
+
   -- 2: "resolution above 15"
-  pub two-cell : (cellCode face k row column .refusal ≡ 2) ↔ (15 < k)
-  two-cell = given-exactly 1 (cell-code-first face k row column) refl
+  pub two-cell : (codeOfCell n s face k row column .refusal ≡ 2) ↔ (((3 < n) ⊎ (3 < s) → ⊥) × (15 < k))
+  two-cell = given-exactly 1 (cell-code-first n s face k row column) refl
 
   -- 1: "face above 5"
-  pub one-cell : (cellCode face k row column .refusal ≡ 1) ↔ ((15 < k → ⊥) × (5 < face))
-  one-cell = given-exactly 0 (cell-code-first face k row column) refl
+  pub one-cell : (codeOfCell n s face k row column .refusal ≡ 1) ↔ (((3 < n) ⊎ (3 < s) → ⊥) × ((15 < k → ⊥) × (5 < face)))
+  one-cell = given-exactly 0 (cell-code-first n s face k row column) refl
 
   -- 3: "row or column not below 3^k"
-  pub three-cell : (cellCode face k row column .refusal ≡ 3) ↔ ((15 < k → ⊥) × ((5 < face → ⊥) × ((3 ^ k ≤ row) ⊎ (3 ^ k ≤ column))))
-  three-cell = given-exactly 2 (cell-code-first face k row column) refl
+  pub three-cell :
+      (codeOfCell n s face k row column .refusal ≡ 3)
+      ↔ (((3 < n) ⊎ (3 < s) → ⊥) × ((15 < k → ⊥) × ((5 < face → ⊥) × ((3 ^ k ≤ row) ⊎ (3 ^ k ≤ column)))))
+  three-cell = given-exactly 2 (cell-code-first n s face k row column) refl
 
 -- ---- of a name
 
-module _ (bytes : List ℕ) where
+module _ (n s : ℕ) (bytes : List ℕ) where
+  -- 5: "n or s given as a number above 3"
+  pub five-name : (nameAnswer n s bytes .refusal ≡ 5) ↔ ((3 < n) ⊎ (3 < s))
+  five-name = given-exactly 4 (name-code-first n s bytes) refl
+
   -- 2: "name over 16 bytes"
-  pub two-name : (nameAnswer bytes .refusal ≡ 2) ↔ (16 < length bytes)
-  two-name = given-exactly 1 (name-code-first bytes) refl
+  pub two-name : (nameAnswer n s bytes .refusal ≡ 2) ↔ (((3 < n) ⊎ (3 < s) → ⊥) × (16 < length bytes))
+  two-name = given-exactly 1 (name-code-first n s bytes) refl
 
   -- 1: "empty name, first byte not N to S"
-  pub one-name : (nameAnswer bytes .refusal ≡ 1) ↔ ((16 < length bytes → ⊥) × NoLetter bytes)
-  one-name = given-exactly 0 (name-code-first bytes) refl
+  pub one-name : (nameAnswer n s bytes .refusal ≡ 1) ↔ (((3 < n) ⊎ (3 < s) → ⊥) × ((16 < length bytes → ⊥) × NoLetter bytes))
+  one-name = given-exactly 0 (name-code-first n s bytes) refl
 
   -- 3: "later name byte not 0 to 8"
-  pub three-name : (nameAnswer bytes .refusal ≡ 3) ↔ ((16 < length bytes → ⊥) × ((NoLetter bytes → ⊥) × Any NoDigit (drop 1 bytes)))
-  three-name = given-exactly 2 (name-code-first bytes) refl
+  pub three-name :
+      (nameAnswer n s bytes .refusal ≡ 3)
+      ↔ (((3 < n) ⊎ (3 < s) → ⊥) × ((16 < length bytes → ⊥) × ((NoLetter bytes → ⊥) × Any NoDigit (drop 1 bytes))))
+  three-name = given-exactly 2 (name-code-first n s bytes) refl
 
-  -- so a name is accepted exactly when it is some cell's
-  pub accepted-name : (nameAnswer bytes .refusal ≡ 0) ↔ ((c : Cell) × IsCell c × (nameOf c ≡ bytes))
-  accepted-name = (
-    (λ e.
-        let a = accepted bytes (sym (name-refusal bytes) ∙ e) in
-        (cellOf (nameCode bytes), code-is-cell (nameCode bytes) (name-code-is bytes a), code-name bytes a)),
-    (λ c. name-refusal bytes ∙ subst (λ (bs : List ℕ). nameRefusal bs ≡ 0) (c .2) (name-accepted (c .0) (c .1))),
-  )
+  -- so a name is accepted in an arrangement exactly when it is some cell's
+  pub accepted-name : (nameAnswer n s bytes .refusal ≡ 0) ↔ (IsArrangement (arrangement n s) × ((c : Cell) × IsCell c × (nameOf c ≡ bytes)))
+  accepted-name = (to, from)
+    where
+      to : nameAnswer n s bytes .refusal ≡ 0 → IsArrangement (arrangement n s) × ((c : Cell) × IsCell c × (nameOf c ≡ bytes))
+      to e =
+          let code : ℕ = nameCode (arrangement n s) bytes in
+          let k = both (arrangementRefusal (arrangement n s)) (nameRefusal bytes) (sym (name-refusal n s bytes) ∙ e) in
+          let g = is-arrangement (k .0) in
+          let a = accepted bytes (k .1) in
+          (g, (cellOf code, code-is-cell code (name-code-is bytes g a), code-name bytes g a))
+
+      from : IsArrangement (arrangement n s) × ((c : Cell) × IsCell c × (nameOf c ≡ bytes)) → nameAnswer n s bytes .refusal ≡ 0
+      from h =
+          let c = h .1 in
+          name-refusal n s bytes ∙ passes (nameRefusal bytes) (arrangement-is (h .0))
+          ∙ subst (λ (bs : List ℕ). nameRefusal bs ≡ 0) (c .2) (name-accepted (c .0) (c .1))
 
 -- ---- of a code
 
@@ -104,6 +126,16 @@ module _ (code : ℕ) where
   -- 4: "a code is no cell's"
   pub four-code : (codeCell code .refusal ≡ 4) ↔ NoCell code
   four-code = given-exactly 3 (code-cell-first code) refl
+
+  pub four-square : (cellSquare code .refusal ≡ 4) ↔ NoCell code
+  four-square = given-exactly 3 (square-first code) refl
+
+  -- 3: "direction above 3"
+  pub three-direction : (d : ℕ) → (neighbourCode code d .refusal ≡ 3) ↔ (3 < d)
+  three-direction d = given-exactly 2 (neighbour-first code d) refl
+
+  pub four-neighbour : (d : ℕ) → (neighbourCode code d .refusal ≡ 4) ↔ ((3 < d → ⊥) × NoCell code)
+  four-neighbour d = given-exactly 3 (neighbour-first code d) refl
 
   -- 12: "parent at resolution 0"
   pub twelve-parent : (parentCode code .refusal ≡ 12) ↔ ((NoCell code → ⊥) × (cellOf code .resolution ≡ 0))
@@ -131,12 +163,6 @@ module _ (n s : ℕ) where
   pub five-point : (k : ℕ) (x y : ℤ) → (pointCode n s k x y .refusal ≡ 5) ↔ ((3 < n) ⊎ (3 < s))
   five-point k x y = given-exactly 4 (point-code-first n s k x y) refl
 
-  pub five-neighbour : (code d : ℕ) → (neighbourCode n s code d .refusal ≡ 5) ↔ ((3 < n) ⊎ (3 < s))
-  five-neighbour code d = given-exactly 4 (neighbour-first n s code d) refl
-
-  pub five-square : (code : ℕ) → (cellSquare n s code .refusal ≡ 5) ↔ ((3 < n) ⊎ (3 < s))
-  five-square code = given-exactly 4 (square-first n s code) refl
-
   -- 2: "resolution above 15"
   pub two-fix : (k : ℕ) (L z : ℤ) → (fixCode n s k L z .refusal ≡ 2) ↔ (((3 < n) ⊎ (3 < s) → ⊥) × (15 < k))
   two-fix k L z = given-exactly 1 (fix-code-first n s k L z) refl
@@ -155,10 +181,6 @@ module _ (n s : ℕ) where
   -- 7: "planar point outside the image"
   pub seven-point : (k : ℕ) (x y : ℤ) → (pointCode n s k x y .refusal ≡ 7) ↔ (((3 < n) ⊎ (3 < s) → ⊥) × ((15 < k → ⊥) × (OnImage n s x y → ⊥)))
   seven-point k x y = given-exactly 6 (point-code-first n s k x y) refl
-
-  -- 3: "direction above 3"
-  pub three-direction : (code d : ℕ) → (neighbourCode n s code d .refusal ≡ 3) ↔ (((3 < n) ⊎ (3 < s) → ⊥) × (3 < d))
-  three-direction code d = given-exactly 2 (neighbour-first n s code d) refl
 
 -- ---- of a text that is read
 
@@ -188,24 +210,22 @@ module _ (t : List ℕ) where
 
 -- ---- asking
 
-module _ (n s : ℕ) (t : List ℕ) (code : ℕ) where
+module _ (t : List ℕ) (code : ℕ) where
   -- what jgv_coverage_ask refuses
   abbrev refusedAsk : ℕ
-  refusedAsk = askNumbers (asked (askRefusal (arrangement n s) t code) t code) .refusal
+  refusedAsk = askNumbers (asked (askRefusal t code) t code) .refusal
 
-  -- 5: "n or s given as a number above 3"
-  pub five-ask : (refusedAsk ≡ 5) ↔ ((3 < n) ⊎ (3 < s))
-  five-ask = given-exactly 4 (ask-first t n s code) refl
+  -- 4: "a code is no cell's"
+  pub four-ask : (refusedAsk ≡ 4) ↔ NoCell code
+  four-ask = given-exactly 3 (ask-first t code) refl
 
-  -- 14: "asked arrangement differs from the heading's"
+  -- 14: "asked arrangement differs from the heading's", the asked one being the code's
   pub fourteen-ask :
-      (refusedAsk ≡ 14)
-      ↔ (((3 < n) ⊎ (3 < s) → ⊥)
-      × ((NoCell code → ⊥) × ((65536 < length t → ⊥) × ((WrongVersion t → ⊥) × (Accepted t × (take 7 t ≡ heading n s → ⊥))))))
+      (refusedAsk ≡ 14) ↔ ((NoCell code → ⊥) × ((65536 < length t → ⊥) × ((WrongVersion t → ⊥) × (Accepted t × (take 7 t ≡ headingOf code → ⊥)))))
   fourteen-ask =
-      let k = given-exactly 13 (ask-first t n s code) refl in (
-        (λ e. let a = k .0 e in let b = a .1 .1 in (a .0, (a .1 .0, (b .0, (b .1 .0, (of-grammar t (b .1 .1 .0), b .1 .1 .1)))))),
-        (λ a. let b = a .1 .1 in k .1 (a .0, (a .1 .0, (b .0, (b .1 .0, ((λ m. m (b .1 .1 .0)), b .1 .1 .1)))))),
+      let k = given-exactly 13 (ask-first t code) refl in (
+        (λ e. let a = k .0 e in let b = a .1 in (a .0, (b .0, (b .1 .0, (of-grammar t (b .1 .1 .0), b .1 .1 .1))))),
+        (λ a. let b = a .1 in k .1 (a .0, (b .0, (b .1 .0, ((λ m. m (b .1 .1 .0)), b .1 .1 .1))))),
       )
 
 -- ---- writing
@@ -226,26 +246,42 @@ module _ (n s : ℕ) (codes : List ℕ) (room : ℕ) where
   pub four-write : (refusedWrite ≡ 4) ↔ (((3 < n) ⊎ (3 < s) → ⊥) × Any NoCell codes)
   four-write = given-exactly 3 (write-first n s codes room) refl
 
+  -- 14: "also for a list .. of another arrangement, still before 11"
+  pub fourteen-write : (refusedWrite ≡ 14) ↔ (((3 < n) ⊎ (3 < s) → ⊥) × ((Any NoCell codes → ⊥) × Another (arrangement n s) codes))
+  fourteen-write = given-exactly 13 (write-first n s codes room) refl
+
   -- 11: "list not strictly rising, or one cell inside another"
-  pub eleven-write : (refusedWrite ≡ 11) ↔ (((3 < n) ⊎ (3 < s) → ⊥) × ((Any NoCell codes → ⊥) × (Rise codes × Apart (map cellOf codes) → ⊥)))
+  pub eleven-write :
+      (refusedWrite ≡ 11)
+      ↔ (((3 < n) ⊎ (3 < s) → ⊥)
+      × ((Any NoCell codes → ⊥) × ((Another (arrangement n s) codes → ⊥) × (Rise codes × Apart (map cellOf codes) → ⊥))))
   eleven-write = given-exactly 10 (write-first n s codes room) refl
 
   -- 13: "text longer than 65,536 bytes, .. to be written", "judged on the text of a good list"
   pub thirteen-write :
-      (refusedWrite ≡ 13) ↔ (((3 < n) ⊎ (3 < s) → ⊥) × ((Any NoCell codes → ⊥) × ((Rise codes × Apart (map cellOf codes)) × (65536 < long))))
+      (refusedWrite ≡ 13)
+      ↔ (((3 < n) ⊎ (3 < s) → ⊥)
+      × ((Any NoCell codes → ⊥) × ((Another (arrangement n s) codes → ⊥) × ((Rise codes × Apart (map cellOf codes)) × (65536 < long)))))
   thirteen-write =
       let k = given-exactly 12 (write-first n s codes room) refl in (
-        (λ e. let a = k .0 e in (a .0, (a .1 .0, (of-order codes (a .1 .0) (a .1 .1 .0), a .1 .1 .1)))),
-        (λ a. k .1 (a .0, (a .1 .0, ((λ m. m (a .1 .1 .0)), a .1 .1 .1)))),
+        (λ e.
+            let a = k .0 e in
+            let b = a .1 .1 in
+            (a .0, (a .1 .0, (b .0, (of-order (arrangement n s) codes (a .1 .0) (b .0) (b .1 .0), b .1 .1))))),
+        (λ a. let b = a .1 .1 in k .1 (a .0, (a .1 .0, (b .0, ((λ m. m (b .1 .0)), b .1 .1))))),
       )
 
   -- 8: "lent buffer shorter than the answer", a text
   pub eight-write :
       (refusedWrite ≡ 8)
       ↔ (((3 < n) ⊎ (3 < s) → ⊥)
-      × ((Any NoCell codes → ⊥) × ((Rise codes × Apart (map cellOf codes)) × ((65536 < long → ⊥) × (room < long)))))
+      × ((Any NoCell codes → ⊥)
+      × ((Another (arrangement n s) codes → ⊥) × ((Rise codes × Apart (map cellOf codes)) × ((65536 < long → ⊥) × (room < long))))))
   eight-write =
       let k = given-exactly 7 (write-first n s codes room) refl in (
-        (λ e. let a = k .0 e in (a .0, (a .1 .0, (of-order codes (a .1 .0) (a .1 .1 .0), a .1 .1 .1)))),
-        (λ a. k .1 (a .0, (a .1 .0, ((λ m. m (a .1 .1 .0)), a .1 .1 .1)))),
+        (λ e.
+            let a = k .0 e in
+            let b = a .1 .1 in
+            (a .0, (a .1 .0, (b .0, (of-order (arrangement n s) codes (a .1 .0) (b .0) (b .1 .0), b .1 .1))))),
+        (λ a. let b = a .1 .1 in k .1 (a .0, (a .1 .0, (b .0, ((λ m. m (b .1 .0)), b .1 .1))))),
       )

@@ -9,7 +9,7 @@ use Rattle.root.specs.Floor.{rootFloor}
 use Rattle.logic.specs.Refusal.{_otherwise_, given}
 use Rattle.cell.specs.Cell.{arrangementRefusal}
 use Rattle.cell.specs.Neighbour.{neighbourOf}
-use Rattle.code.specs.Code.{codeOf, cellOf, codeRefusal, coded}
+use Rattle.code.specs.Code.{cellCodeAt, cellCode, cellCoded, isCellCode, codeAt, codeOf, cellOf, arrangementOf, isCode, codeRefusal, coded}
 use Rattle.plane.specs.Plane.{pointRefusal}
 use Rattle.locate.specs.Fix.{fixCell, fixRefusal}
 use Rattle.name.specs.Name.{nameCode}
@@ -20,7 +20,7 @@ use Rattle.reading.specs.Place.{placeOf}
 use Rattle.reading.specs.Heading.{lead}
 use Rattle.reading.specs.TextReading.{isText, toEnd, readText}
 use Rattle.reader.specs.Check.{textRefusal, checkedOf}
-use Rattle.jeguarivo.specs.Entries.{fixCode, pointCode, neighbourCode, codeAnswer}
+use Rattle.jeguarivo.specs.Entries.{arrangement, fixCode, pointCode, neighbourCode, codeAnswer}
 use Rattle.jeguarivo.specs.Texts.{checkNumbers}
 use Rattle.jeguarivo.specs.declared.CodeAnswer.{CodeAnswer}
 
@@ -37,14 +37,14 @@ codeNumbers r = r .refusal ∷ r .code ∷ []
 
 unfoldable pub answered : Line → List ℕ
 answered (fix n s k L z name) = codeNumbers (fixCode n s k L z)
-answered (step n s name d next) = codeNumbers (neighbourCode n s (nameCode name) d)
+answered (step n s name d next) = codeNumbers (neighbourCode (nameCode (arrangement n s) name) d)
 answered (body n s bytes refusal place) =
     checkNumbers (checkedOf (heading n s ++ bytes)) .refusal ∷ checkNumbers (checkedOf (heading n s ++ bytes)) .place ∷ []
 answered (point n s k x y refusal) = codeNumbers (pointCode n s k x y)
 
 unfoldable pub said : Line → List ℕ
-said (fix n s k L z name) = 0 ∷ nameCode name ∷ []
-said (step n s name d next) = 0 ∷ nameCode next ∷ []
+said (fix n s k L z name) = 0 ∷ nameCode (arrangement n s) name ∷ []
+said (step n s name d next) = 0 ∷ nameCode (arrangement n s) next ∷ []
 said (body n s bytes refusal place) = refusal ∷ place ∷ []
 said (point n s k x y refusal) = refusal ∷ 0 ∷ []
 
@@ -72,6 +72,7 @@ table =
     []
 
 pub proved-table : map answered table ≡ map said table
-unfolding answered said table _otherwise_ given value rowIn columnIn codeAnswer coded codeOf cellOf codeRefusal arrangementRefusal nameCode fixCode fixRefusal fixCell rootFloor
-    neighbourCode neighbourOf pointCode pointRefusal checkedOf textRefusal isText readText toEnd parse placeOf lead scan
+unfolding answered said table _otherwise_ given value rowIn columnIn codeAnswer coded codeAt cellCodeAt cellCode codeOf cellCoded cellOf arrangementOf isCellCode
+    isCode codeRefusal arrangementRefusal nameCode fixCode fixRefusal fixCell rootFloor neighbourCode neighbourOf
+    pointCode pointRefusal checkedOf textRefusal isText readText toEnd parse placeOf lead scan
 proved-table = refl

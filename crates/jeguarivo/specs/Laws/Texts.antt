@@ -12,13 +12,15 @@ use Rattle.logic.specs.Refusal.{refuse, given}
 use Rattle.logic.specs.Laws.Refusal.{both, allowed, passes, given-value}
 use Rattle.logic.specs.Laws.Bools.{refuted}
 use Rattle.cell.specs.declared.Cell.{Cell}
+use Rattle.cell.specs.declared.Arrangement.{Arrangement}
+use Rattle.cell.specs.Cell.{IsArrangement}
 use Rattle.cell.specs.Laws.Cell.{is-arrangement, arrangement-is}
 use Rattle.code.specs.Code.{codeOf, cellOf}
-use Rattle.code.specs.Laws.Code.{a-code, code-is-cell, cell-has-code}
+use Rattle.code.specs.Laws.Code.{a-code, code-is-cell, cell-has-code, arrangement-code, arrangement-of}
 use Rattle.reading.specs.Ground.{wholeCells, SameGround, Cells, sizeSum}
 use Rattle.reading.specs.Text.{heading, ReadsAs, Accepted}
-use Rattle.reading.specs.TextReading.{nodesOf, northOf, southOf}
-use Rattle.reading.specs.Laws.TextReading.{read-text, read-nodes}
+use Rattle.reading.specs.TextReading.{nodesOf, northOf, southOf, textArrangement}
+use Rattle.reading.specs.Laws.TextReading.{read-text, read-nodes, text-arranged}
 use Rattle.reading.specs.Laws.Demand.{whole-cells}
 use Rattle.reading.specs.Written.{nodesFor, writtenText}
 use Rattle.reading.specs.Laws.Written.{written-reads, written-ground, listed-written}
@@ -29,7 +31,7 @@ use Rattle.listing.specs.List.{codesOf, codesIn, listingRefusal, listed}
 use Rattle.listing.specs.Laws.List.{listed-cells}
 use Rattle.asking.specs.Ask.{AllCovered, askRefusal, asked, anyWithin}
 use Rattle.asking.specs.Laws.Ask.{asked-exactly}
-use Rattle.writing.specs.Write.{allCodes, GoodList, writeRefusal, textOf, textIn, written}
+use Rattle.writing.specs.Write.{allCodes, allOf, GoodList, writeRefusal, textOf, textIn, written}
 use Rattle.writing.specs.Laws.List.{good-list, list-good, codes-cells}
 use Rattle.jeguarivo.specs.Entries.{arrangement}
 use Rattle.jeguarivo.specs.Texts.{checkNumbers, listNumbers, askNumbers, writtenNumbers}
@@ -99,7 +101,7 @@ module _ (n s : ℕ) (codes lent : List ℕ) where
 
     cells : Cells (map cellOf codes)
     unfolding writeRefusal
-    cells = codes-cells codes (good-list codes (both _ _ (both _ _ allows .1) .0) .coded)
+    cells = codes-cells codes (good-list (arrangement n s) codes (both _ _ (both _ _ allows .1) .0) .coded)
 
     reads : ReadsAs n s writtenBytes (nodesFor (map cellOf codes))
     unfolding writeRefusal textOf
@@ -124,10 +126,16 @@ module _ (n s : ℕ) (codes lent : List ℕ) where
 
 -- ---- listing, and writing what was listed
 
-cells-codes : (cs : List Cell) → Cells cs → allCodes (map codeOf cs) ≡ true
-unfolding allCodes
-cells-codes [] h = refl
-cells-codes (c ∷ cs) h = ap₂ _&&_ (cell-has-code c (h .0)) (cells-codes cs (h .1))
+module _ {a : Arrangement} (g : IsArrangement a) where
+  cells-codes : (cs : List Cell) → Cells cs → allCodes (map (codeOf a) cs) ≡ true
+  unfolding allCodes
+  cells-codes [] h = refl
+  cells-codes (c ∷ cs) h = ap₂ _&&_ (cell-has-code g c (h .0)) (cells-codes cs (h .1))
+
+  cells-own : (cs : List Cell) → Cells cs → allOf a (map (codeOf a) cs) ≡ true
+  unfolding allOf
+  cells-own [] h = refl
+  cells-own (c ∷ cs) h = ap₂ _&&_ (arrangement-of a (codeOf a c) (arrangement-code g c (h .0))) (cells-own cs (h .1))
 
 module _ (t : List ℕ) (e : textRefusal t ≡ 0) where
   own : ReadsAs (northOf t) (southOf t) t (nodesOf t)
@@ -136,11 +144,17 @@ module _ (t : List ℕ) (e : textRefusal t ≡ 0) where
   back : map cellOf (codesOf t) ≡ wholeCells (nodesOf t)
   back = listed-cells t (read-text own)
 
-  good : GoodList (codesOf t)
+  good : GoodList (textArrangement t) (codesOf t)
   unfolding codesOf
   good =
       let w = whole-cells tt (omega arith) (own .body) in
-      record { coded = cells-codes (wholeCells (nodesOf t)) (w .0); rising = rw back (w .1); apart = rw back (w .2) }
+      let g = text-arranged t (read-text own) in
+      record {
+        coded = cells-codes g (wholeCells (nodesOf t)) (w .0);
+        own = cells-own g (wholeCells (nodesOf t)) (w .0);
+        rising = rw back (w .1);
+        apart = rw back (w .2);
+      }
 
   again : textOf (arrangement (northOf t) (southOf t)) (codesOf t) ≡ t
   unfolding textOf
@@ -153,7 +167,7 @@ module _ (t : List ℕ) (e : textRefusal t ≡ 0) where
       let z : m ≡ length t = ap length again in
       let l : length t ≤ 65536 = accepted-exactly t .0 e .0 in
       passes _ (arrangement-is (record { northern = own .north; southern = own .south }))
-      ∙ passes _ (list-good (codesOf t) good)
+      ∙ passes _ (list-good (textArrangement t) (codesOf t) good)
       ∙ passes _ (ap (λ (b : Bool). refuse b 13) (le-ltb 65536 m (omega arith)))
       ∙ ap (λ (b : Bool). refuse b 8) (le-ltb room m (omega arith))
 
@@ -191,14 +205,14 @@ module _ (t lent : List ℕ) where
 
 -- ---- asking
 
-module _ (n s : ℕ) (t : List ℕ) (code : ℕ) where
+module _ (t : List ℕ) (code : ℕ) where
   abbrev pub askAnswer : AskAnswer
-  askAnswer = askNumbers (asked (askRefusal (arrangement n s) t code) t code)
+  askAnswer = askNumbers (asked (askRefusal t code) t code)
 
   -- "whether all of one cell's finest cells are covered": 1 exactly then, and 0 exactly where not
   module _ (e : askAnswer .refusal ≡ 0) where
-    asks : askRefusal (arrangement n s) t code ≡ 0
-    asks = sym (ask-refusal t (askRefusal (arrangement n s) t code) code) ∙ e
+    asks : askRefusal t code ≡ 0
+    asks = sym (ask-refusal t (askRefusal t code) code) ∙ e
 
     told : askAnswer .covered ≡ cond (anyWithin (wholeCells (nodesOf t)) (cellOf code)) 1 0
     unfolding asked
@@ -207,7 +221,7 @@ module _ (n s : ℕ) (t : List ℕ) (code : ℕ) where
     exactly : (anyWithin (wholeCells (nodesOf t)) (cellOf code) ≡ true) ↔ AllCovered (wholeCells (nodesOf t)) (cellOf code)
     unfolding askRefusal
     exactly =
-        let p = both _ _ (both _ _ asks .1) in
+        let p = both _ _ asks in
         asked-exactly tt (omega arith) (accepted-reads t (both _ _ (p .1) .0) .body) (cellOf code) (code-is-cell code (a-code code (p .0)))
 
     pub asked-yes : (askAnswer .covered ≡ 1) ↔ AllCovered (wholeCells (nodesOf t)) (cellOf code)

@@ -2,7 +2,7 @@
 use mathlib.Core.Path.{refl, sym, _∙_}
 use lib.ListN.{length}
 use Rattle.listing.specs.List.{codesIn}
-use Rattle.reader.specs.Laws.Answer.{TextChecked, text-checked, text-refused}
+use Rattle.reader.specs.Laws.Answer.{TextChecked, checked-arrangement, text-checked, text-refused}
 use Rattle.listing.proofs.Answers.{counted, short, enough, unread, nothing-listed, all-listed}
 use native.Mathlib.Omega.{arith}
 use borrow.Author.Needs.{needs}
@@ -11,9 +11,9 @@ use Rattle.listing.proofs.list.Tie as tie
 
 -- the text was read
 read-in :
-    (c : tie.After-cells) →
-    let t = c .before .before .before .before .before .args .text .now in let g = c .cells .given .0 in TextChecked t (g .0) (g .1 .0) (g .1 .1 .0) (g .1 .1 .1 .0) (g .1 .1 .1 .1 .0)
-read-in c = text-checked _ (sym (c .cells .given .1) ∙ c .before .before .check .ensures)
+    (c : tie.After-north) →
+    let t = c .before .before .before .before .before .args .text .now in let g = c .north .given .0 in TextChecked t (g .0) (g .1 .0) (g .1 .1 .0) (g .1 .1 .1 .0) (g .1 .1 .1 .1 .0)
+read-in c = text-checked _ (sym (c .north .given .1) ∙ c .before .before .check .ensures)
 
 check-requires : tie.Need-check-requires
 check-requires c κs = search needs
@@ -21,8 +21,8 @@ check-requires c κs = search needs
 enum-known-refusal : tie.Need-enum-known-refusal
 enum-known-refusal c = search needs
 
-enum-known-cells : tie.Need-enum-known-cells
-enum-known-cells c = search needs
+enum-known-north : tie.Need-enum-known-north
+enum-known-north c = search needs
 
 returns : tie.Need-returns
 returns c =
@@ -34,7 +34,7 @@ put-codes-requires : tie.Need-put-codes-requires
 put-codes-requires c κs =
     let r = read-in (c .before .before .before) in
     let e = counted r in
-    (r .text, r .start, omega arith)
+    (r .text, checked-arrangement r, r .start, omega arith)
 
 returns-2 : tie.Need-returns-2
 returns-2 c =
@@ -59,7 +59,7 @@ list-spec =
     (tie.spec
     check-requires
     enum-known-refusal
-    enum-known-cells
+    enum-known-north
     returns
     put-codes-requires
     returns-2

@@ -1,22 +1,26 @@
 -- `listing::put_codes` meets its contract: the codes put so far, and those of what is left, are the text's. Assumes nothing.
-use mathlib.Core.Path.{_≡_, sym, _∙_}
+use mathlib.Core.Path.{_≡_, sym, ap, subst, _∙_}
 use mathlib.Core.Bool.{true}
 use Prim.Native.Nat.{_-_, _≤_, _<_}
 use lib.ListN.{length, drop}
 use borrow.Author.Needs.{needs}
 use borrow.Author.Tests.{not-true, not-false}
+use Rattle.cell.specs.declared.Arrangement.{Arrangement}
+use Rattle.cell.specs.Cell.{IsArrangement}
+use Rattle.reading.specs.Laws.TextReading.{text-arranged}
 use Rattle.walk.specs.Walk.{wholeAt}
 use Rattle.walk.specs.Laws.Walk.{goes-here}
 use Rattle.listing.specs.List.{codesOf}
+use Rattle.listing.specs.Laws.List.{spotCode}
 use Rattle.listing.proofs.Laws.{Lists, lists-start, on, lists-past, has-room, lists-put, lists-end}
 use Rattle.listing.proofs.put_codes.Statement.{statement}
 use Rattle.listing.proofs.put_codes.Tie as tie
 
 abbrev Inv-loop : tie.InvT-loop
-Inv-loop text body codes₀ spot₀ count₀ i₀ codes spot count i = (length (codesOf text) ≤ length codes₀) × Lists text codes₀ codes count i spot
+Inv-loop text arrangement body codes₀ spot₀ count₀ i₀ codes spot count i = (length (codesOf text) ≤ length codes₀) × Lists text codes₀ codes count i spot
 
 abbrev μ-loop : tie.MeasureT-loop
-μ-loop text body codes₀ spot₀ count₀ i₀ codes spot count i = length text - i
+μ-loop text arrangement body codes₀ spot₀ count₀ i₀ codes spot count i = length text - i
 
 -- where a whole cell stands, and its code was made
 stands :
@@ -31,7 +35,7 @@ room c =
     has-room (l .inv .1) (b .before .loop-test .taken) (c .before .before .before .after .ensures) (stands c) (l .inv .0)
 
 loop-holds : tie.Need-loop-holds Inv-loop μ-loop
-loop-holds c = let p = c .before .before .pre in (p .2, lists-start (c .before .before .args .text .now) _ (p .0) (p .1))
+loop-holds c = let p = c .before .before .pre in (p .3, lists-start (c .before .before .args .text .now) _ (p .0) (p .2))
 
 shared-slice-read-after : tie.Need-shared-slice-read-after Inv-loop μ-loop
 shared-slice-read-after c = search needs
@@ -59,7 +63,8 @@ code-as-requires c κs =
     let b = c .before .before .before in
     let l = b .before .before .loop in
     let f = on (l .inv .1) (b .before .loop-test .taken) (c .before .before .after .ensures) .fits in
-    (f .fine, f .small)
+    let p = b .before .before .before .before .before .pre in
+    (subst IsArrangement (sym (p .1)) (text-arranged _ (p .0)), (f .fine, f .small))
 
 mul-codes : tie.Need-mul-codes Inv-loop μ-loop
 mul-codes c = let r = room c in search needs
@@ -77,7 +82,9 @@ loop-again-2 : tie.Need-loop-again-2 Inv-loop μ-loop
 loop-again-2 c =
     let b = c .before .before .before .before in
     let l = b .before .before .loop in
-    (l .inv .0, lists-put (l .inv .1) (b .before .loop-test .taken) (c .before .before .before .after .ensures) (stands c) _ (c .code-as .ensures) (room c))
+    let spot = c .before .before .before .after in
+    let made = c .code-as .ensures ∙ ap (λ (a : Arrangement). spotCode a (spot .result)) (b .before .before .before .before .before .pre .1) in
+    (l .inv .0, lists-put (l .inv .1) (b .before .loop-test .taken) (spot .ensures) (stands c) _ made (room c))
 
 same-length : tie.Need-same-length Inv-loop μ-loop
 same-length c = search needs

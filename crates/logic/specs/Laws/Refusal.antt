@@ -1,5 +1,6 @@
 -- What follows a refusal, and what follows none. Assumes nothing.
 use mathlib.Core.Path.{_≡_, refl, ap}
+use mathlib.Core.Logic.{_⊎_, inl, inr}
 use mathlib.Core.Bool.{Bool, true, false}
 use Prim.Native.Nat.{ℕ, zero, suc}
 use native.Mathlib.Omega.{arith}
@@ -21,6 +22,17 @@ pub both : (r q : ℕ) → r otherwise q ≡ 0 → (r ≡ 0) × (q ≡ 0)
 unfolding _otherwise_
 both zero q e = (refl, e)
 both (suc r) q e = absurd (omega arith)
+
+-- a refusal is the first one, or there is no first one and it is the next
+pub either : {n : ℕ} (r q : ℕ) → r otherwise q ≡ n → (r ≡ n) ⊎ ((r ≡ 0) × (q ≡ n))
+unfolding _otherwise_
+either zero q e = inr (refl, e)
+either (suc r) q e = inl e
+
+-- a test gives its own number or none
+pub other : (t : Bool) (r n : ℕ) → (r ≡ suc n → ⊥) → refuse t r ≡ suc n → ⊥
+other true r n h e = h e
+other false r n h e = omega arith
 
 -- the value stands where nothing is refused, else its zero
 pub given-value {ℓ} : {A : Type ℓ} {r : ℕ} (x none : A) → r ≡ 0 → given r x none ≡ x

@@ -1,7 +1,7 @@
 -- `name::code_name` meets its contract: a name is written only after all tests. Assumes nothing.
 use mathlib.Core.Path.{sym, ap, ap₂, _∙_}
 use mathlib.Core.List.{List, _∷_, _++_}
-use Prim.Native.Nat.{ℕ, _+_}
+use Prim.Native.Nat.{ℕ, _+_, _/_}
 use native.Mathlib.Omega.{arith}
 use lib.ListN.{length, drop}
 use borrow.Author.Needs.{needs}
@@ -60,7 +60,7 @@ returns-3 c =
     let room = not-refused (a .code) (length (a .name .now)) (p .allowed) (omega (arith, p .resolution, w .before .before .if1 .left)) in
     let written = w .put-name .ensures
     ∙ ap₂ (λ (x y : ℕ). (78 + x) ∷ (digitBytes (digits 9 (f .face .given .0 .1 .0) y) ++ drop (f .face .given .0 .1 .0 + 1) (a .name .now))) (p .face) (p .path)
-    ∙ ap (λ (x : ℕ). (78 + cellOf (a .code) .face) ∷ (digitBytes (digits 9 x (pathIn (a .code))) ++ drop (x + 1) (a .name .now))) (p .resolution) in
+    ∙ ap (λ (x : ℕ). (78 + cellOf (a .code) .face) ∷ (digitBytes (digits 9 x (pathIn (a .code / 16))) ++ drop (x + 1) (a .name .now))) (p .resolution) in
     name-written (a .name .now) room (omega (arith, p .resolution)) (written ∙ ap₂ (λ (l : List ℕ) (x : ℕ). l ++ drop x (a .name .now)) (sym (code-name-is (a .code))) (sym l))
 
 pub code-name-spec : {M : Type 1} → statement M

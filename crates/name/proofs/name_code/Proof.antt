@@ -63,8 +63,8 @@ sub-wide c = let l = letter-bounds _ (lettered (c .before .before .before .befor
 wide-requires : tie.Need-wide-requires
 wide-requires c κs = search needs
 
-sub-code-at : tie.Need-sub-code-at
-sub-code-at c = let l = letter-bounds _ (lettered (c .before .before .before .before .before .before)) in omega arith
+sub-resolution : tie.Need-sub-resolution
+sub-resolution c = let l = letter-bounds _ (lettered (c .before .before .before .before .before .before)) in omega arith
 
 -- the name is one
 named : (c : tie.After-path) → NameForm (c .before .before .before .before .before .before .before .args .name .now)
@@ -76,17 +76,19 @@ code-at-requires : tie.Need-code-at-requires
 code-at-requires c κs =
     let p = c .before .before .before in
     let l = letter-bounds _ (lettered (p .before .before .before)) in
-    (omega (arith, c .wide .ensures), omega (arith, named p .short), rw (read-in p .1) (path-below _ (named p)))
+    let s = p .before .before .before .before .before .before .before in
+    (s .pre, (omega (arith, c .wide .ensures), omega (arith, named p .short), rw (read-in p .1) (path-below _ (named p))))
 
 returns-4 : tie.Need-returns-4
 unfolding coded nameCode
 returns-4 c =
     let p = c .before .before .before .before in
-    let s = p .before .before .before .before .before .before .before .args .name .now in
-    let code = c .code-at .ensures ∙ ap₂ (λ (x y : ℕ). codeAt x (length s - 1) y) (c .before .wide .ensures) (read-in p .1) in
-    ap Code code ∙ sym (ap (λ (x : ℕ). coded x (nameCode s)) (not-refused s (named p)))
+    let a = p .before .before .before .before .before .before .before .args in
+    let s = a .name .now in
+    let code = c .code-at .ensures ∙ ap₂ (λ (x y : ℕ). codeAt (a .arrangement) x (length s - 1) y) (c .before .wide .ensures) (read-in p .1) in
+    ap Code code ∙ sym (ap (λ (x : ℕ). coded x (nameCode (a .arrangement) s)) (not-refused s (named p)))
 
 pub name-code-spec : {M : Type 1} → statement M
 name-code-spec =
     tie.close
-    (tie.spec returns first-letter-requires returns-2 read-path-requires enum-known-path enum-told returns-3 shared-slice-read-wide sub-wide wide-requires sub-code-at code-at-requires returns-4)
+    (tie.spec returns first-letter-requires returns-2 read-path-requires enum-known-path enum-told returns-3 shared-slice-read-wide sub-wide wide-requires sub-resolution code-at-requires returns-4)

@@ -1,7 +1,7 @@
 -- Names and codes turn into each other without loss. Assumes nothing.
 use mathlib.Core.Path.{_≡_, refl, sym, ap, ap₂, _∙_}
 use mathlib.Core.Bool.{true, false, _&&_}
-use Prim.Native.Nat.{ℕ, suc, _+_, _-_, _^_, _≤_, _<_}
+use Prim.Native.Nat.{ℕ, suc, _+_, _-_, _/_, _^_, _≤_, _<_}
 use mathlib.Core.List.{List, [], _∷_, map}
 use native.Mathlib.Omega.{arith}
 use lib.Dec.{leb, ltb}
@@ -13,8 +13,9 @@ use Rattle.logic.specs.Laws.Refusal.{both, allowed}
 use Rattle.ternary.specs.Digits.{value, digits, Below}
 use Rattle.ternary.specs.Laws.Digits.{value-below, digits-value}
 use Rattle.cell.specs.declared.Cell.{Cell}
-use Rattle.cell.specs.Cell.{IsCell}
-use Rattle.code.specs.Code.{digitsOf, codeAt, codeOf, pathOf, cellOf, pathIn, isCode}
+use Rattle.cell.specs.declared.Arrangement.{Arrangement}
+use Rattle.cell.specs.Cell.{IsCell, IsArrangement}
+use Rattle.code.specs.Code.{digitsOf, codeAt, cellCode, codeOf, pathOf, cellOf, pathIn, isCode}
 use Rattle.code.specs.Laws.Code.{made-face, made-resolution, code-path, is-code, cell-digits, length-digits-of, digits-of-below}
 use Rattle.name.specs.Name.{NameForm, digitBytes, nameOf, firstLetter, isDigit, allDigits, nameRefusal, digitsIn, nameCode}
 
@@ -25,7 +26,7 @@ length-name c =
     omega arith
 
 -- the name of a code's cell, from the code's own path
-pub code-name-is : (code : ℕ) → nameOf (cellOf code) ≡ (78 + cellOf code .face) ∷ digitBytes (digits 9 (cellOf code .resolution) (pathIn code))
+pub code-name-is : (code : ℕ) → nameOf (cellOf code) ≡ (78 + cellOf code .face) ∷ digitBytes (digits 9 (cellOf code .resolution) (pathIn (code / 16)))
 unfolding nameOf
 code-name-is code = ap (λ (l : List ℕ). (78 + cellOf code .face) ∷ digitBytes l) (cell-digits code)
 
@@ -70,13 +71,13 @@ name-accepted c v =
     bytes-digits (digitsOf (c .resolution) (c .row) (c .column)) (digits-of-below (c .resolution) (c .row) (c .column)) in
     simp (a, p, q, d)
 
-pub name-code : (c : Cell) → nameCode (nameOf c) ≡ codeOf c
-unfolding nameCode nameOf codeOf pathOf
-name-code c =
+pub name-code : (a : Arrangement) (c : Cell) → nameCode a (nameOf c) ≡ codeOf a c
+unfolding nameCode nameOf codeAt codeOf cellCode pathOf
+name-code a c =
     let n : length (nameOf c) - 1 ≡ c .resolution = let e = length-name c in omega arith in
     let f : 78 + c .face - 78 ≡ c .face = omega arith in
-    ap₂ (λ (x y : ℕ). codeAt x y (value 9 (map (λ b. b - 48) (digitBytes (digitsOf (c .resolution) (c .row) (c .column)))))) f n
-    ∙ ap (λ (l : List ℕ). codeAt (c .face) (c .resolution) (value 9 l)) (digits-back (digitsOf (c .resolution) (c .row) (c .column)))
+    ap₂ (λ (x y : ℕ). codeAt a x y (value 9 (map (λ b. b - 48) (digitBytes (digitsOf (c .resolution) (c .row) (c .column)))))) f n
+    ∙ ap (λ (l : List ℕ). codeAt a (c .face) (c .resolution) (value 9 l)) (digits-back (digitsOf (c .resolution) (c .row) (c .column)))
 
 -- ---- an accepted name is the name of its code's cell
 
@@ -110,16 +111,16 @@ path-below (b ∷ bs) a =
     let n : length (map (λ (x : ℕ). x - 48) bs) ≡ suc (length bs) - 1 = length-map bs (λ (x : ℕ). x - 48) ∙ omega arith in
     rw n at (value-below 9 (map (λ x. x - 48) bs) (digits-below-nine bs (a .digital)))
 
-pub name-code-is : (bs : List ℕ) → NameForm bs → isCode (nameCode bs) ≡ true
+pub name-code-is : {r : Arrangement} (bs : List ℕ) → IsArrangement r → NameForm bs → isCode (nameCode r bs) ≡ true
 unfolding nameCode
-name-code-is bs a =
+name-code-is bs g a =
     let l = letter-bounds bs (a .lettered) in
-    is-code (getD bs 0 0 - 78) (length bs - 1) (value 9 (digitsIn bs)) (omega arith) (omega (arith, a .short)) (path-below bs a)
+    is-code g (getD bs 0 0 - 78) (length bs - 1) (value 9 (digitsIn bs)) (omega arith) (omega (arith, a .short)) (path-below bs a)
 
-pub code-name : (bs : List ℕ) → NameForm bs → nameOf (cellOf (nameCode bs)) ≡ bs
+pub code-name : {r : Arrangement} (bs : List ℕ) → IsArrangement r → NameForm bs → nameOf (cellOf (nameCode r bs)) ≡ bs
 unfolding nameCode
-code-name [] a = absurd (let h = letter-bounds [] (a .lettered) in omega arith)
-code-name (b ∷ bs) a =
+code-name [] g a = absurd (let h = letter-bounds [] (a .lettered) in omega arith)
+code-name {r} (b ∷ bs) g a =
     let l : (0 < suc (length bs)) × (78 ≤ b) × (b ≤ 83) = letter-bounds (b ∷ bs) (a .lettered) in
     let ds : List ℕ = map (λ (x : ℕ). x - 48) bs in
     let k : ℕ = suc (length bs) - 1 in
@@ -127,11 +128,11 @@ code-name (b ∷ bs) a =
     let h : k ≤ 15 = omega (arith, a .short) in
     let p = path-below (b ∷ bs) a in
     let n : k ≡ length ds = sym (length-map bs (λ (x : ℕ). x - 48) ∙ omega arith) in
-    let face = made-face (b - 78) k (value 9 ds) f h p in
-    let resolution = made-resolution (b - 78) k (value 9 ds) f h p in
-    let path = code-path (b - 78) k (value 9 ds) f h p in
+    let face = made-face g (b - 78) k (value 9 ds) f h p in
+    let resolution = made-resolution g (b - 78) k (value 9 ds) f h p in
+    let path = code-path g (b - 78) k (value 9 ds) f h p in
     let letter : 78 + (b - 78) ≡ b = omega arith in
-    code-name-is (codeAt (b - 78) k (value 9 ds))
+    code-name-is (codeAt r (b - 78) k (value 9 ds))
     ∙ ap₂ (λ (x : ℕ) (m : List ℕ). x ∷ digitBytes m) (ap (λ (x : ℕ). 78 + x) face ∙ letter) (ap₂ (digits 9) (resolution ∙ n) path ∙ digits-value 9 ds (omega arith)
     (digits-below-nine bs (a .digital)))
     ∙ ap (λ (m : List ℕ). b ∷ m) (bytes-back bs (a .digital))

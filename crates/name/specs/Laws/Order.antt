@@ -12,10 +12,11 @@ use Rattle.ternary.specs.Digits.{value, Below}
 use Rattle.ternary.specs.Laws.Digits.{value-below}
 use Rattle.ternary.specs.Laws.Powers.{nine-pos, nine-add}
 use Rattle.cell.specs.declared.Cell.{Cell}
+use Rattle.cell.specs.declared.Arrangement.{Arrangement}
 use Rattle.cell.specs.Cell.{IsCell}
 use Rattle.cell.specs.Hierarchy.{childOf}
-use Rattle.code.specs.Code.{digitsOf, pathOf, codeAt, codeOf}
-use Rattle.code.specs.Laws.Code.{length-digits-of, digits-of-below}
+use Rattle.code.specs.Code.{digitsOf, pathOf, cellCodeAt, cellCode, codeOf}
+use Rattle.code.specs.Laws.Code.{length-digits-of, digits-of-below, code-order}
 use Rattle.name.specs.Name.{digitBytes, nameOf, nameCode}
 use Rattle.name.specs.Laws.Name.{name-code}
 use Rattle.name.specs.Order.{Before}
@@ -94,16 +95,16 @@ total-order (x ∷ xs) (y ∷ ys) =
 
 -- ---- the theorem, both ways
 
-code-rank : (c : Cell) → codeOf c ≡ (c .face * 205891132094649 + rank 15 (digitsOf (c .resolution) (c .row) (c .column))) * 16 + c .resolution
-unfolding codeOf codeAt pathOf rank
+code-rank : (c : Cell) → cellCode c ≡ (c .face * 205891132094649 + rank 15 (digitsOf (c .resolution) (c .row) (c .column))) * 16 + c .resolution
+unfolding cellCode cellCodeAt pathOf rank
 code-rank c =
     ap (λ (x : ℕ). (c .face * 205891132094649 + value 9 (digitsOf (c .resolution) (c .row) (c .column)) * 9 ^ (15 - x)) * 16 + c .resolution)
     (sym (length-digits-of (c .resolution) (c .row) (c .column)))
 
 module _ (a b : Cell) (v : IsCell a) (w : IsCell b) where
-  pub before-code : Before (nameOf a) (nameOf b) → codeOf a < codeOf b
+  before-cells : Before (nameOf a) (nameOf b) → cellCode a < cellCode b
   unfolding nameOf
-  before-code f =
+  before-cells f =
       let ds = digitsOf (a .resolution) (a .row) (a .column) in
       let es = digitsOf (b .resolution) (b .row) (b .column) in
       let m = length-digits-of (a .resolution) (a .row) (a .column) in
@@ -121,12 +122,16 @@ module _ (a b : Cell) (v : IsCell a) (w : IsCell b) where
       omega arith)
       f
 
-pub code-before : (a b : Cell) → IsCell a → IsCell b → codeOf a < codeOf b → Before (nameOf a) (nameOf b)
-code-before a b v w h =
+-- "Code order is the byte order of names", among cells of one arrangement
+pub before-code : (r : Arrangement) (a b : Cell) → IsCell a → IsCell b → Before (nameOf a) (nameOf b) → codeOf r a < codeOf r b
+before-code r a b v w f = code-order r a b .1 (before-cells a b v w f)
+
+pub code-before : (r : Arrangement) (a b : Cell) → IsCell a → IsCell b → codeOf r a < codeOf r b → Before (nameOf a) (nameOf b)
+code-before r a b v w h =
     ⊎-elim (λ k. k)
     (⊎-elim
-    (λ e. absurd (let p : codeOf a ≡ codeOf b = sym (name-code a) ∙ ap nameCode e ∙ name-code b in omega arith))
-    (λ k. absurd (let p = before-code b a w v k in omega arith)))
+    (λ e. absurd (let p : codeOf r a ≡ codeOf r b = sym (name-code r a) ∙ ap (nameCode r) e ∙ name-code r b in omega arith))
+    (λ k. absurd (let p = before-code r b a w v k in omega arith)))
     (total-order (nameOf a) (nameOf b))
 
 -- ---- a child's name is its cell's, with one digit more

@@ -14,6 +14,7 @@ use Rattle.logic.specs.Laws.Refusal.{both, allowed}
 use Rattle.cell.specs.declared.Cell.{Cell}
 use Rattle.cell.specs.declared.Arrangement.{Arrangement}
 use Rattle.cell.specs.Cell.{IsCell, IsArrangement}
+use Rattle.cell.specs.Laws.Cell.{is-arrangement}
 use Rattle.ternary.specs.Laws.Powers.{power-pos}
 use Rattle.plane.specs.Plane.{threeHalves, sideOf, faceLeft, onBelt, ownsLeft, ownsTop, Past, Owns, nucleusX, nucleusY, inImage, cellAt, pointCell, pointRefusal}
 use Rattle.plane.specs.Internal.Depth.{depthBelow, faceDepth, leftIn, depthIn, rowAt}
@@ -86,9 +87,9 @@ refused-outside {a} {k} x y g h = (λ e. outside (inImage a x y) (sym (refusal-i
     outside false e = refl
 
 -- where nothing is refused, the answer is a cell
-pub point-allowed : (a : Arrangement) (k : ℕ) (x y : ℤ) → pointRefusal a k x y ≡ 0 → IsCell (pointCell a k x y)
+pub point-allowed : (a : Arrangement) (k : ℕ) (x y : ℤ) → pointRefusal a k x y ≡ 0 → IsArrangement a × IsCell (pointCell a k x y)
 unfolding pointRefusal
 point-allowed a k x y e =
     let p = both _ _ e in
     let q = both _ _ (p .1) in
-    found-owns a k x y (ltb-false 15 k (allowed 1 _ (q .0))) (not-false (inImage a x y) (allowed 6 _ (q .1))) .0
+    (is-arrangement (p .0), found-owns a k x y (ltb-false 15 k (allowed 1 _ (q .0))) (not-false (inImage a x y) (allowed 6 _ (q .1))) .0)

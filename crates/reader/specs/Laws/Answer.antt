@@ -8,7 +8,7 @@ use lib.ListN.{length}
 use borrow.Author.Tests.{not-false}
 use Rattle.logic.specs.Laws.Refusal.{both, allowed}
 use Rattle.reading.specs.Ground.{wholeCells, sizeSum}
-use Rattle.reading.specs.TextReading.{nodesOf, northOf, southOf, isText, bodyStart}
+use Rattle.reading.specs.TextReading.{nodesOf, northOf, southOf, textArrangement, isText, bodyStart}
 use Rattle.reader.specs.declared.Checked.the-variants.{Text, Refused}
 use Rattle.reader.specs.Check.{textRefusal, placeWith, answer, checkedOf}
 
@@ -21,6 +21,10 @@ pub record TextChecked (t : List ℕ) (n s cells size body : ℕ) : Type 0 where
   pub count : cells ≡ length (wholeCells (nodesOf t))
   pub sum : size ≡ sizeSum (wholeCells (nodesOf t))
   pub start : body ≡ bodyStart t
+
+-- the heading's arrangement
+pub checked-arrangement : {t : List ℕ} {n s c z b : ℕ} → TextChecked t n s c z b → record { north = n; south = s } ≡ textArrangement t
+checked-arrangement r = λ i. record { north = r .north i; south = r .south i }
 
 text-read : (t : List ℕ) → textRefusal t ≡ 0 → isText t ≡ true
 unfolding textRefusal

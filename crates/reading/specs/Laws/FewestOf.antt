@@ -7,7 +7,7 @@ use native.Mathlib.Omega.{arith}
 use lib.ListN.{length, length-map}
 use Rattle.cell.specs.declared.Cell.{Cell}
 use Rattle.cell.specs.Cell.{IsCell}
-use Rattle.code.specs.Code.{codeOf}
+use Rattle.code.specs.Code.{cellCode}
 use Rattle.reading.specs.declared.Level.{Level}
 use Rattle.reading.specs.declared.Level.the-variants.{Faces}
 use Rattle.reading.specs.Reading.{Nodes, OfFaces, names}
@@ -27,7 +27,7 @@ use Rattle.reading.specs.Laws.Written.{written-reads, written-ground}
 
 -- ---- cells that rise have names of which no later one is ahead
 
-rising-behind : (q : Cell) (qs : List Cell) → IsCell q → Cells qs → All (λ (x : Cell). codeOf q < codeOf x) qs → All (λ (p : Name). Ahead p (numbersOf q) → ⊥) (map numbersOf qs)
+rising-behind : (q : Cell) (qs : List Cell) → IsCell q → Cells qs → All (λ (x : Cell). cellCode q < cellCode x) qs → All (λ (p : Name). Ahead p (numbersOf q) → ⊥) (map numbersOf qs)
 rising-behind q [] v c r = tt
 rising-behind q (x ∷ qs) v c r = (
   (λ f. let h = code-before x q (c .0) v (ahead-before x q (c .0) v f) in omega (arith, r .0)),

@@ -13,7 +13,7 @@ use Rattle.ternary.specs.Laws.Digits.{value-below}
 use Rattle.ternary.specs.Laws.Powers.{nine-add}
 use Rattle.cell.specs.declared.Cell.{Cell}
 use Rattle.cell.specs.Cell.{IsCell}
-use Rattle.code.specs.Code.{digitsOf, pathOf, codeOf, sizeOf}
+use Rattle.code.specs.Code.{digitsOf, pathOf, cellCode, sizeOf}
 use Rattle.code.specs.Laws.Code.{length-digits-of, digits-of-below}
 use Rattle.code.specs.Inside.{Inside, startOf, endOf}
 use Rattle.code.specs.Laws.Inside.{start-code, size-pos, inside-within}
@@ -139,7 +139,7 @@ ahead-before c x v w f =
 -- ---- cells whose names rise
 
 module _ (c x : Cell) (v : IsCell c) (w : IsCell x) (h : endOf c ≤ startOf x) where
-  pub code-before : codeOf c < codeOf x
+  pub code-before : cellCode c < cellCode x
   unfolding endOf
   code-before = omega (arith, v .fine, size-pos c, start-code c v, start-code x w)
 
@@ -161,7 +161,7 @@ module _ (R : Cell → Cell → Type 0) (h : (c x : Cell) → IsCell c → IsCel
   rise-each (c ∷ qs) k f = (ahead-each c qs (k .0) (k .1) (f .0), rise-each qs (k .1) (f .1))
 
 pub rise-rising : (qs : List Cell) → Cells qs → InOrder (map numbersOf qs) → Rising qs
-rise-rising = rise-each (λ c x. codeOf c < codeOf x) code-before
+rise-rising = rise-each (λ c x. cellCode c < cellCode x) code-before
 
 pub rise-apart : (qs : List Cell) → Cells qs → InOrder (map numbersOf qs) → Apart qs
 rise-apart = rise-each (λ c x. (Inside c x → ⊥) × (Inside x c → ⊥)) apart-before

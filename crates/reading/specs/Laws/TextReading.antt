@@ -8,6 +8,7 @@ use lib.ListN.{length, drop, take, getD}
 use lib.Dec.{ltb}
 use borrow.Author.Tests.{ltb-false}
 use Rattle.logic.specs.Laws.Bools.{by-cond, clash}
+use Rattle.cell.specs.Cell.{IsArrangement}
 use Rattle.reading.specs.declared.Level.the-variants.{Faces}
 use Rattle.reading.specs.Reading.{Nodes, render, Good}
 use Rattle.reading.specs.Text.{heading, ReadsAs, Accepted}
@@ -15,7 +16,7 @@ use Rattle.reading.specs.Parse.{Parse, bad, got, parse}
 use Rattle.reading.specs.Laws.Parse.{Right, sound, complete}
 use Rattle.reading.specs.Heading.{least, greatest, lead}
 use Rattle.reading.specs.Laws.Heading.{lead-head, head-of}
-use Rattle.reading.specs.TextReading.{TextRead, noText, asText, toEnd, readText, nodesIn, northIn, southIn, wasRead, nodesOf, northOf, southOf, isText, bodyStart}
+use Rattle.reading.specs.TextReading.{TextRead, noText, asText, toEnd, readText, nodesIn, northIn, southIn, wasRead, nodesOf, northOf, southOf, textArrangement, isText, bodyStart}
 
 read-good : (n s : ℕ) (ns : Nodes) → n ≤ 3 → s ≤ 3 → Good Faces 15 0 ns → readText (heading n s ++ render Faces ns) ≡ asText n s ns
 unfolding readText toEnd
@@ -99,6 +100,9 @@ reads-own t e = go (readText t) refl e
 module _ (t : List ℕ) (e : isText t ≡ true) where
   pub good-nodes : Good Faces 15 0 (nodesOf t)
   good-nodes = reads-own t e .body .good
+
+  pub text-arranged : IsArrangement (textArrangement t)
+  text-arranged = let r = reads-own t e in record { northern = r .north; southern = r .south }
 
   -- ---- where the body starts
 

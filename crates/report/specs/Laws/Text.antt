@@ -30,7 +30,7 @@ module _ (a : Arrangement) (codes text later : List â„•) {r : Written} (e : r â‰
   unfolding writeRefusal
   has-room z =
       let k = both (arrangementRefusal a) _ z in
-      let l = both (codesRefusal codes) _ (k .1) in
+      let l = both (codesRefusal a codes) _ (k .1) in
       let m = both (refuse (ltb 65536 (length (textOf a codes))) 13) (refuse (ltb (length text) (length (textOf a codes))) 8) (l .1) in
       ltb-false (length text) (length (textOf a codes)) (allowed 7 _ (m .1))
 

@@ -7,7 +7,7 @@ use Rattle.cell.specs.Cell.{arrangementRefusal}
 use Rattle.cell.specs.Laws.Cell.{is-arrangement}
 use Rattle.reading.specs.declared.Level.the-variants.{Faces}
 use Rattle.writing.specs.Write.{codesRefusal}
-use Rattle.writing.specs.Laws.List.{good-list}
+use Rattle.writing.specs.Laws.List.{good-list, in-turn}
 use Rattle.writing.specs.Internal.EntryLaws.{top-at, top-text}
 use Rattle.writing.proofs.EntrySteps as es
 use borrow.Author.Needs.{needs}
@@ -18,7 +18,7 @@ use Rattle.writing.proofs.write.Tie as tie
 arranged : (c : tie.Else2) → arrangementRefusal (c .before .before .before .before .before .before .args .arrangement) ≡ 0
 arranged c = sym (c .before .before .before .refusal .ensures) ∙ c .before .before .if1 .left
 
-good : (c : tie.Else2) → codesRefusal (c .before .before .before .before .before .before .args .codes .now) ≡ 0
+good : (c : tie.Else2) → let a = c .before .before .before .before .before .before .args in codesRefusal (a .arrangement) (a .codes .now) ≡ 0
 good c = sym (c .before .list-refusal .ensures) ∙ c .if2 .left
 
 refusal-requires : tie.Need-refusal-requires
@@ -31,7 +31,7 @@ returns c =
     es.refused _ _ _ _ _ (es.first (a .arrangement) (a .codes .now) (length (a .text .now)) (λ z. c .if1 .taken (e ∙ z)) ∙ sym e) (c .if1 .taken)
 
 list-refusal-requires : tie.Need-list-refusal-requires
-list-refusal-requires c κs = search needs
+list-refusal-requires c κs = is-arrangement (sym (c .before .refusal .ensures) ∙ c .if1 .left)
 
 returns-2 : tie.Need-returns-2
 returns-2 c =
@@ -41,7 +41,7 @@ returns-2 c =
     es.refused _ _ _ _ _ (es.second (a .arrangement) (a .codes .now) (length (a .text .now)) f (λ z. c .if2 .taken (e ∙ z)) ∙ sym e) (c .if2 .taken)
 
 length-of-requires : tie.Need-length-of-requires
-length-of-requires c κs = good c
+length-of-requires c κs = let g = good c in (good-list _ _ g .coded, in-turn _ _ g)
 
 returns-3 : tie.Need-returns-3
 returns-3 c =
@@ -67,7 +67,7 @@ put-heading-requires c κs =
 put-list-requires : tie.Need-put-list-requires
 put-list-requires c κs =
     let g = good (c .before .before .before .before .before .before .before .before) in
-    (good-list _ g .coded, omega arith, omega arith, omega arith, omega arith, omega arith, omega arith)
+    (good-list _ _ g .coded, omega arith, omega arith, omega arith, omega arith, omega arith, omega arith)
 
 same-length : tie.Need-same-length
 same-length c = search needs
@@ -82,7 +82,7 @@ returns-5 c =
     (es.nothing (a .arrangement) (a .codes .now) (length (a .text .now)) (arranged g) (good g) (omega (arith, f .before .if3 .left)) (omega (arith, f .if4 .left)))
     e
     (top-text (a .arrangement) (a .codes .now) (a .text .now) _ _ _ (omega (arith, f .if4 .left)) (c .before .before .before .before .before .before .put-heading .ensures)
-    (c .before .before .put-list .ensures .is Faces [] 0 15 refl (top-at (a .codes .now) (good g))))
+    (c .before .before .put-list .ensures .is Faces [] 0 15 refl (top-at (a .codes .now) (good-list _ _ (good g) .coded) (in-turn _ _ (good g)))))
 
 pub write-spec : {M : Type 1} → statement M
 write-spec =

@@ -1,5 +1,6 @@
 -- The two passes over a good list, from the faces on: the length of its text, and the text. Assumes nothing.
 use mathlib.Core.Path.{_≡_, refl, sym, ap, ap₂, _∙_}
+use mathlib.Core.Bool.{true}
 use mathlib.Core.Logic.{_⊎_, inl, inr, ⊎-elim}
 use mathlib.Core.List.{List, [], _∷_, _++_, map}
 use Prim.Native.Nat.{ℕ, _+_, _-_, _*_, _≤_}
@@ -24,9 +25,9 @@ use Rattle.reading.specs.Laws.Named.{prefix-inside, names-of-cells}
 use Rattle.reading.specs.Laws.Rising.{ahead-before}
 use Rattle.writing.specs.declared.WrittenTo.{WrittenTo}
 use Rattle.reading.specs.Written.{side, built, writtenText, under}
-use Rattle.writing.specs.Write.{GoodList, InTurn, codesRefusal, textOf, textIn}
+use Rattle.writing.specs.Write.{allCodes, InTurn, textOf, textIn}
 use Rattle.reading.specs.Laws.Built.{built-side}
-use Rattle.writing.specs.Laws.List.{good-list, in-turn, codes-cells}
+use Rattle.writing.specs.Laws.List.{codes-cells}
 use Rattle.writing.specs.Internal.Take.{restsOf, Since, Each}
 use Rattle.writing.specs.Internal.Measure.{namesFrom, ListAt, ListTakes}
 use Rattle.writing.specs.Internal.Put.{ListWrote}
@@ -73,19 +74,16 @@ face-start : (b : ℕ) → startOf (cellNamed (b ∷ [])) ≡ 0 + (b - 0) * 2058
 unfolding startOf pathOf cellNamed digitsOf value
 face-start b = omega arith
 
-module _ (codes : List ℕ) (e : codesRefusal codes ≡ 0) where
-  good : GoodList codes
-  good = good-list codes e
-
+module _ (codes : List ℕ) (t : allCodes codes ≡ true) (turn : InTurn (map cellOf codes)) where
   cells : Cells (map cellOf codes)
-  cells = codes-cells codes (good .coded)
+  cells = codes-cells codes t
 
   pub top-at : ListAt codes 0 [] 0 6 0 205891132094649 15
   top-at =
       let n : AreNames 6 15 (namesFrom codes 0) = names-of-cells (map cellOf codes) cells in
       record {
-        coded = good .coded;
-        standing = record { named = n; rising = in-turn-rise (map cellOf codes) cells (in-turn codes e); since = since-faces (namesFrom codes 0) n };
+        coded = t;
+        standing = record { named = n; rising = in-turn-rise (map cellOf codes) cells turn; since = since-faces (namesFrom codes 0) n };
         numbered = λ b l u. ((omega arith, omega arith, tt), face-start b);
         sized = refl;
         depth = refl;
