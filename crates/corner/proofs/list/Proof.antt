@@ -2,7 +2,6 @@
 use mathlib.Core.Path.{_≡_, sym, ap, subst, _∙_}
 use lib.ListN.{length}
 use Rattle.cell.specs.Cell.{IsCell}
-use Rattle.code.specs.Code.{cellOf}
 use Rattle.code.specs.Laws.Code.{code-arranged}
 use Rattle.code.specs.Laws.Decoded.{Decoded, decoded, undecoded}
 use Rattle.corner.specs.Corner.{cornerNumber}

@@ -6,7 +6,7 @@ use mathlib.Core.List.{List, [], _∷_}
 use Prim.Native.Nat.{ℕ, zero, suc, _+_, _≤_, _<_}
 use native.Mathlib.Omega.{arith}
 use lib.Dec.{eqb, ltb}
-use borrow.Author.Tests.{eqb-true, eq-eqb, ne-eqb}
+use borrow.Author.Tests.{eqb-true}
 use lib.ListN.{length}
 use Rattle.logic.specs.Laws.Bools.{by-cond}
 use Rattle.logic.specs.Laws.Order.{lt-or}
@@ -15,7 +15,7 @@ use Rattle.logic.specs.Rise.{Rise}
 use Rattle.cell.specs.declared.Cell.{Cell}
 use Rattle.cell.specs.declared.Arrangement.{Arrangement}
 use Rattle.cell.specs.Cell.{IsCell, IsArrangement}
-use Rattle.cell.specs.Neighbour.{rows, leaves}
+use Rattle.cell.specs.Neighbour.{rows}
 use Rattle.cell.specs.Laws.Turns.{four-cases}
 use Rattle.code.specs.Code.{codeOf}
 use Rattle.code.specs.Laws.Code.{code-one}

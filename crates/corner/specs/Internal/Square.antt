@@ -1,4 +1,4 @@
--- Round a corner of a cell, as a pilot sees it: where four cells meet, ahead and then right is right and then ahead; where three meet, in a corner
+-- Round a corner of a cell, its face crossed in some direction: where four cells meet, ahead and then right is right and then ahead; where three meet, in a corner
 -- of a face, the cell to the right of the one ahead is the one to the right. Assumes nothing.
 use mathlib.Core.Path.{_≡_, refl, sym, ap, ap₂, subst, _∙_}
 use mathlib.Core.Logic.{_⊎_, inl, inr, ⊎-elim}

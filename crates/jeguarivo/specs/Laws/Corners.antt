@@ -11,7 +11,7 @@ use lib.Seq.{take-append-seam}
 use borrow.Author.Tests.{le-ltb}
 use Rattle.logic.specs.Lists.{Mem}
 use Rattle.logic.specs.Rise.{Rise}
-use Rattle.logic.specs.Refusal.{refuse, _otherwise_, given}
+use Rattle.logic.specs.Refusal.{refuse, given}
 use Rattle.logic.specs.Laws.Refusal.{both, passes, given-value}
 use Rattle.cell.specs.declared.Cell.{Cell}
 use Rattle.cell.specs.declared.Arrangement.{Arrangement}
