@@ -11,13 +11,13 @@ use Rattle.logic.specs.Laws.Refusal.{stops, passes}
 use Rattle.code.specs.Code.{codeRefusal}
 use Rattle.corner.specs.declared.Cornered.{Cornered}
 use Rattle.corner.specs.declared.Cornered.the-variants.{Count, Refused}
-use Rattle.corner.specs.List.{codesAt, inFront, cornered, cornersRefusal}
+use Rattle.corner.specs.List.{codesAt, inFront, cornered, cornersRefusal, cornerMemory}
 
 module _ (code : ℕ) (lent : List ℕ) where
   abbrev Answer : Cornered → List ℕ → Type 0
   Answer r exit =
       (r ≡ cornered (cornersRefusal code (length lent)) (length (codesAt code)))
-      × (exit ≡ given (cornersRefusal code (length lent)) (inFront (codesAt code) lent) lent)
+      × (exit ≡ cornerMemory code lent)
 
   refused : (r : ℕ) → (r ≡ 0 → ⊥) → cornersRefusal code (length lent) ≡ r → Answer (Refused r) lent
   unfolding cornered given

@@ -5,7 +5,7 @@ use mathlib.Core.List.{List, [], _++_}
 use Prim.Native.Nat.{ℕ, zero, suc, _+_, _%_}
 use lib.Dec.{ltb}
 use lib.ListN.{length, drop}
-use Rattle.logic.specs.Refusal.{refuse, _otherwise_}
+use Rattle.logic.specs.Refusal.{refuse, _otherwise_, given}
 use Rattle.cell.specs.declared.Cell.{Cell}
 use Rattle.cell.specs.declared.Arrangement.{Arrangement}
 use Rattle.cell.specs.Neighbour.{leaves, neighbourOf}
@@ -52,6 +52,10 @@ cornersRefusal code room = codeRefusal code otherwise refuse (ltb room (length (
 -- the lent codes with these in front: "an answer changes only its own length"
 abbrev pub inFront : (codes lent : List ℕ) → List ℕ
 inFront codes lent = codes ++ drop (length codes) lent
+
+-- the lent codes afterwards: the list in front, and with a refusal what stood there
+abbrev pub cornerMemory : (code : ℕ) (lent : List ℕ) → List ℕ
+cornerMemory code lent = given (cornersRefusal code (length lent)) (inFront (codesAt code) lent) lent
 
 -- ---- the answer: how many codes were listed, or the number of the refusal
 unfoldable pub cornered : (r n : ℕ) → Cornered

@@ -2,11 +2,10 @@
 ghost use mathlib.Core.Path.{_≡_};
 ghost use Prim.Native.Nat.{_≤_, _<_};
 ghost use lib.ListN.{length, take};
-ghost use Rattle.logic.specs.Refusal.{given};
 ghost use Rattle.cell.specs.Cell.{IsCell, IsArrangement};
 ghost use Rattle.track.specs.Track.{Held};
 ghost use Rattle.corner.specs.Corner.{firstOrLast, cornerNumber};
-ghost use Rattle.corner.specs.List.{faceCorner, acrossCorner, withCorner, cornerCodes, codesAt, inFront, cornered, cornersRefusal};
+ghost use Rattle.corner.specs.List.{faceCorner, acrossCorner, withCorner, cornerCodes, codesAt, inFront, cornered, cornersRefusal, cornerMemory};
 use cell::Arrangement;
 use cell::Cell;
 use cell::Found;
@@ -122,7 +121,7 @@ fn put_corners(arrangement: Arrangement, cell: Cell, codes: &mut [u64])
 // "list these cells in rising code order, under any arrangement": 4 where the code is no cell's, 8 where the room is short.
 pub fn list(code: u64, codes: &mut [u64]) -> Cornered
     ensures { λ r. ⌜ r ≡ cornered (cornersRefusal code (length (now (codes .entry)))) (length (codesAt code)) ⌝ }
-    ensures { λ r. ⌜ now (codes .exit) ≡ given (cornersRefusal code (length (now (codes .entry)))) (inFront (codesAt code) (now (codes .entry))) (now (codes .entry)) ⌝ }
+    ensures { λ r. ⌜ now (codes .exit) ≡ cornerMemory code (now (codes .entry)) ⌝ }
 {
     let Found::At(cell) = code::cell_of(code) else {
         return Cornered::Refused(4);

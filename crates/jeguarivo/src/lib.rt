@@ -7,7 +7,7 @@ ghost use Rattle.logic.specs.Refusal.{given};
 ghost use Rattle.cell.specs.Cell.{IsCell};
 ghost use Rattle.code.specs.Code.{codeOf, arrangementOf, Placed, foundCode};
 ghost use Rattle.name.specs.Name.{codeNameRefusal, nameIn};
-ghost use Rattle.corner.specs.List.{codesAt, cornersRefusal, inFront};
+ghost use Rattle.corner.specs.List.{cornerMemory};
 ghost use Rattle.reader.specs.Check.{checkedOf};
 ghost use Rattle.listing.specs.List.{listingRefusal, listed, codesIn};
 ghost use Rattle.asking.specs.Ask.{askRefusal, asked};
@@ -348,7 +348,7 @@ pub extern "C" fn jgv_corner_count(code: u64) -> CountAnswer
 #[no_mangle]
 pub extern "C" fn jgv_corner_cells(code: u64, codes: &mut [u64]) -> CountAnswer
     ensures { λ r. ⌜ r ≡ cornerCells code (length (now (codes .entry))) ⌝ }
-    ensures { λ r. ⌜ now (codes .exit) ≡ given (cornersRefusal code (length (now (codes .entry)))) (inFront (codesAt code) (now (codes .entry))) (now (codes .entry)) ⌝ }
+    ensures { λ r. ⌜ now (codes .exit) ≡ cornerMemory code (now (codes .entry)) ⌝ }
 {
     match corner::list(code, codes) {
         Cornered::Count(count) => CountAnswer { refusal: 0, count },

@@ -1,18 +1,19 @@
 -- What W-204 says, over what the entries answer and leave in lent memory. Assumes nothing.
 use mathlib.Core.Path.{_≡_, refl, sym, ap, ap₂, _∙_, subst}
-use mathlib.Core.Logic.{_↔_}
-use mathlib.Core.Bool.{Bool, true}
+use mathlib.Core.Logic.{_↔_, ⊎-elim}
+use mathlib.Core.Bool.{Bool, true, not}
 use mathlib.Core.List.{List}
-use Prim.Native.Nat.{ℕ, zero, suc, _<_}
+use Prim.Native.Nat.{ℕ, zero, suc, _<_, _≤_}
 use native.Mathlib.Omega.{arith}
 use lib.ListN.{length, take, drop}
 use lib.Dec.{ltb}
-use lib.Seq.{take-append-seam}
-use borrow.Author.Tests.{le-ltb}
+use lib.Seq.{take-append-seam, drop-append-seam}
+use borrow.Author.Tests.{lt-ltb, le-ltb}
 use Rattle.logic.specs.Lists.{Mem}
 use Rattle.logic.specs.Rise.{Rise}
-use Rattle.logic.specs.Refusal.{refuse, given}
-use Rattle.logic.specs.Laws.Refusal.{both, passes, given-value}
+use Rattle.logic.specs.Laws.Order.{lt-or}
+use Rattle.logic.specs.Refusal.{refuse, _otherwise_, given}
+use Rattle.logic.specs.Laws.Refusal.{both, passes, other, given-value}
 use Rattle.cell.specs.declared.Cell.{Cell}
 use Rattle.cell.specs.declared.Arrangement.{Arrangement}
 use Rattle.cell.specs.Cell.{IsCell, IsArrangement}
@@ -21,10 +22,11 @@ use Rattle.cell.specs.Laws.Neighbour.{neighbour-is-cell}
 use Rattle.code.specs.Code.{codeOf, cellOf, arrangementOf, isCode, codeRefusal, coded}
 use Rattle.code.specs.Laws.Code.{a-code, code-passes, code-is-cell, code-arranged, code-cell, code-one, cell-code, arrangement-code, cell-has-code}
 use Rattle.corner.specs.Corner.{MeetsAtCorner, cornerNumber}
-use Rattle.corner.specs.List.{codesAt, cornersRefusal, cornered, inFront}
+use Rattle.corner.specs.List.{codesAt, cornersRefusal, cornered, inFront, cornerMemory}
 use Rattle.corner.specs.Laws.List.{corners-rise, corners-count, code-listed}
 use Rattle.jeguarivo.specs.Entries.{codeAnswer, neighbourCode, cornerCount, cornerNumbers, cornerCells}
 use Rattle.jeguarivo.specs.Corners.{neighbourAt, ByNeighbours}
+use Rattle.jeguarivo.specs.Laws.First.{corners-refusal}
 
 -- ---- what jgv_neighbour answers is the code of the neighbour
 
@@ -49,32 +51,45 @@ module _ {a : Arrangement} (ok : IsArrangement a) where
   at-near {c} {x} v w d l e = (d, l, code-one (neighbourOf a c d) x ok ok (neighbour-is-cell d ok v l) w (sym (neighbour-of c d v l) ∙ e) .1)
 
 module _ (code : ℕ) (lent : List ℕ) where
-  -- the lent codes afterwards, and those of them that were listed
-  abbrev pub cornerMemory : List ℕ
-  cornerMemory = given (cornersRefusal code (length lent)) (inFront (codesAt code) lent) lent
-
+  -- those of the lent codes that were listed
   abbrev pub listedCorners : List ℕ
-  listedCorners = take (cornerCells code (length lent) .count) cornerMemory
+  listedCorners = take (cornerCells code (length lent) .count) (cornerMemory code lent)
+
+  -- "Other answers are 0", and no lent code is changed, beside a refusal
+  pub corners-refused : (cornerCells code (length lent) .refusal ≡ 0 → ⊥) → (cornerCells code (length lent) .count ≡ 0) × (cornerMemory code lent ≡ lent)
+  unfolding cornerCells cornered given
+  corners-refused = go (cornersRefusal code (length lent))
+    where
+      n : ℕ
+      n = length (codesAt code)
+
+      go : (r : ℕ) → (cornerNumbers (cornered r n) .refusal ≡ 0 → ⊥) → (cornerNumbers (cornered r n) .count ≡ 0) × (given r (inFront (codesAt code) lent) lent ≡ lent)
+      go zero h = absurd (h refl)
+      go (suc r) h = (refl, refl)
 
   module _ (e : cornerCells code (length lent) .refusal ≡ 0) where
     none : cornersRefusal code (length lent) ≡ 0
-    unfolding cornerCells cornered
-    none = go (cornersRefusal code (length lent)) e
-      where
-        go : (r : ℕ) → cornerNumbers (cornered r (length (codesAt code))) .refusal ≡ 0 → r ≡ 0
-        go zero h = refl
-        go (suc r) h = h
+    unfolding cornerCells
+    none = sym (corners-refusal (cornersRefusal code (length lent)) (length (codesAt code))) ∙ e
 
     is-code : isCode code ≡ true
     unfolding cornersRefusal
     is-code = a-code code (both _ _ none .0)
 
+    counted : cornerCells code (length lent) .count ≡ length (codesAt code)
+    unfolding cornerCells cornered
+    counted = ap (λ (r : ℕ). cornerNumbers (cornered r (length (codesAt code))) .count) none
+
     -- what was listed is the list
     pub listed-corners : listedCorners ≡ codesAt code
-    unfolding cornerCells cornered
     listed-corners =
-        ap₂ take (ap (λ (r : ℕ). cornerNumbers (cornered r (length (codesAt code))) .count) none) (given-value (inFront (codesAt code) lent) lent none)
-        ∙ take-append-seam (codesAt code) (drop (length (codesAt code)) lent)
+        ap₂ take counted (given-value (inFront (codesAt code) lent) lent none) ∙ take-append-seam (codesAt code) (drop (length (codesAt code)) lent)
+
+    -- and the codes behind it are those that were lent
+    pub corners-rest : drop (cornerCells code (length lent) .count) (cornerMemory code lent) ≡ drop (cornerCells code (length lent) .count) lent
+    corners-rest =
+        ap₂ drop counted (given-value (inFront (codesAt code) lent) lent none)
+        ∙ drop-append-seam (codesAt code) (drop (length (codesAt code)) lent) ∙ ap (λ (n : ℕ). drop n lent) (sym counted)
 
     -- "in rising code order"
     pub corners-rising : Rise listedCorners
@@ -171,8 +186,29 @@ module _ (code : ℕ) (lent : List ℕ) where
 
     -- as many as jgv_corner_count says, and that is the request's rule
     pub corners-number : (cornerCells code (length lent) .count ≡ cornerNumber (cellOf code)) × (cornerCount code .count ≡ cornerNumber (cellOf code))
-    unfolding cornerCells cornered cornersRefusal cornerCount
+    unfolding cornersRefusal cornerCount
     corners-number = (
-      ap (λ (r : ℕ). cornerNumbers (cornered r (length (codesAt code))) .count) none ∙ corners-count (code-arranged code) (code-is-cell code is-code),
+      counted ∙ corners-count (code-arranged code) (code-is-cell code is-code),
       given-value (cornerNumber (cellOf code)) 0 (both (codeRefusal code) _ none .0),
     )
+
+-- 8 exactly where the room is less than what jgv_corner_count answers, which is 0 beside its refusal
+pub eight-by-count : (code room : ℕ) → (cornerCells code room .refusal ≡ 8) ↔ (room < cornerCount code .count)
+unfolding cornerCells cornersRefusal cornerCount codeRefusal _otherwise_ given
+eight-by-count code room =
+    subst (λ (r : ℕ). (r ≡ 8) ↔ (room < cornerCount code .count)) (sym (corners-refusal (cornersRefusal code room) listed))
+    (go (codeRefusal code) (λ e. corners-count (code-arranged code) (code-is-cell code (a-code code e))) (other (not (isCode code)) 4 7 (λ e. omega arith)))
+  where
+    listed : ℕ
+    listed = length (codesAt code)
+
+    short : {n m : ℕ} → n ≡ m → (refuse (ltb room n) 8 ≡ 8) ↔ (room < m)
+    short {n} e = (
+      (λ h. ⊎-elim (λ l. omega arith) (λ l. let z = sym (ap (λ (t : Bool). refuse t 8) (le-ltb room n l)) ∙ h in omega arith) (lt-or room n)),
+      (λ h. ap (λ (t : Bool). refuse t 8) (lt-ltb room n (omega arith))),
+    )
+
+    go : (r : ℕ) → (r ≡ 0 → length (codesAt code) ≡ cornerNumber (cellOf code)) → (r ≡ 8 → ⊥) →
+        (r otherwise refuse (ltb room (length (codesAt code))) 8 ≡ 8) ↔ (room < given r (cornerNumber (cellOf code)) 0)
+    go zero n h = short (n refl)
+    go (suc r) n h = ((λ e. absurd (h e)), (λ l. absurd (omega arith)))

@@ -193,6 +193,12 @@ neighbour-first code d =
     (then (last 2 (lt-decides 3 d)) refl (λ _. code-first code))
 
 -- jgv_parent
+-- what jgv_corner_cells answers beside a refusal
+pub corners-refusal : (r count : ℕ) → cornerNumbers (cornered r count) .refusal ≡ r
+unfolding cornered
+corners-refusal zero count = refl
+corners-refusal (suc r) count = refl
+
 module _ (code : ℕ) where
   -- what no longer refuses a code
   real : (NoCell code → ⊥) → cellRefusal (cellOf code) ≡ 0
@@ -244,14 +250,10 @@ module _ (code : ℕ) where
 
   -- jgv_corner_cells
   pub corners-first : (room : ℕ) → FirstOf (cornersTests code room) (cornerCells code room .refusal)
-  unfolding cornerCells cornersRefusal cornered
+  unfolding cornerCells cornersRefusal
   corners-first room =
-      subst (FirstOf (cornersTests code room)) (sym (go (cornersRefusal code room)))
+      subst (FirstOf (cornersTests code room)) (sym (corners-refusal (cornersRefusal code room) (length (codesAt code))))
       (then (code-first code) refl (λ _. last 7 (lt-decides room (length (codesAt code)))))
-    where
-      go : (r : ℕ) → cornerNumbers (cornered r (length (codesAt code))) .refusal ≡ r
-      go zero = refl
-      go (suc r) = refl
 
   -- jgv_code_name
   pub code-name-first : (room : ℕ) → FirstOf (codeNameTests code room) (writtenName code room .refusal)
