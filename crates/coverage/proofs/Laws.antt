@@ -1,37 +1,44 @@
--- A name more is read; names are printed part by part. Assumes nothing.
+-- A name more is read; a name is asked for; names are printed part by part. Assumes nothing.
 use mathlib.Core.Path.{_≡_, refl, sym, ap, ap₂, _∙_, subst}
 use mathlib.Core.Logic.{_⊎_, ⊎-elim}
-use mathlib.Core.Bool.{Bool}
+use mathlib.Core.Bool.{Bool, true, false, not}
 use mathlib.Core.List.{List, [], _∷_, _++_}
-use Prim.Native.Nat.{ℕ, zero, suc, _+_, _-_, _≤_, _<_}
+use Prim.Native.Nat.{ℕ, zero, suc, _+_, _-_, _*_, _≤_, _<_}
 use native.Mathlib.Numerals.{add-one}
 use native.Mathlib.Omega.{arith}
-use lib.Dec.{leb}
+use lib.Dec.{leb, ltb}
 use lib.ListN.{length, take, drop, set, length-drop, length-set}
-use lib.Seq.{take-all, take-add, take-suc-set, length-take-le}
+use lib.Seq.{take-all, take-add, take-suc-set, take-at, length-take-le}
 use borrow.Author.Tests.{lt-ltb, ltb-false, lt-leb, le-leb}
 use Rattle.logic.specs.Laws.Order.{lt-or}
-use Rattle.logic.specs.Refusal.{refuse, _otherwise_}
+use Rattle.logic.specs.Refusal.{refuse, given, _otherwise_}
 use Rattle.logic.specs.Laws.Refusal.{stops, passes, both, allowed}
 use Rattle.code.specs.declared.Coded.{Coded}
 use Rattle.code.specs.declared.Coded.the-variants as coded-as
-use Rattle.code.specs.Code.{coded, codeIn, refusalIn}
+use Rattle.code.specs.Code.{coded, codeIn, refusalIn, isCode, isOf, cellOf, arrangementOf}
+use Rattle.code.specs.Laws.Code.{arrangement-of, arrangement-code, code-is-cell, code-passes}
 use Rattle.decimal.specs.Decimal.{trimmed}
 use Rattle.decimal.specs.Laws.Long.{trimmed-length, trimmed-take}
-use Rattle.name.specs.Name.{nameRefusal, nameCode}
+use Rattle.name.specs.Name.{nameRefusal, nameCode, firstLetter, allDigits}
+use Rattle.name.specs.Laws.Name.{accepted, name-code, name-code-is, code-name}
 use Rattle.lines.specs.Fold.{OfBytes, OfEnded}
 use Rattle.lines.specs.Laws.Fold.{then-line, then-last, then-none}
 use Rattle.console.specs.declared.LineRead.the-variants.{Line, Last}
 use Rattle.console.specs.Input.{Given}
 use Rattle.report.specs.declared.Names.{Names as NamesPart}
 use Rattle.report.specs.Names.{namesOf, NamesPut}
-use Rattle.report.specs.Laws.Names.{names-append, names-some}
+use Rattle.report.specs.Laws.Names.{names-some, names-all}
+use Rattle.report.specs.Put.{Put}
+use Rattle.report.specs.Lines.{numberLine}
 use Rattle.report.specs.Laws.Put.{put-taken}
 use Rattle.cell.specs.declared.Arrangement.{Arrangement}
-use Rattle.reader.specs.Check.{textRefusal}
+use Rattle.reading.specs.TextReading.{textArrangement}
+use Rattle.reader.specs.Check.{textRefusal, placeWith}
+use Rattle.asking.specs.declared.Asked.the-variants.{Refused}
+use Rattle.asking.specs.Ask.{asked, askRefusal}
 use Rattle.listing.specs.declared.Listed.{Listed}
-use Rattle.listing.specs.declared.Listed.the-variants.{Count}
-use Rattle.listing.specs.List.{codesOf, listingRefusal, listed}
+use Rattle.listing.specs.declared.Listed.the-variants as listed-by
+use Rattle.listing.specs.List.{codesOf, codesIn, listingRefusal, listed}
 use Rattle.coverage.specs.declared.NamesRead.{NamesRead}
 use Rattle.coverage.specs.declared.Text.{Text}
 use Rattle.coverage.specs.declared.Text.the-variants.{Length}
@@ -39,7 +46,8 @@ use Rattle.coverage.specs.declared.Taken.{Taken}
 use Rattle.coverage.specs.declared.Taken.the-variants as taken-as
 use Rattle.coverage.specs.declared.NamesRead.the-variants as read-as
 use Rattle.coverage.specs.Names.{Names, read, stopped, namedOr, withName, NameTaken, AllTaken}
-use Rattle.coverage.specs.Printed.{TextWritten}
+use Rattle.coverage.specs.Own.{Own}
+use Rattle.coverage.specs.Printed.{askedName, NamesWritten, ListWritten, TextWritten}
 
 -- ---- one name
 
@@ -162,27 +170,118 @@ module _ (codes out later : List ℕ) (from end : ℕ) (r : NamesPart) (h : from
   pub part-some : 17 ≤ length out → 0 < r .count
   part-some k = names-some (take (length codes - from) (drop from codes)) out later r q (omega (arith, ap length part, length-drop from codes)) k
 
-  pub part-written : (printed : List ℕ) → printed ++ take end out ≡ namesOf (take from codes) → (p : List ℕ) × (p ++ take (r .end) later ≡ namesOf (take (from + r .count) codes))
-  part-written printed e = (
-    printed ++ take end out,
-    ap₂ (λ (x y : List ℕ). x ++ y) e (put-taken (q .put) (q .within) ∙ ap (λ (l : List ℕ). namesOf (take (r .count) l)) part)
-        ∙ sym (ap namesOf (take-add from (r .count) codes) ∙ names-append (take from codes) (take (r .count) (drop from codes))),
-  )
+  -- what stands in front then
+  pub part-written : take (r .end) later ≡ namesOf (take (r .count) (drop from codes))
+  part-written = put-taken (q .put) (q .within) ∙ ap (λ (l : List ℕ). namesOf (take (r .count) l)) part
+
+  -- all that is left of them where the room has 17 bytes for each
+  pub part-all : 17 * length codes ≤ length out → from + r .count ≡ length codes
+  part-all k =
+      let l : length (take (length codes - from) (drop from codes)) ≡ length codes - from = ap length part ∙ length-drop from codes in
+      let a = names-all (take (length codes - from) (drop from codes)) out later r q (omega arith) in
+      omega (arith, a)
+
+-- ---- a name asked for
+
+-- a name's refusal has no place
+chain : (a b c : Bool) (t : List ℕ) → placeWith (refuse a 2 otherwise refuse b 1 otherwise refuse c 3) t ≡ 0
+unfolding _otherwise_
+chain true b c t = refl
+chain false true c t = refl
+chain false false true t = refl
+chain false false false t = refl
+
+name-place : (name t : List ℕ) → placeWith (nameRefusal name) t ≡ 0
+unfolding nameRefusal
+name-place name t = chain (ltb 16 (length name)) (not (firstLetter name)) (not (allDigits (drop 1 name))) t
+
+pub name-stops : (t name : List ℕ) (a : Arrangement) {x : Coded} (r : ℕ) → x ≡ coded (nameRefusal name) (nameCode a name) → x ≡ coded-as.Refused r → Refused r 0 ≡ askedName t name
+unfolding askedName asked
+name-stops t name a r e f = let k = as-refusal (nameRefusal name) (nameCode a name) r (sym e ∙ f) in go r (k .0) (k .1)
+  where
+    go : (q : ℕ) → nameRefusal name ≡ q → (q ≡ 0 → ⊥) → Refused q 0 ≡ askedName t name
+    go zero i j = absurd (j refl)
+    go (suc q) i j =
+        ap (Refused (suc q)) (sym (name-place name t) ∙ ap (λ (y : ℕ). placeWith y t) i)
+        ∙ sym (ap (λ (y : ℕ). asked y t (nameCode (textArrangement t) name)) (stops (nameRefusal name) (textRefusal t) (λ z. j (sym i ∙ z)) ∙ i))
+
+module _ (t name : List ℕ) (a : Arrangement) (o : Own t a) (e : nameRefusal name ≡ 0) where
+  abbrev code : ℕ
+  code = nameCode a name
+
+  is-code : isCode code ≡ true
+  is-code = name-code-is name (o .arranged) (accepted name e)
+
+  -- the code of a name is of the arrangement that the name was read in
+  named-in : isOf a code ≡ true
+  named-in =
+      arrangement-of a code (
+      ap arrangementOf (ap (nameCode a) (sym (code-name name (o .arranged) (accepted name e))) ∙ name-code a (cellOf code))
+      ∙ arrangement-code (o .arranged) (cellOf code) (code-is-cell code is-code)
+      )
+
+  own-asked : asked (askRefusal t code) t code ≡ askedName t name
+  unfolding askedName askRefusal asked
+  own-asked = go (textRefusal t) refl
+    where
+      go : (q : ℕ) → textRefusal t ≡ q → asked (askRefusal t code) t code ≡ askedName t name
+      go zero i =
+          let own = o .own i in
+          ap (λ (y : ℕ). asked y t code)
+          (passes _ (code-passes code is-code) ∙ passes _ i ∙ ap (λ (b : Arrangement). refuse (not (isOf b code)) 14) (sym own) ∙ ap (λ (b : Bool). refuse (not b) 14) named-in)
+          ∙ ap (λ (b : Arrangement). asked 0 t (nameCode b name)) own
+          ∙ sym (ap (λ (y : ℕ). asked y t (nameCode (textArrangement t) name)) (passes _ e ∙ i))
+      go (suc q) i =
+          ap (λ (y : ℕ). asked y t code) (passes _ (code-passes code is-code) ∙ stops (textRefusal t) _ (λ z. omega arith) ∙ i)
+          ∙ sym (ap (λ (y : ℕ). asked y t (nameCode (textArrangement t) name)) (passes _ e ∙ i))
+
+pub name-asked :
+    (t name : List ℕ) (a : Arrangement) (c : ℕ) {x : Coded} → Own t a → x ≡ coded (nameRefusal name) (nameCode a name) → x ≡ coded-as.Code c →
+    asked (askRefusal t c) t c ≡ askedName t name
+name-asked t name a c o e f =
+    let k = as-code (nameRefusal name) (nameCode a name) c (sym e ∙ f) in
+    ap (λ (y : ℕ). asked (askRefusal t y) t y) (sym (k .1)) ∙ own-asked t name a o (k .0)
 
 -- ---- what is handed on
 
-listed-as : (q : ℕ) (t : List ℕ) (n : ℕ) → listed q t ≡ Count n → (q ≡ 0) × (length (codesOf t) ≡ n)
+listed-as : (q : ℕ) (t : List ℕ) (n : ℕ) → listed q t ≡ listed-by.Count n → (q ≡ 0) × (length (codesOf t) ≡ n)
 unfolding listed
 listed-as zero t n e = (refl, (cc))
 listed-as (suc q) t n e = let z : _≡_ {A = ℕ} 0 1 = cc in absurd (omega arith)
 
--- the codes listed have their room
-pub listed-fits : (t : List ℕ) (room n : ℕ) {r : Listed} → r ≡ listed (listingRefusal t room) t → r ≡ Count n → n ≤ room
-unfolding listingRefusal
-listed-fits t room n e f =
-    let k = listed-as (listingRefusal t room) t n (sym e ∙ f) in
-    let l : length (codesOf t) ≤ room = ltb-false room (length (codesOf t)) (allowed 7 _ (both (textRefusal t) _ (k .0) .1)) in
-    omega (arith, k .1)
+not-listed : (q : ℕ) (t : List ℕ) (r p : ℕ) → listed q t ≡ listed-by.Refused r p → (q ≡ r) × (r ≡ 0 → ⊥)
+unfolding listed
+not-listed zero t r p e = let z : _≡_ {A = ℕ} 0 1 = cc in absurd (omega arith)
+not-listed (suc q) t r p e = let k : suc q ≡ r = cc in (k, λ z. omega arith)
+
+module _ (t codes : List ℕ) {r : Listed} (e : r ≡ listed (listingRefusal t (length codes)) t) where
+  -- the codes listed have their room
+  pub listed-fits : (n : ℕ) → r ≡ listed-by.Count n → n ≤ length codes
+  unfolding listingRefusal
+  listed-fits n f =
+      let k = listed-as (listingRefusal t (length codes)) t n (sym e ∙ f) in
+      let l : length (codesOf t) ≤ length codes = ltb-false (length codes) (length (codesOf t)) (allowed 7 _ (both (textRefusal t) _ (k .0) .1)) in
+      omega (arith, k .1)
+
+  pub list-written :
+      (n : ℕ) (later out : List ℕ) (waiting : ℕ) → r ≡ listed-by.Count n → later ≡ given (listingRefusal t (length codes)) (codesIn t codes) codes → NamesWritten (take n later) out waiting →
+      ListWritten (listingRefusal t (length codes)) t out waiting
+  unfolding given codesIn
+  list-written n later out waiting f g w =
+      let k = listed-as (listingRefusal t (length codes)) t n (sym e ∙ f) in
+      let taken : take n later ≡ codesOf t =
+      ap (take n) (g ∙ ap (λ (q : ℕ). given q (codesIn t codes) codes) (k .0)) ∙ take-at (codesOf t) (drop (length (codesOf t)) codes) n (k .1) in
+      subst (λ (q : ℕ). ListWritten q t out waiting) (sym (k .0)) (subst (λ (l : List ℕ). NamesWritten l out waiting) taken w)
+
+  pub list-refused :
+      (q p : ℕ) {out later : List ℕ} {end : ℕ} → r ≡ listed-by.Refused q p → Put 0 (numberLine q) out later end → end ≤ length out → ListWritten (listingRefusal t (length codes)) t later end
+  list-refused q p {later = later} {end} f w h =
+      let k = not-listed (listingRefusal t (length codes)) t q p (sym e ∙ f) in
+      subst (λ (x : ℕ). ListWritten x t later end) (sym (k .0)) (line q (k .1) (put-taken w h))
+    where
+      line : (x : ℕ) → (x ≡ 0 → ⊥) → take end later ≡ numberLine x → ListWritten x t later end
+      line zero n z = absurd (n refl)
+      line (suc x) n z = z
 
 pub read-fits : (a : Arrangement) (room : ℕ) (codes : List ℕ) (n : ℕ) {r : NamesRead} → AllTaken a room codes r → r ≡ read-as.Count n → n ≤ length codes
 read-fits a room codes n h e = (subst (AllTaken a room codes) e h) .1

@@ -1,17 +1,40 @@
--- What `coverage list` and `coverage write` print. Assumes nothing.
+-- What `coverage ask`, `coverage list` and `coverage write` print. Assumes nothing.
 use mathlib.Core.Path.{_≡_}
-use mathlib.Core.List.{List, _++_}
-use Prim.Native.Nat.{ℕ, _≤_}
-use lib.ListN.{length, take}
+use mathlib.Core.List.{List}
+use Prim.Native.Nat.{ℕ, zero, suc, _*_, _≤_, _<_}
+use lib.ListN.{length, take, drop}
 use Rattle.cell.specs.declared.Arrangement.{Arrangement}
+use Rattle.logic.specs.Refusal.{_otherwise_}
+use Rattle.name.specs.Name.{nameRefusal, nameCode}
+use Rattle.reading.specs.TextReading.{textArrangement}
+use Rattle.reader.specs.Check.{textRefusal}
+use Rattle.asking.specs.declared.Asked.{Asked}
+use Rattle.asking.specs.Ask.{asked}
 use Rattle.writing.specs.Write.{textOf, writeRefusal}
+use Rattle.listing.specs.List.{codesOf}
 use Rattle.report.specs.Names.{namesOf}
+use Rattle.report.specs.Lines.{numberLine}
 use Rattle.coverage.specs.declared.Text.{Text}
 use Rattle.coverage.specs.declared.Text.the-variants.{Length, Refused}
 
--- what was printed, and then what waits, are the names of all codes. What was printed no statement can say
-abbrev pub NamesWritten : (codes out : List ℕ) (waiting : ℕ) → Type 0
-NamesWritten codes out waiting = ((printed : List ℕ) × (printed ++ take waiting out ≡ namesOf codes)) × (waiting ≤ length out)
+-- the name's refusal, otherwise the text's, otherwise whether the text covers the cell of that name, in the text's own arrangement
+unfoldable pub askedName : (t name : List ℕ) → Asked
+unfolding asked
+askedName t name = asked (nameRefusal name otherwise textRefusal t) t (nameCode (textArrangement t) name)
+
+-- Names are put part by part into a room, and each part is printed before the next is put. Of what was printed no statement can speak; so this one
+-- speaks of what waits: the last part, whole lines up to the last name, all of them where the room has 17 bytes for each
+pub record NamesWritten (codes out : List ℕ) (waiting : ℕ) : Type 0 where
+  pub from : ℕ
+  pub names : take waiting out ≡ namesOf (drop from codes)
+  pub some : 0 < length codes → from < length codes
+  pub all : 17 * length codes ≤ length out → from ≡ 0
+  pub fits : waiting ≤ length out
+
+-- `coverage list`: the names of the text's codes, or the refusal number on a line
+abbrev pub ListWritten : (refusal : ℕ) (t out : List ℕ) (waiting : ℕ) → Type 0
+ListWritten zero t out waiting = NamesWritten (codesOf t) out waiting
+ListWritten (suc r) t out waiting = take waiting out ≡ numberLine (suc r)
 
 -- the text of the codes; or writing is refused
 abbrev pub TextWritten : Arrangement → (codes : List ℕ) (room : ℕ) (text : List ℕ) → Text → Type 0

@@ -1,11 +1,16 @@
 // coverage check FILE, coverage list FILE, coverage ask FILE NAME, coverage write n s: reads and writes coverage texts.
+ghost use mathlib.Core.Path.{_≡_};
 ghost use Prim.Native.Nat.{_≤_};
 ghost use lib.ListN.{length, take};
 ghost use Rattle.cell.specs.Cell.{IsArrangement};
+ghost use Rattle.reader.specs.Check.{checkedOf};
+ghost use Rattle.listing.specs.List.{listingRefusal};
 ghost use Rattle.console.specs.Input.{Fits};
+ghost use Rattle.report.specs.Put.{Put};
+ghost use Rattle.report.specs.Lines.{checkLine, askedLine};
 ghost use Rattle.coverage.specs.Names.{NameTaken, AllTaken};
 ghost use Rattle.coverage.specs.Own.{Own};
-ghost use Rattle.coverage.specs.Printed.{NamesWritten, TextWritten};
+ghost use Rattle.coverage.specs.Printed.{askedName, NamesWritten, ListWritten, TextWritten};
 use asking::Asked;
 use cell::Arrangement;
 use code::Coded;
@@ -44,18 +49,42 @@ enum Text {
     Refused(u64),
 }
 
+// A line that waits in front of its room up to `end`; and the refusal that is to be said with it, 0 for none, with its place.
+struct Shown {
+    end: usize,
+    refusal: u64,
+    place: u64,
+}
+
 fn usage() {
     console::say(b"usage: coverage check FILE | list FILE | ask FILE NAME\n");
     console::say(b"       coverage write n s < names > text\n");
     console::say(b"  n and s are 0 to 3; names stand one a line, rising, none inside another\n");
 }
 
+// The line to standard output, then what a refusal means to standard error.
+fn show(shown: Shown, out: &[u8])
+    requires { ⌜ shown .end ≤ length (now out) ⌝ }
+{
+    let refusal = shown.refusal;
+    console::print_first(out, shown.end);
+    if refusal != 0 {
+        console::say_text(b"coverage", refusal, shown.place);
+    }
+}
+
 // A refusal: its number to standard output, what it means to standard error.
 fn refuse(refusal: u64, place: u64) {
     let mut out = [0u8; 21];
     let end = report::put_line(refusal, &mut out);
-    console::print_first(&out, end);
-    console::say_text(b"coverage", refusal, place);
+    show(
+        Shown {
+            end,
+            refusal,
+            place,
+        },
+        &out,
+    );
 }
 
 // The file that the second argument names. Where it cannot be read, standard error says why.
@@ -81,17 +110,26 @@ fn load(path: &mut [u8], text: &mut [u8]) -> BytesRead
     BytesRead::Count(count)
 }
 
-// check: what the reader reports.
-fn check_text(text: &[u8], out: &mut [u8])
+// check: the line of what the reader answers, in front.
+fn check_text(text: &[u8], out: &mut [u8]) -> Shown
     requires { ⌜ 126 ≤ length (now out) ⌝ }
+    ensures { λ r. ⌜ Put 0 (checkLine (checkedOf (now (text .entry)))) (now (out .entry)) (now (out .exit)) (r .end) ⌝ }
+    ensures { λ r. ⌜ r .end ≤ 126 ⌝ }
 {
     let checked = reader::check(text);
     let end = report::put_check(checked, out);
-    console::print_first(out, end);
     let Checked::Refused { refusal, place } = checked else {
-        return;
+        return Shown {
+            end,
+            refusal: 0,
+            place: 0,
+        };
     };
-    console::say_text(b"coverage", refusal, place);
+    Shown {
+        end,
+        refusal,
+        place,
+    }
 }
 
 // The names of codes, one a line: what is left of them in front, behind what was printed.
@@ -110,16 +148,23 @@ fn put_all_names(codes: &[u64], out: &mut [u8]) -> usize
     end
 }
 
-// list: the names of the whole cells.
-fn list_text(text: &[u8], codes: &mut [u64], out: &mut [u8])
-    requires { ⌜ 17 ≤ length (now out) ⌝ }
+// list: the names of the whole cells, or the refusal's line: what is left of them in front, behind what was printed.
+fn list_text(text: &[u8], codes: &mut [u64], out: &mut [u8]) -> Shown
+    requires { ⌜ 21 ≤ length (now out) ⌝ }
+    ensures { λ r. ⌜ ListWritten (listingRefusal (now (text .entry)) (length (now (codes .entry)))) (now (text .entry)) (now (out .exit)) (r .end) ⌝ }
+    ensures { λ r. ⌜ r .end ≤ length (now (out .exit)) ⌝ }
 {
     match listing::list(text, codes) {
-        Listed::Count(count) => {
-            let end = put_all_names(&codes[..count as usize], out);
-            console::print_first(out, end);
-        }
-        Listed::Refused { refusal, place } => refuse(refusal, place),
+        Listed::Count(count) => Shown {
+            end: put_all_names(&codes[..count as usize], out),
+            refusal: 0,
+            place: 0,
+        },
+        Listed::Refused { refusal, place } => Shown {
+            end: report::put_line(refusal, out),
+            refusal,
+            place,
+        },
     }
 }
 
@@ -133,20 +178,35 @@ fn own_arrangement(text: &[u8]) -> Arrangement
     }
 }
 
-// ask: the name is tested first.
-fn ask_text(text: &[u8], name: &[u8]) {
-    let mut out = [0u8; 21];
+// Whether the text covers the cell of a name. The name is tested first.
+fn ask_name(text: &[u8], name: &[u8]) -> Asked
+    ensures { λ r. ⌜ r ≡ askedName (now (text .entry)) (now (name .entry)) ⌝ }
+{
     match name::name_code(own_arrangement(text), name) {
-        Coded::Code(code) => {
-            let asked = asking::ask(text, code);
-            let end = report::put_asked(asked, &mut out);
-            console::print_first(&out, end);
-            let Asked::Refused { refusal, place } = asked else {
-                return;
-            };
-            console::say_text(b"coverage", refusal, place);
-        }
-        Coded::Refused(refusal) => refuse(refusal, 0),
+        Coded::Code(code) => asking::ask(text, code),
+        Coded::Refused(refusal) => Asked::Refused { refusal, place: 0 },
+    }
+}
+
+// ask: the line of what is answered, in front.
+fn ask_text(text: &[u8], name: &[u8], out: &mut [u8]) -> Shown
+    requires { ⌜ 21 ≤ length (now out) ⌝ }
+    ensures { λ r. ⌜ Put 0 (askedLine (askedName (now (text .entry)) (now (name .entry)))) (now (out .entry)) (now (out .exit)) (r .end) ⌝ }
+    ensures { λ r. ⌜ r .end ≤ 21 ⌝ }
+{
+    let asked = ask_name(text, name);
+    let end = report::put_asked(asked, out);
+    let Asked::Refused { refusal, place } = asked else {
+        return Shown {
+            end,
+            refusal: 0,
+            place: 0,
+        };
+    };
+    Shown {
+        end,
+        refusal,
+        place,
     }
 }
 
@@ -271,18 +331,22 @@ fn ask_file(text: &[u8]) {
         refuse(2, 0);
         return;
     }
-    ask_text(text, &word[..n]);
+    let mut out = [0u8; 21];
+    let shown = ask_text(text, &word[..n], &mut out);
+    show(shown, &out);
 }
 
 fn list_file(text: &[u8]) {
     let mut codes = [0u64; 65536];
     let mut out = [0u8; 65536];
-    list_text(text, &mut codes, &mut out);
+    let shown = list_text(text, &mut codes, &mut out);
+    show(shown, &out);
 }
 
 fn check_file(text: &[u8]) {
     let mut out = [0u8; 126];
-    check_text(text, &mut out);
+    let shown = check_text(text, &mut out);
+    show(shown, &out);
 }
 
 // The three commands that read a file.

@@ -27,12 +27,9 @@ use Rattle.flight.specs.Laws.Code.{line-is-code}
 use Rattle.report.specs.Put.{putAt, Put}
 use Rattle.report.specs.Answer.{answerOf, answerLine}
 use Rattle.report.specs.Names.{nameBytes, nameLine, namesOf}
-use Rattle.report.specs.Laws.Names.{names-append}
+use Rattle.report.specs.Laws.Names.{names-append, name-short}
 
 -- ---- a name
-
-name-short : (code : ℕ) → codeRefusal code ≡ 0 → length (nameOf (cellOf code)) ≤ 16
-name-short code e = omega (arith, length-name (cellOf code), code-is-cell code (a-code code e) .fine)
 
 -- in sixteen bytes only a code that is no cell's is refused
 name-refusal : (code room : ℕ) → 16 ≤ room → codeNameRefusal code room ≡ codeRefusal code
@@ -59,14 +56,6 @@ as-bytes zero name out = refl
 as-bytes (suc q) name out = refl
 
 module _ (code : ℕ) (room : List ℕ) (h : 16 ≤ length room) where
-  pub bytes-short : length (nameBytes code) ≤ 16
-  unfolding nameBytes given
-  bytes-short = go (codeRefusal code) refl
-    where
-      go : (q : ℕ) → codeRefusal code ≡ q → length (given q (nameOf (cellOf code)) []) ≤ 16
-      go zero e = name-short code e
-      go (suc q) e = omega arith
-
   as-refusal : {x : Named} → x ≡ named (codeNameRefusal code (length room)) (length (nameOf (cellOf code))) → x ≡ named (codeRefusal code) (length (nameOf (cellOf code)))
   as-refusal e = e ∙ ap (λ (q : ℕ). named q (length (nameOf (cellOf code)))) (name-refusal code (length room) h)
 

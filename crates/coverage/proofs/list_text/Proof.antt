@@ -1,9 +1,11 @@
--- `list_text` is safe: the codes listed have their room. Assumes nothing.
-use mathlib.Core.Path.{sym}
+-- `list_text` meets its contract: the codes listed have their room, and all their names are written. Assumes nothing.
+use mathlib.Core.Path.{sym, ap}
 use Prim.Native.Nat.{_≤_}
 use lib.ListN.{length}
 use lib.Seq.{length-take-le}
-use Rattle.coverage.proofs.Laws.{listed-fits}
+use Rattle.report.specs.Lines.{numberLine}
+use Rattle.report.specs.Laws.Put.{put-length}
+use Rattle.coverage.proofs.Laws.{listed-fits, list-written, list-refused}
 use native.Mathlib.Omega.{arith}
 use borrow.Author.Needs.{needs}
 use Rattle.coverage.proofs.list_text.Statement.{statement}
@@ -16,8 +18,9 @@ enum-known-count : tie.Need-enum-known-count
 enum-known-count c = search needs
 
 count : (c : tie.After-known-told) → c .before .count .given .0 .0 ≤ length (c .before .before .before .before .before .before .before .before .before .before .args .codes .now)
-count c = listed-fits _ (length (c .before .before .before .before .before .before .before .before .before .before .args .codes .now)) _
-    (c .before .before .before .before .before .list .ensures .0) (c .before .count .given .1)
+count c =
+    let a = c .before .before .before .before .before .before .before .before .before .before .args in
+    listed-fits (a .text .now) (a .codes .now) (c .before .before .before .before .before .list .ensures .0) _ (c .before .count .given .1)
 
 slice-reshare-prefix-put-all-names : tie.Need-slice-reshare-prefix-put-all-names
 slice-reshare-prefix-put-all-names c = let l = c .before .before .before .before .before .list in omega (arith, count c)
@@ -28,14 +31,11 @@ slice-aggregate-put-all-names c = sym (length-take-le _ _ (omega (arith, count (
 put-all-names-requires : tie.Need-put-all-names-requires
 put-all-names-requires c κs = search needs
 
-print-first-requires : tie.Need-print-first-requires
-print-first-requires c κs = search needs
-
 enum-known-refusal : tie.Need-enum-known-refusal
 enum-known-refusal c = search needs
 
-refuse-requires : tie.Need-refuse-requires
-refuse-requires c κs = search needs
+put-line-requires : tie.Need-put-line-requires
+put-line-requires c κs = search needs
 
 same-length : tie.Need-same-length
 same-length c = search needs
@@ -44,13 +44,27 @@ same-length-2 : tie.Need-same-length-2
 same-length-2 c = search needs
 
 returns : tie.Need-returns
-returns c = search needs
+returns c =
+    let a = c .before .before .before .before .before .before .before .before .before .before .before .before .before .before .before .args in
+    let l = c .before .before .before .before .before .before .before .before .before .before .list in
+    let w = c .before .before .put-all-names .ensures in
+    (list-written (a .text .now) (a .codes .now) (l .ensures .0) _ (l .last .1 .0) (c .before .before .put-all-names .last .1 .0) _ (c .before .before .before .before .before .before .count .given .1) (l .ensures .1) w, w .fits)
 
 same-length-3 : tie.Need-same-length-3
 same-length-3 c = search needs
 
+same-length-4 : tie.Need-same-length-4
+same-length-4 c = search needs
+
 returns-2 : tie.Need-returns-2
-returns-2 c = search needs
+returns-2 c =
+    let a = c .before .before .before .before .before .before .before .before .before .before .before .before .before .before .args in
+    let p = c .before .before .put-line in
+    let fits : p .result ≤ length (a .out .now) = omega (arith, c .before .before .before .before .before .before .before .before .before .before .before .before .before .before .pre, p .ensures .1) in
+    let same = put-length 0 (numberLine (c .before .before .before .before .before .refusal .given .0 .0)) (a .out .now) (omega (arith, p .ensures .0 .ends)) in (
+      list-refused (a .text .now) (a .codes .now) (c .before .before .before .before .before .before .before .before .before .list .ensures .0) _ _ {later = p .last .1 .0} (c .before .before .before .before .before .refusal .given .1) (p .ensures .0) fits,
+      omega (arith, same, ap length (p .ensures .0 .is)),
+    )
 
 pub list-text-spec : {M : Type 1} → statement M
 list-text-spec =
@@ -61,11 +75,11 @@ list-text-spec =
     slice-reshare-prefix-put-all-names
     slice-aggregate-put-all-names
     put-all-names-requires
-    print-first-requires
     enum-known-refusal
-    refuse-requires
+    put-line-requires
     same-length
     same-length-2
     returns
     same-length-3
+    same-length-4
     returns-2)

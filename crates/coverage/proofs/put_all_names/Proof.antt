@@ -1,25 +1,34 @@
 -- `put_all_names` meets its contract: each turn prints what waits and puts the next names. Assumes nothing.
 use mathlib.Core.Path.{_≡_, refl, ap, _∙_}
-use mathlib.Core.List.{List, [], _++_}
-use Prim.Native.Nat.{ℕ, _-_, _≤_}
-use lib.ListN.{length, take}
+use mathlib.Core.Logic.{_⊎_, inl, inr, ⊎-elim}
+use mathlib.Core.List.{List}
+use Prim.Native.Nat.{ℕ, _+_, _-_, _*_, _≤_, _<_}
+use lib.ListN.{length, take, drop, length-drop}
 use lib.Seq.{take-all}
-use Rattle.report.specs.Names.{namesOf}
-use Rattle.coverage.proofs.Laws.{part-within, part-some, part-written}
+use Rattle.report.specs.declared.Names.{Names}
+use Rattle.report.specs.Names.{namesOf, NamesPut}
+use Rattle.coverage.specs.Printed.{NamesWritten}
+use Rattle.coverage.proofs.Laws.{part-within, part-some, part-written, part-all}
 use native.Mathlib.Omega.{arith}
 use borrow.Author.Needs.{needs}
 use Rattle.coverage.proofs.put_all_names.Statement.{statement}
 use Rattle.coverage.proofs.put_all_names.Tie as tie
 
+-- what waits are the names of the codes from `first` on, up to `from`
+pub record Waits (codes out : List ℕ) (from end : ℕ) : Type 0 where
+  pub first : ℕ
+  pub names : take end out ≡ namesOf (take (from - first) (drop first codes))
+  pub some : 0 < from → first < from
+  pub all : 17 * length codes ≤ length out → (first ≡ 0) × ((from ≡ 0) ⊎ (from ≡ length codes))
+
 abbrev Inv-loop : tie.InvT-loop
-Inv-loop codes out₀ from₀ end₀ out from end =
-    (from ≤ length codes) × (end ≤ length out) × (length out ≡ length out₀) × ((printed : List ℕ) × (printed ++ take end out ≡ namesOf (take from codes)))
+Inv-loop codes out₀ from₀ end₀ out from end = (from ≤ length codes) × (end ≤ length out) × (length out ≡ length out₀) × Waits codes out from end
 
 abbrev μ-loop : tie.MeasureT-loop
 μ-loop codes out₀ from₀ end₀ out from end = length codes - from
 
 loop-holds : tie.Need-loop-holds Inv-loop μ-loop
-loop-holds c = (omega arith, omega arith, refl, ([], refl))
+loop-holds c = (omega arith, omega arith, refl, record { first = 0; names = refl; some = λ z. omega arith; all = λ z. (refl, inl refl) })
 
 print-first-requires : tie.Need-print-first-requires Inv-loop μ-loop
 print-first-requires c κs = search needs
@@ -56,29 +65,46 @@ loop-less c =
     (c .before .before .before .before .before .before .before .before .loop-test .taken) (p .ensures) (omega (arith, l .inv .2)) in
     omega (arith, w, s)
 
+next :
+    (codes out later : List ℕ) (from end : ℕ) (r : Names) (h : from < length codes) (q : NamesPut (take (length codes - from) (drop from codes)) out later r) → 17 ≤ length out →
+    length later ≡ length out → Waits codes out from end → Waits codes later (from + r .count) (r .end)
+next codes out later from end r h q k same w =
+    let n : r .count ≡ from + r .count - from = omega arith in
+    record {
+      first = from;
+      names = part-written codes out later from end r h q ∙ ap (λ (i : ℕ). namesOf (take i (drop from codes))) n;
+      some = λ z. omega (arith, part-some codes out later from end r h q k);
+      all = λ z. (⊎-elim (λ e. e) (λ e. omega arith) (w .all (omega arith) .1), inr (part-all codes out later from end r h q (omega arith)));
+    }
+
 loop-again : tie.Need-loop-again Inv-loop μ-loop
 loop-again c =
+    let codes = c .before .before .before .before .before .before .before .before .before .before .before .before .args .codes .now in
     let l = c .before .before .before .before .before .before .before .before .before .loop in
     let p = c .before .before .before .put-names in
     let t = c .before .before .before .before .before .before .before .before .loop-test .taken in
-    let v = l .inv .3 in
     let same : length (p .last .1 .0) ≡ length (l .out) = search needs in (
-      part-within (c .before .before .before .before .before .before .before .before .before .before .before .before .args .codes .now) (l .out) _ (l .from) (l .end) _ t
-          (p .ensures),
+      part-within codes (l .out) _ (l .from) (l .end) _ t (p .ensures),
       omega (arith, p .ensures .within, same),
       search needs,
-      part-written
-          (c .before .before .before .before .before .before .before .before .before .before .before .before .args .codes .now) (l .out) _ (l .from) (l .end) _ t (p .ensures) (v .0) (v .1),
+      next codes (l .out) (p .last .1 .0) (l .from) (l .end) _ t (p .ensures) (omega (arith, l .inv .2)) same (l .inv .3),
     )
 
 same-length : tie.Need-same-length Inv-loop μ-loop
 same-length c = search needs
 
+ended : (codes out : List ℕ) (from end : ℕ) → from ≡ length codes → end ≤ length out → Waits codes out from end → NamesWritten codes out end
+ended codes out from end e h w =
+    record {
+      from = w .first;
+      names = w .names ∙ ap namesOf (take-all (from - w .first) (drop (w .first) codes) (omega (arith, length-drop (w .first) codes)));
+      some = λ z. omega (arith, w .some (omega arith));
+      all = λ z. w .all z .0;
+      fits = h;
+    }
+
 returns : tie.Need-returns Inv-loop μ-loop
-returns c =
-    let l = c .before .loop in
-    let v = l .inv .3 in
-    ((v .0, v .1 ∙ ap namesOf (take-all (l .from) _ (omega arith))), l .inv .1)
+returns c = let l = c .before .loop in ended _ (l .out) (l .from) (l .end) (omega (arith, l .inv .0)) (l .inv .1) (l .inv .3)
 
 pub put-all-names-spec : {M : Type 1} → statement M
 put-all-names-spec =

@@ -17,6 +17,7 @@ use Rattle.code.specs.Code.{cellOf}
 use Rattle.code.specs.Laws.Code.{code-is-cell}
 use Rattle.code.specs.Laws.Exact.{NoCell}
 use Rattle.name.specs.Name.{nameOf, nameCode, nameRefusal}
+use Rattle.corner.specs.List.{codesAt}
 use Rattle.name.specs.Laws.Name.{accepted, name-accepted, name-code-is, code-name}
 use Rattle.reading.specs.Ground.{Apart}
 use Rattle.reading.specs.Text.{Accepted}
@@ -27,16 +28,16 @@ use Rattle.writing.specs.Write.{Another, writeRefusal, textOf, written}
 use Rattle.locate.specs.Fix.{InRange}
 use Rattle.authalic.specs.Authalic.{Geodetic}
 use Rattle.geodetic.specs.GeodeticFix.{GeodeticRange}
-use Rattle.jeguarivo.specs.Entries.{arrangement, codeOfCell, nameAnswer, parentCode, childCode, pointCode, fixCode, neighbourCode, codeCell, writtenName, cellSquare}
-use Rattle.jeguarivo.specs.Entries.{geodeticZ, geodeticCode}
+use Rattle.jeguarivo.specs.Entries.{arrangement, codeOfCell, nameAnswer, parentCode, childCode, pointCode, fixCode, neighbourCode, codeCell, writtenName}
+use Rattle.jeguarivo.specs.Entries.{cellSquare, geodeticZ, geodeticCode, cornerCells}
 use Rattle.jeguarivo.specs.Texts.{checkNumbers, listNumbers, askNumbers, writtenNumbers}
 use Rattle.jeguarivo.specs.Order.{order, orderInWriting, numbers, inOrder, NoneOf}
 use Rattle.jeguarivo.specs.Laws.Order.{given-exactly, none-exactly}
 use Rattle.jeguarivo.specs.Refusals.{NoLetter, NoDigit, OnImage, codeTests, textTests, cellTests, nameTests, codeNameTests, parentTests, childTests}
-use Rattle.jeguarivo.specs.Refusals.{pointTests, fixTests, zTests, geodeticTests, neighbourTests, headingOf, listTests, askTests, writeTests}
+use Rattle.jeguarivo.specs.Refusals.{pointTests, fixTests, zTests, geodeticTests, neighbourTests, headingOf, listTests, askTests, writeTests, cornersTests}
 use Rattle.jeguarivo.specs.Laws.First.{name-refusal, cell-code-first, name-code-first, point-code-first, fix-code-first, neighbour-first, parent-first}
-use Rattle.jeguarivo.specs.Laws.First.{child-first, code-cell-first, code-name-first, square-first, check-first, list-first, ask-first, write-first}
-use Rattle.jeguarivo.specs.Laws.First.{z-first, geodetic-code-first, of-grammar, of-order}
+use Rattle.jeguarivo.specs.Laws.First.{child-first, code-cell-first, code-name-first, square-first, check-first, list-first, ask-first, write-first, z-first}
+use Rattle.jeguarivo.specs.Laws.First.{geodetic-code-first, of-grammar, of-order, corners-first}
 
 -- ---- "Order where several apply"
 
@@ -47,6 +48,7 @@ module _ (n s k f i j code digit room : ℕ) (x y : ℤ) (bytes codes : List ℕ
       numbers (codeTests code) ∷
       numbers (nameTests n s bytes) ∷
       numbers (codeNameTests code room) ∷
+      numbers (cornersTests code room) ∷
       numbers (parentTests code) ∷
       numbers (childTests code digit) ∷
       numbers (pointTests n s k x y) ∷
@@ -58,7 +60,7 @@ module _ (n s k f i j code digit room : ℕ) (x y : ℤ) (bytes codes : List ℕ
       numbers (listTests bytes room) ∷
       numbers (askTests bytes code) ∷ [])
   unfolding inOrder
-  in-order = (refl, (refl, (refl, (refl, (refl, (refl, (refl, (refl, (refl, (refl, (refl, (refl, (refl, (refl, tt))))))))))))))
+  in-order = (refl, (refl, (refl, (refl, (refl, (refl, (refl, (refl, (refl, (refl, (refl, (refl, (refl, (refl, (refl, tt)))))))))))))))
 
   -- "in writing, 13 is judged on the text of a good list, so there it comes last but for 8"
   pub in-order-writing : inOrder orderInWriting (numbers (writeTests n s codes room)) ≡ true
@@ -157,6 +159,13 @@ module _ (code : ℕ) where
   -- 8: "lent buffer shorter than the answer", a name
   pub eight-name : (room : ℕ) → (writtenName code room .refusal ≡ 8) ↔ ((NoCell code → ⊥) × (room < length (nameOf (cellOf code))))
   eight-name room = given-exactly 7 (code-name-first code room) refl
+
+  -- the same two of the list of cells at a corner
+  pub four-corners : (room : ℕ) → (cornerCells code room .refusal ≡ 4) ↔ NoCell code
+  four-corners room = given-exactly 3 (corners-first code room) refl
+
+  pub eight-corners : (room : ℕ) → (cornerCells code room .refusal ≡ 8) ↔ ((NoCell code → ⊥) × (room < length (codesAt code)))
+  eight-corners room = given-exactly 7 (corners-first code room) refl
 
 -- ---- in an arrangement
 

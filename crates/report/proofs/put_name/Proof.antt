@@ -1,5 +1,6 @@
 -- `put_name` meets its contract: a cell's name has room. Assumes nothing.
-use Rattle.report.proofs.Laws.{named-length, named-none, bytes-short, name-put}
+use Rattle.report.specs.Laws.Names.{bytes-short}
+use Rattle.report.proofs.Laws.{named-length, named-none, name-put}
 use native.Mathlib.Omega.{arith}
 use borrow.Author.Needs.{needs}
 use Rattle.report.proofs.put_name.Statement.{statement}
@@ -23,7 +24,7 @@ returns c =
     let start = c .before .before .before .before .before .before .before .before in
     let f = c .before .before .before .before .before .code-name .ensures in
     let l = named-length (a .code) (a .room .now) (start .pre) (c .before .length .given .1) (f .0) in
-    (l, (omega (arith, l, bytes-short (a .code) (a .room .now) (start .pre)), name-put (a .code) (a .room .now) (start .pre) (f .1)))
+    (l, (omega (arith, l, bytes-short (a .code)), name-put (a .code) (a .room .now) (start .pre) (f .1)))
 
 same-length-2 : tie.Need-same-length-2
 same-length-2 c = search needs
