@@ -2,6 +2,7 @@ pub mod Built
 pub mod Demand
 pub mod Fewest
 pub mod FewestOf
+pub mod Fits
 pub mod Ground
 pub mod Heading
 pub mod Loose
