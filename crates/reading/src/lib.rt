@@ -1,7 +1,7 @@
 // What the parts of a coverage text are: the letters of faces and the digits of nodes.
 ghost use mathlib.Core.Path.{_≡_};
 ghost use Rattle.reading.specs.Reading.{first, many, room as roomOf};
-ghost use Rattle.reading.specs.Text.{levelOf, depthOf, headingLength};
+ghost use Rattle.reading.specs.Text.{versionOf, levelOf, depthOf, headingLength};
 
 // "text longer than 65,536 bytes, read or to be written"
 pub const LONGEST: usize = 65_536;
@@ -17,6 +17,16 @@ pub enum Level {
 pub enum Profile {
     Full,
     Handheld(u64),
+}
+
+// The version of its texts.
+pub fn version_of(profile: Profile) -> u64
+    ensures { λ r. ⌜ r ≡ versionOf profile ⌝ }
+{
+    match profile {
+        Profile::Full => 1,
+        Profile::Handheld(_) => 2,
+    }
 }
 
 // What its faces are.

@@ -3,6 +3,7 @@ use mathlib.Core.Bool.{true, false}
 use mathlib.Core.List.{List, [], _∷_, _++_}
 use Prim.Native.Nat.{ℕ}
 use Rattle.decimal.specs.Decimal.{printed}
+use Rattle.reading.specs.Text.{versionOf, depthOf}
 use Rattle.reader.specs.declared.Checked.{Checked}
 use Rattle.reader.specs.declared.Checked.the-variants as checked-as
 use Rattle.asking.specs.declared.Asked.{Asked}
@@ -17,11 +18,11 @@ numbersLine (x ∷ y ∷ xs) = (printed x ++ (32 ∷ [])) ++ numbersLine (y ∷ 
 abbrev pub numberLine : ℕ → List ℕ
 numberLine x = printed x ++ (10 ∷ [])
 
--- "refusal place n s cells size": zeros beside a refusal, but for the place
+-- "refusal place version depth n s cells size": zeros beside a refusal, but for the place
 unfoldable pub checkLine : Checked → List ℕ
 unfolding numbersLine
-checkLine (checked-as.Text north south cells size body) = numbersLine (0 ∷ 0 ∷ north ∷ south ∷ cells ∷ size ∷ [])
-checkLine (checked-as.Refused refusal place) = numbersLine (refusal ∷ place ∷ 0 ∷ 0 ∷ 0 ∷ 0 ∷ [])
+checkLine (checked-as.Text profile north south cells size body) = numbersLine (0 ∷ 0 ∷ versionOf profile ∷ depthOf profile ∷ north ∷ south ∷ cells ∷ size ∷ [])
+checkLine (checked-as.Refused refusal place) = numbersLine (refusal ∷ place ∷ 0 ∷ 0 ∷ 0 ∷ 0 ∷ 0 ∷ 0 ∷ [])
 
 -- "`yes`, `no` or the refusal number"
 unfoldable pub askedLine : Asked → List ℕ

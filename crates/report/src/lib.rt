@@ -70,18 +70,32 @@ pub fn put_answer(setting: Setting, line: &[u8], out: &mut [u8], at: usize) -> u
     }
 }
 
-// Puts six numbers in one line in front: where it ends.
-fn put_numbers(a: u64, b: u64, c: u64, d: u64, e: u64, f: u64, out: &mut [u8]) -> usize
-    requires { ⌜ 126 ≤ length (now out) ⌝ }
-    ensures { λ r. ⌜ Put 0 (numbersLine (a ∷ b ∷ c ∷ d ∷ e ∷ f ∷ [])) (now (out .entry)) (now (out .exit)) r ⌝ }
-    ensures { λ r. ⌜ r ≤ 126 ⌝ }
+// What a line of `coverage check` holds, in the order it stands.
+struct Line {
+    refusal: u64,
+    place: u64,
+    version: u64,
+    depth: u64,
+    north: u64,
+    south: u64,
+    cells: u64,
+    size: u64,
+}
+
+// Puts eight numbers in one line in front: where it ends.
+fn put_numbers(line: Line, out: &mut [u8]) -> usize
+    requires { ⌜ 168 ≤ length (now out) ⌝ }
+    ensures { λ r. ⌜ Put 0 (numbersLine (line .refusal ∷ line .place ∷ line .version ∷ line .depth ∷ line .north ∷ line .south ∷ line .cells ∷ line .size ∷ [])) (now (out .entry)) (now (out .exit)) r ⌝ }
+    ensures { λ r. ⌜ r ≤ 168 ⌝ }
 {
-    let second = put_number(a, b' ', out, 0);
-    let third = put_number(b, b' ', out, second);
-    let fourth = put_number(c, b' ', out, third);
-    let fifth = put_number(d, b' ', out, fourth);
-    let sixth = put_number(e, b' ', out, fifth);
-    put_number(f, b'\n', out, sixth)
+    let place = put_number(line.refusal, b' ', out, 0);
+    let version = put_number(line.place, b' ', out, place);
+    let depth = put_number(line.version, b' ', out, version);
+    let north = put_number(line.depth, b' ', out, depth);
+    let south = put_number(line.north, b' ', out, north);
+    let cells = put_number(line.south, b' ', out, south);
+    let size = put_number(line.cells, b' ', out, cells);
+    put_number(line.size, b'\n', out, size)
 }
 
 // How many names were put, and where they end.
@@ -106,21 +120,46 @@ pub fn put_names(codes: &[u64], out: &mut [u8]) -> Names
     Names { count, end }
 }
 
-// Puts what checking answers in one line, `refusal place n s cells size`: where it ends.
+// Puts what checking answers in one line, `refusal place version depth n s cells size`: where it ends.
 pub fn put_check(checked: Checked, out: &mut [u8]) -> usize
-    requires { ⌜ 126 ≤ length (now out) ⌝ }
+    requires { ⌜ 168 ≤ length (now out) ⌝ }
     ensures { λ r. ⌜ Put 0 (checkLine checked) (now (out .entry)) (now (out .exit)) r ⌝ }
-    ensures { λ r. ⌜ r ≤ 126 ⌝ }
+    ensures { λ r. ⌜ r ≤ 168 ⌝ }
 {
     match checked {
         Checked::Text {
+            profile,
             north,
             south,
             cells,
             size,
             ..
-        } => put_numbers(0, 0, north, south, cells, size, out),
-        Checked::Refused { refusal, place } => put_numbers(refusal, place, 0, 0, 0, 0, out),
+        } => {
+            let line = Line {
+                refusal: 0,
+                place: 0,
+                version: reading::version_of(profile),
+                depth: reading::depth_of(profile),
+                north,
+                south,
+                cells,
+                size,
+            };
+            put_numbers(line, out)
+        }
+        Checked::Refused { refusal, place } => {
+            let line = Line {
+                refusal,
+                place,
+                version: 0,
+                depth: 0,
+                north: 0,
+                south: 0,
+                cells: 0,
+                size: 0,
+            };
+            put_numbers(line, out)
+        }
     }
 }
 
