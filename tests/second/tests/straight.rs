@@ -18,11 +18,11 @@ fn the_proved_library_is_linked() {
 fn same_by_the_library(n: u64, s: u64, by_second: &[Heading<Name>]) {
     use second::grid::code_of;
     let coded = |heading: &Heading<Name>| Heading {
-        cell: code_of(&heading.cell),
+        cell: code_of(n, s, &heading.cell),
         direction: heading.direction,
     };
     let neighbour = |&code: &u64, direction: u64| {
-        let next = second::proved::neighbour(n, s, code, direction);
+        let next = second::proved::neighbour(code, direction);
         assert_eq!(next.refusal, 0);
         next.code
     };

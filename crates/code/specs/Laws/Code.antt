@@ -257,6 +257,11 @@ pub code-of-n0 : codeOf (record { north = 0; south = 0 }) (record { face = 0; re
 unfolding codeOf cellCode value
 code-of-n0 = refl
 
+-- "plus 4n + s": at n = 1 and s = 2 it is 6 more
+pub code-of-n0-arranged : codeOf (record { north = 1; south = 2 }) (record { face = 0; resolution = 1; row = 0; column = 0 }) ≡ 22
+unfolding codeOf cellCode value
+code-of-n0-arranged = refl
+
 pub code-greatest : codeOf (record { north = 3; south = 3 }) (record { face = 5; resolution = 15; row = 3 ^ 15 - 1; column = 3 ^ 15 - 1 }) ≡ 316248778897380863
 unfolding codeOf cellCode value
 code-greatest = refl
