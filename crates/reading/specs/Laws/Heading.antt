@@ -103,6 +103,10 @@ module _ (n s : ℕ) (x : List ℕ) where
   south-byte Full = refl
   south-byte (Handheld d) = refl
 
+  pub turn-bytes : (p : Profile) → take 2 (drop 5 (heading p n s ++ x)) ≡ (48 + n) ∷ (48 + s) ∷ []
+  turn-bytes Full = refl
+  turn-bytes (Handheld d) = refl
+
   -- the profile that a heading tells is its own
   pub profile-head : (p : Profile) → profileIn (heading p n s ++ x) ≡ p
   profile-head Full = refl
