@@ -30,6 +30,7 @@ use Rattle.writing.specs.Internal.TakeLaws.{side-in, side-out}
 use Rattle.writing.specs.Internal.Measure.{namesFrom, NodeAt, NodeTakes, NodeDepth, ListDepth}
 use Rattle.writing.specs.Internal.Depth.{greater, held as heldDepth, depthOfNodes, depthAbove, breaks, levelFor}
 use Rattle.writing.specs.Internal.EntryLaws.{face-start, faces-nodes}
+use Rattle.writing.proofs.EntrySteps.{and-three}
 use Rattle.writing.proofs.PutLaws.{node-whole, held}
 
 -- ---- the greater of two
@@ -102,10 +103,6 @@ room-depth Belt c x d h = go (eqb c 0) (eqb c 5)
     go false true = sym (lt-leb 16 d (omega arith))
     go false false = one-deeper x d
 room-depth Digits c x d h = one-deeper x d
-
-and-three : (a b c : Bool) → (a && (b && c)) ≡ ((a && b) && c)
-and-three true b c = refl
-and-three false b c = refl
 
 pub fits-depth : (ns : Nodes) (l : Level) (d : ℕ) → d ≤ 15 → fitting l d ns ≡ leb (depthOfNodes l ns) d
 unfolding fitting depthOfNodes

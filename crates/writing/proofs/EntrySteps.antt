@@ -14,7 +14,6 @@ use Rattle.logic.specs.Laws.Order.{lt-or}
 use Rattle.logic.specs.Refusal.{refuse, _otherwise_, given}
 use Rattle.logic.specs.Laws.Refusal.{stops, passes}
 use Rattle.cell.specs.declared.Arrangement.{Arrangement}
-use Rattle.cell.specs.Cell.{arrangementRefusal}
 use Rattle.code.specs.Code.{cellOf, cellCode, isCode, isOf, sizeOf}
 use Rattle.code.specs.Laws.Code.{code-is-cell, of-arrangement, codes-order}
 use Rattle.code.specs.Inside.{startOf, endOf, liesWithin}
@@ -53,7 +52,7 @@ module _ (a : Arrangement) where
   unfolding allOf
   own-end codes i h = ap (allOf a) (drop-of-length-le codes h)
 
-and-three : (a b c : Bool) → (a && (b && c)) ≡ ((a && b) && c)
+pub and-three : (a b c : Bool) → (a && (b && c)) ≡ ((a && b) && c)
 and-three true b c = refl
 and-three false b c = refl
 

@@ -17,7 +17,9 @@ use Rattle.writing.proofs.DepthLaws.{greater-none, greater-zero, greate
 
 -- ---- a node
 
-pub n-finest : {codes : List ℕ} {at start size : ℕ} → at < length codes → 0 < size → size < 9 → NodeMeasured codes at start size (record { next = at + 1; bytes = 1; wholes = 1; depth = 0 })
+pub n-finest :
+    {codes : List ℕ} {at start size : ℕ} → at < length codes → 0 < size → size < 9 →
+    NodeMeasured codes at start size (record { next = at + 1; bytes = 1; wholes = 1; depth = 0 })
 n-finest {codes} {at} {start} {size} h z l =
     record {
       is = λ w k s. node-finest codes at w start size k s h l;

@@ -1,6 +1,6 @@
 // The accepted text of a list of cells.
 ghost use mathlib.Core.Path.{_≡_};
-ghost use mathlib.Core.Bool.{true, _&&_, not};
+ghost use mathlib.Core.Bool.{true, not};
 ghost use mathlib.Core.List.{map};
 ghost use Prim.Native.Nat.{_+_, _-_, _*_, _^_, _≤_, _<_};
 ghost use lib.ListN.{length, set};
@@ -8,10 +8,9 @@ ghost use lib.Seq.{sets};
 ghost use Rattle.writing.specs.Internal.Measure.{StartAtPlace, NodeMeasured, ListMeasured};
 ghost use Rattle.writing.specs.Internal.Whole.{WholeUntil};
 ghost use Rattle.writing.specs.Internal.Put.{NodePut, ListPut, front};
-ghost use lib.Dec.{ltb};
 ghost use Rattle.logic.specs.Refusal.{refuse, _otherwise_, given};
 ghost use Rattle.cell.specs.Cell.{IsArrangement};
-ghost use Rattle.code.specs.Code.{isCode, cellOf};
+ghost use Rattle.code.specs.Code.{cellOf};
 ghost use Rattle.reading.specs.Text.{IsProfile, versionOf, heading};
 ghost use Rattle.writing.specs.Write.{allCodes, InTurn, codesRefusal, asksFor, isVersion, textOf, fitRefusal, writeRefusal, textIn, written};
 ghost use Rattle.writing.specs.Internal.Depth.{greater as greaterOf, depthAbove, breaks as breaksIt};
@@ -98,7 +97,7 @@ fn measure_node(codes: &[u64], at: usize, start: u64, size: u64) -> Measure
             next: list.next,
             bytes: 1,
             wholes: 1,
-            depth: 0,
+            depth: 0, // whatever its codes are
         };
     }
     Measure {

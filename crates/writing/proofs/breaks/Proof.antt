@@ -1,5 +1,4 @@
 -- `writing::breaks` meets its contract. Assumes nothing.
-use native.Mathlib.Omega.{arith}
 use borrow.Author.Needs.{needs}
 use Rattle.writing.proofs.breaks.Statement.{statement}
 use Rattle.writing.proofs.breaks.Tie as tie

@@ -1,7 +1,6 @@
 -- `writing::depth_above` meets its contract. Assumes nothing.
 use borrow.Author.Tests.{eq-eqb, ne-eqb}
 use Rattle.writing.specs.Internal.Depth.{depthAbove}
-use native.Mathlib.Omega.{arith}
 use borrow.Author.Needs.{needs}
 use Rattle.writing.proofs.depth_above.Statement.{statement}
 use Rattle.writing.proofs.depth_above.Tie as tie

@@ -1,8 +1,6 @@
 -- `writing::greater` meets its contract. Assumes nothing.
 use borrow.Author.Tests.{lt-ltb, le-ltb}
 use Rattle.writing.specs.Internal.Depth.{greater}
-use native.Mathlib.Omega.{arith}
-use borrow.Author.Needs.{needs}
 use Rattle.writing.proofs.greater.Statement.{statement}
 use Rattle.writing.proofs.greater.Tie as tie
 

@@ -1,8 +1,6 @@
 -- `writing::is_version` meets its contract. Assumes nothing.
 use borrow.Author.Tests.{eq-eqb, ne-eqb}
 use Rattle.writing.specs.Write.{isVersion}
-use native.Mathlib.Omega.{arith}
-use borrow.Author.Needs.{needs}
 use Rattle.writing.proofs.is_version.Statement.{statement}
 use Rattle.writing.proofs.is_version.Tie as tie
 

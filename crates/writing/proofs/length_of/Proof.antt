@@ -1,5 +1,5 @@
 -- `writing::length_of` meets its contract. Assumes nothing.
-use mathlib.Core.Path.{_≡_, sym, ap, _∙_}
+use mathlib.Core.Path.{ap, _∙_}
 use mathlib.Core.List.{[]}
 use Prim.Native.Nat.{ℕ, _+_}
 use Rattle.writing.specs.Laws.List.{codes-cells}

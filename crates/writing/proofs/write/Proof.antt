@@ -1,5 +1,5 @@
 -- `writing::write` meets its contract: what is asked, and then the text in its profile. Assumes nothing.
-use mathlib.Core.Path.{_≡_, refl, sym, ap, _∙_}
+use mathlib.Core.Path.{_≡_, sym, ap, _∙_}
 use mathlib.Core.Bool.{Bool, cond}
 use borrow.Author.Tests.{eq-eqb, ne-eqb}
 use Rattle.reading.specs.declared.Profile.the-variants.{Full, Handheld}
@@ -7,7 +7,6 @@ use Rattle.writing.specs.Internal.Asked.{askedRefusal}
 use Rattle.writing.specs.Laws.List.{list-good}
 use Rattle.writing.specs.Laws.Profile.{asked-exactly}
 use Rattle.writing.proofs.EntrySteps as es
-use native.Mathlib.Omega.{arith}
 use borrow.Author.Needs.{needs}
 use Rattle.writing.proofs.write.Statement.{statement}
 use Rattle.writing.proofs.write.Tie as tie
