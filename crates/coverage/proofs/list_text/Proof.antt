@@ -61,9 +61,10 @@ returns-2 c =
     let a = c .before .before .before .before .before .before .before .before .before .before .before .before .before .before .args in
     let p = c .before .before .put-line in
     let fits : p .result ≤ length (a .out .now) = omega (arith, c .before .before .before .before .before .before .before .before .before .before .before .before .before .before .pre, p .ensures .1) in
-    let same = put-length 0 (numberLine (c .before .before .before .before .before .refusal .given .0 .0)) (a .out .now) (omega (arith, p .ensures .0 .ends)) in
-    (list-refused (a .text .now) (a .codes .now) (c .before .before .before .before .before .before .before .before .before .list .ensures .0) _ _ {later = p .last .1 .0} (c .before .before .before .before .before .refusal .given .1) (p .ensures .0) fits,
-      omega (arith, same, ap length (p .ensures .0 .is)))
+    let same = put-length 0 (numberLine (c .before .before .before .before .before .refusal .given .0 .0)) (a .out .now) (omega (arith, p .ensures .0 .ends)) in (
+      list-refused (a .text .now) (a .codes .now) (c .before .before .before .before .before .before .before .before .before .list .ensures .0) _ _ {later = p .last .1 .0} (c .before .before .before .before .before .refusal .given .1) (p .ensures .0) fits,
+      omega (arith, same, ap length (p .ensures .0 .is)),
+    )
 
 pub list-text-spec : {M : Type 1} → statement M
 list-text-spec =
