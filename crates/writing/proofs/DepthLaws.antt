@@ -28,7 +28,7 @@ use Rattle.reading.specs.Laws.Written.{nodes-good}
 use Rattle.writing.specs.Internal.Take.{restsOf, Each, Took}
 use Rattle.writing.specs.Internal.TakeLaws.{side-in, side-out}
 use Rattle.writing.specs.Internal.Measure.{namesFrom, NodeAt, NodeTakes, NodeDepth, ListDepth}
-use Rattle.writing.specs.Internal.Depth.{greater, held as heldDepth, depthOfNodes, depthAbove, breaks, levelFor}
+use Rattle.writing.specs.Internal.Depth.{greater, heldDepth, depthOfNodes, depthAbove, breaks, levelFor}
 use Rattle.writing.specs.Internal.EntryLaws.{face-start, faces-nodes}
 use Rattle.writing.proofs.EntrySteps.{and-three}
 use Rattle.writing.proofs.PutLaws.{node-whole, held}

@@ -12,16 +12,16 @@ unfoldable pub greater : ℕ → ℕ → ℕ
 greater a b = cond (ltb a b) b a
 
 -- a node of number c that holds a list and would need the depth d: 16, more than any, where it stands only whole
-abbrev pub held : Level → (c d : ℕ) → ℕ
-held Faces c d = d
-held Belt c d = cond (eqb c 0) 16 (cond (eqb c 5) 16 d)
-held Digits c d = d
+abbrev pub heldDepth : Level → (c d : ℕ) → ℕ
+heldDepth Faces c d = d
+heldDepth Belt c d = cond (eqb c 0) 16 (cond (eqb c 5) 16 d)
+heldDepth Digits c d = d
 
 unfoldable pub depthOfNodes : Level → Nodes → ℕ
 unfolding greater
 depthOfNodes l end = 0
 depthOfNodes l (whole c ns) = depthOfNodes l ns
-depthOfNodes l (listed c is ns) = greater (held l c (depthOfNodes Digits is + 1)) (depthOfNodes l ns)
+depthOfNodes l (listed c is ns) = greater (heldDepth l c (depthOfNodes Digits is + 1)) (depthOfNodes l ns)
 
 -- of a cell's node, by its first finest cell and its size: a face has 9^15 finest cells, the face N is the first and S the sixth
 unfoldable pub depthAbove : (start size below : ℕ) → ℕ
