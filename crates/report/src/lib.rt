@@ -7,7 +7,7 @@ ghost use Rattle.decimal.specs.Decimal.{printed};
 ghost use Rattle.report.specs.Put.{Put};
 ghost use Rattle.report.specs.Answer.{answerLine};
 ghost use Rattle.report.specs.Names.{nameBytes, nameLine, NamesPut};
-ghost use Rattle.report.specs.Lines.{numberLine, numbersLine, checkLine, askedLine};
+ghost use Rattle.report.specs.Lines.{numberLine, fourNumbers, checkLine, askedLine};
 use asking::Asked;
 use code::Coded;
 use flight::Setting;
@@ -70,32 +70,16 @@ pub fn put_answer(setting: Setting, line: &[u8], out: &mut [u8], at: usize) -> u
     }
 }
 
-// What a line of `coverage check` holds, in the order it stands.
-struct Line {
-    refusal: u64,
-    place: u64,
-    version: u64,
-    depth: u64,
-    north: u64,
-    south: u64,
-    cells: u64,
-    size: u64,
-}
-
-// Puts eight numbers in one line in front: where it ends.
-fn put_numbers(line: Line, out: &mut [u8]) -> usize
-    requires { ⌜ 168 ≤ length (now out) ⌝ }
-    ensures { λ r. ⌜ Put 0 (numbersLine (line .refusal ∷ line .place ∷ line .version ∷ line .depth ∷ line .north ∷ line .south ∷ line .cells ∷ line .size ∷ [])) (now (out .entry)) (now (out .exit)) r ⌝ }
-    ensures { λ r. ⌜ r ≤ 168 ⌝ }
+// Puts four numbers from `at` on, a space between them and a byte at the end: where they end.
+fn put_four(a: u64, b: u64, c: u64, d: u64, byte: u8, out: &mut [u8], at: usize) -> usize
+    requires { ⌜ at + 84 ≤ length (now out) ⌝ }
+    ensures { λ r. ⌜ Put at (fourNumbers a b c d byte) (now (out .entry)) (now (out .exit)) r ⌝ }
+    ensures { λ r. ⌜ r ≤ at + 84 ⌝ }
 {
-    let place = put_number(line.refusal, b' ', out, 0);
-    let version = put_number(line.place, b' ', out, place);
-    let depth = put_number(line.version, b' ', out, version);
-    let north = put_number(line.depth, b' ', out, depth);
-    let south = put_number(line.north, b' ', out, north);
-    let cells = put_number(line.south, b' ', out, south);
-    let size = put_number(line.cells, b' ', out, cells);
-    put_number(line.size, b'\n', out, size)
+    let second = put_number(a, b' ', out, at);
+    let third = put_number(b, b' ', out, second);
+    let fourth = put_number(c, b' ', out, third);
+    put_number(d, byte, out, fourth)
 }
 
 // How many names were put, and where they end.
@@ -135,30 +119,14 @@ pub fn put_check(checked: Checked, out: &mut [u8]) -> usize
             size,
             ..
         } => {
-            let line = Line {
-                refusal: 0,
-                place: 0,
-                version: reading::version_of(profile),
-                depth: reading::depth_of(profile),
-                north,
-                south,
-                cells,
-                size,
-            };
-            put_numbers(line, out)
+            let version = reading::version_of(profile);
+            let depth = reading::depth_of(profile);
+            let middle = put_four(0, 0, version, depth, b' ', out, 0);
+            put_four(north, south, cells, size, b'\n', out, middle)
         }
         Checked::Refused { refusal, place } => {
-            let line = Line {
-                refusal,
-                place,
-                version: 0,
-                depth: 0,
-                north: 0,
-                south: 0,
-                cells: 0,
-                size: 0,
-            };
-            put_numbers(line, out)
+            let middle = put_four(refusal, place, 0, 0, b' ', out, 0);
+            put_four(0, 0, 0, 0, b'\n', out, middle)
         }
     }
 }
