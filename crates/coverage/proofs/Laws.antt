@@ -290,9 +290,9 @@ read-fits a room codes n h e = (subst (AllTaken a room codes) e h) .1
 
 -- the text of the names read
 pub names-written :
-    (f : Form) (most : ℕ) (codes : List ℕ) (n : ℕ) {q : NamesRead} {room : ℕ} {text : List ℕ} {r : Text} → AllTaken (f .arrangement) most codes q → q ≡ read-as.Count n →
+    (f : Form) (most room : ℕ) (codes text : List ℕ) (n : ℕ) {q : NamesRead} (r : Text) → AllTaken (f .arrangement) most codes q → q ≡ read-as.Count n →
     TextWritten f (take n codes) room text r → NamesText f most room text r
-names-written f most codes n {q} {room} {text} {r} h e w = go r ((subst (AllTaken (f .arrangement) most codes) e h) .0) w
+names-written f most room codes text n {q} r h e w = go r ((subst (AllTaken (f .arrangement) most codes) e h) .0) w
   where
     go : (x : Text) → OfBytes (withName (f .arrangement) most) (read []) (read (take n codes)) → TextWritten f (take n codes) room text x → NamesText f most room text x
     go (Length m) o v = (take n codes, o, v)

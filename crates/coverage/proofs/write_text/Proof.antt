@@ -1,0 +1,67 @@
+-- `write_text` is safe: the text lies within its room. Assumes nothing.
+use Rattle.coverage.proofs.Laws.{names-text-length}
+use native.Mathlib.Omega.{arith}
+use borrow.Author.Needs.{needs}
+use Rattle.coverage.proofs.write_text.Statement.{statement}
+use Rattle.coverage.proofs.write_text.Tie as tie
+
+slice-aggregate-names-text : tie.Need-slice-aggregate-names-text
+slice-aggregate-names-text c = search needs
+
+slice-aggregate-names-text-2 : tie.Need-slice-aggregate-names-text-2
+slice-aggregate-names-text-2 c = search needs
+
+slice-aggregate-names-text-3 : tie.Need-slice-aggregate-names-text-3
+slice-aggregate-names-text-3 c = search needs
+
+names-text-requires : tie.Need-names-text-requires
+names-text-requires c κs = search needs
+
+enum-known-length : tie.Need-enum-known-length
+enum-known-length c = search needs
+
+slice-aggregate-print-first : tie.Need-slice-aggregate-print-first
+slice-aggregate-print-first c = search needs
+
+print-first-requires : tie.Need-print-first-requires
+print-first-requires c κs = names-text-length _ _ _ _ _ (c .before .before .before .before .before .before .before .names-text .ensures) (c .before .before .length .given .1)
+
+enum-known-refusal : tie.Need-enum-known-refusal
+enum-known-refusal c = search needs
+
+slice-aggregate-say-text : tie.Need-slice-aggregate-say-text
+slice-aggregate-say-text c = search needs
+
+say-text-requires : tie.Need-say-text-requires
+say-text-requires c κs = search needs
+
+enum-told : tie.Need-enum-told
+enum-told c = search needs
+
+returns : tie.Need-returns
+returns c = search needs
+
+returns-2 : tie.Need-returns-2
+returns-2 c = search needs
+
+returns-3 : tie.Need-returns-3
+returns-3 c = search needs
+
+pub write-text-spec : {M : Type 1} → statement M
+write-text-spec =
+    tie.close
+    (tie.spec
+    slice-aggregate-names-text
+    slice-aggregate-names-text-2
+    slice-aggregate-names-text-3
+    names-text-requires
+    enum-known-length
+    slice-aggregate-print-first
+    print-first-requires
+    enum-known-refusal
+    slice-aggregate-say-text
+    say-text-requires
+    enum-told
+    returns
+    returns-2
+    returns-3)
