@@ -68,7 +68,9 @@ fn usage() {
     console::say(b"usage: coverage check FILE | list FILE | ask FILE NAME\n");
     console::say(b"       coverage write n s [depth] < names > text\n");
     console::say(b"  n and s are 0 to 3; names stand one a line, rising, none inside another;\n");
-    console::say(b"  with a depth, 0 to 15, the text is for handhelds: N and S whole, nothing deeper\n");
+    console::say(
+        b"  with a depth, 0 to 15, the text is for handhelds: N and S whole, nothing deeper\n",
+    );
 }
 
 // The line to standard output, then what a refusal means to standard error.
@@ -291,7 +293,13 @@ fn put_text(form: Form, codes: &[u64], count: usize, text: &mut [u8]) -> Text
     requires { ⌜ count ≤ length (now codes) ⌝ }
     ensures { λ r. ⌜ TextWritten form (take count (now (codes .entry))) (length (now (text .entry))) (now (text .exit)) r ⌝ }
 {
-    match writing::write(form.version, form.depth, form.arrangement, &codes[..count], text) {
+    match writing::write(
+        form.version,
+        form.depth,
+        form.arrangement,
+        &codes[..count],
+        text,
+    ) {
         Written::Length(length) => Text::Length(length as usize),
         Written::Refused(refusal) => Text::Refused(refusal),
     }

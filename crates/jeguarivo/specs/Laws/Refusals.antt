@@ -308,29 +308,29 @@ module _ (version depth n s : ℕ) (codes : List ℕ) (room : ℕ) where
 
   -- behind 15
   module _ {More : Type 0} where
-    listed : ((3 < n) ⊎ (3 < s) → ⊥) × ((15 < depth → ⊥) × ((Any NoCell codes → ⊥) × ((((version ≡ 1) ⊎ (version ≡ 2) → ⊥) → ⊥)
+    inside : ((3 < n) ⊎ (3 < s) → ⊥) × ((15 < depth → ⊥) × ((Any NoCell codes → ⊥) × ((((version ≡ 1) ⊎ (version ≡ 2) → ⊥) → ⊥)
         × ((Another (arrangement n s) codes → ⊥) × (((Rise codes × Apart (map cellOf codes) → ⊥) → ⊥)
         × (((TextOf (asksFor version depth) n s (map cellOf codes) → ⊥) → ⊥) × More))))))
         → Listed (TextOf (asksFor version depth) n s (map cellOf codes) × More)
-    listed a =
+    inside a =
         let b = a .1 .1 in
         let c = b .1 .1 in
         let t = of-profile (asksFor version depth) n s codes (asked-profile version depth (a .1 .0)) (a .0) (b .0) (c .1 .1 .0) in
         (a .0, (a .1 .0, (b .0, (of-version version (b .1 .0), (c .0, (of-order (arrangement n s) codes (b .0) (c .0) (c .1 .0), (t, c .1 .1 .1)))))))
 
-    unlisted : Listed (TextOf (asksFor version depth) n s (map cellOf codes) × More)
+    outside : Listed (TextOf (asksFor version depth) n s (map cellOf codes) × More)
         → ((3 < n) ⊎ (3 < s) → ⊥) × ((15 < depth → ⊥) × ((Any NoCell codes → ⊥) × ((((version ≡ 1) ⊎ (version ≡ 2) → ⊥) → ⊥)
         × ((Another (arrangement n s) codes → ⊥) × (((Rise codes × Apart (map cellOf codes) → ⊥) → ⊥)
         × (((TextOf (asksFor version depth) n s (map cellOf codes) → ⊥) → ⊥) × More))))))
-    unlisted a =
+    outside a =
         let b = a .1 .1 in
         let c = b .1 .1 in
         (a .0, (a .1 .0, (b .0, ((λ m. m (b .1 .0)), (c .0, ((λ m. m (c .1 .0)), ((λ m. m (c .1 .1 .0)), c .1 .1 .1)))))))
 
   -- 13: "text longer than 65,536 bytes, .. to be written", "judged on the text of a good list"
   pub thirteen-write : (refusedWrite ≡ 13) ↔ Listed (TextOf (asksFor version depth) n s (map cellOf codes) × (65536 < long))
-  thirteen-write = let k = given-exactly 12 (write-first version depth n s codes room) refl in ((λ e. listed (k .0 e)), (λ a. k .1 (unlisted a)))
+  thirteen-write = let k = given-exactly 12 (write-first version depth n s codes room) refl in ((λ e. inside (k .0 e)), (λ a. k .1 (outside a)))
 
   -- 8: "lent buffer shorter than the answer", a text
   pub eight-write : (refusedWrite ≡ 8) ↔ Listed (TextOf (asksFor version depth) n s (map cellOf codes) × ((65536 < long → ⊥) × (room < long)))
-  eight-write = let k = given-exactly 7 (write-first version depth n s codes room) refl in ((λ e. listed (k .0 e)), (λ a. k .1 (unlisted a)))
+  eight-write = let k = given-exactly 7 (write-first version depth n s codes room) refl in ((λ e. inside (k .0 e)), (λ a. k .1 (outside a)))

@@ -81,9 +81,9 @@ module _ (t : List ℕ) where
     unfolding checkedOf
     check-heading =
         subst (λ (r : ℕ).
-          let a = checkNumbers (answer r t) in
-          let p = asksFor (a .version) (a .depth) in
-          take (headingLength p) t ≡ heading p (a .n) (a .s))
+        let a = checkNumbers (answer r t) in
+        let p = asksFor (a .version) (a .depth) in
+        take (headingLength p) t ≡ heading p (a .n) (a .s))
         (sym accepted)
         (subst (λ (p : Profile). take (headingLength p) t ≡ heading p (northOf t) (southOf t)) (sym (asked-back (profileOf t))) (body-start (accepted-reads t accepted) .0))
 

@@ -31,10 +31,10 @@ refused-requires : tie.Need-refused-requires
 refused-requires c κs = search needs
 
 returns : tie.Need-returns
-returns c = 
+returns c =
     let a = c .before .before .before .before .before .before .before .before .before in
     c .refused .ensures ∙ told-bad (a .args .text .now) (a .pre .0) (a .pre .1) (a .pre .2) (c .before .before .before .before .before .before .before .level-of .ensures) (c .before .before .before .before .before .before .depth-of .ensures) (c .before .before .before .before .before .heading-length .ensures) (c .before .before .before .before .nodes .ensures)
-        (c .before .before .enum-told .given .1) (c .before .place .ensures)
+    (c .before .before .enum-told .given .1) (c .before .place .ensures)
 
 place-requires-2 : tie.Need-place-requires-2
 place-requires-2 c κs = let a = c .before .before .before .before .before .before .before .before .before in (omega (arith, c .before .before .before .before .before .heading-length .ensures, head-within (a .args .text .now) (a .pre .0) (a .pre .1) (a .pre .2) .0), omega (arith, c .before .before .before .before .before .before .depth-of .ensures, head-depth (a .args .text .now) (a .pre .0) (a .pre .1) (a .pre .2)))
@@ -43,10 +43,10 @@ refused-requires-2 : tie.Need-refused-requires-2
 refused-requires-2 c κs = search needs
 
 returns-2 : tie.Need-returns-2
-returns-2 c = 
+returns-2 c =
     let a = c .before .before .before .before .before .before .before .before .before .before .before in
     c .refused2 .ensures ∙ told-more (a .args .text .now) (a .pre .0) (a .pre .1) (a .pre .2) (c .before .before .before .before .before .before .before .before .before .level-of .ensures) (c .before .before .before .before .before .before .before .before .depth-of .ensures) (c .before .before .before .before .before .before .before .heading-length .ensures) (c .before .before .before .before .before .before .nodes .ensures)
-        (c .before .before .before .before .next .given .1) (c .before .before .if1 .taken) (c .before .place2 .ensures)
+    (c .before .before .before .before .next .given .1) (c .before .before .if1 .taken) (c .before .place2 .ensures)
 
 shared-slice-read-north : tie.Need-shared-slice-read-north
 shared-slice-read-north c = let a = c .before .before .before .before .before .before .before .before .before .before in omega (arith, head-within (a .args .text .now) (a .pre .0) (a .pre .1) (a .pre .2) .1)
@@ -67,10 +67,10 @@ cast-south : tie.Need-cast-south
 cast-south c = let a = c .before .before .before .before .before .before .before .before .before .before .before in omega (arith, turn-south (a .args .text .now) (a .pre .0) (a .pre .1) (a .pre .2))
 
 returns-3 : tie.Need-returns-3
-returns-3 c = 
+returns-3 c =
     let a = c .before .before .before .before .before .before .before .before .before .before .before in
     told-all (a .args .text .now) (a .pre .0) (a .pre .1) (a .pre .2) (c .before .before .before .before .before .before .before .before .before .level-of .ensures) (c .before .before .before .before .before .before .before .before .depth-of .ensures) (c .before .before .before .before .before .before .before .heading-length .ensures) (c .before .before .before .before .before .before .nodes .ensures)
-        (c .before .before .before .before .next .given .1) (c .before .before .if1 .left)
+    (c .before .before .before .before .next .given .1) (c .before .before .if1 .left)
 
 pub check-body-spec : {M : Type 1} → statement M
 check-body-spec =

@@ -255,7 +255,7 @@ head-of t = by-cond (λ (p : Profile). headingLength p ≤ lead least greatest t
           all =
               of-seven t k 2 v
               ∙ ap (λ (x : List ℕ). 67 ∷ 86 ∷ 82 ∷ 0 ∷ 2 ∷ (48 + (getD t 5 0 - 48)) ∷ (48 + (getD t 6 0 - 48)) ∷ x)
-                (next-byte t 7 (omega (arith, lead-length least greatest t)) ∙ ap (λ (x : ℕ). x ∷ drop 8 t) d);
+              (next-byte t 7 (omega (arith, lead-length least greatest t)) ∙ ap (λ (x : ℕ). x ∷ drop 8 t) d);
         }
       where
         version-two : (v : ℕ) → (1 ≤ v) × (v ≤ 2) → (v ≡ 1 → ⊥) → v ≡ 2

@@ -70,7 +70,7 @@ module _ (t : List ℕ) (h : lead least greatest t < headingLength (profileIn t)
       let a : take 7 (filled t) ≡ take k t ++ drop k (take 7 (filled t)) =
       sym (take-append-drop k (take 7 (filled t)))
       ∙ ap (λ (x : List ℕ). x ++ drop k (take 7 (filled t)))
-        (take-take k 7 (filled t) (fewer e) ∙ take-at (take k t) (drop k least) k (length-take-le k t (most .1))) in
+      (take-take k 7 (filled t) (fewer e) ∙ take-at (take k t) (drop k least) k (length-take-le k t (most .1))) in
       (drop k (take 7 (filled t)), subst Accepted (sym (f .6) ∙ a) (empty (f .0) (f .1) (f .2) (f .3) (f .4) (f .5)))
 
   head-begun : Begins (take k t)
@@ -135,11 +135,15 @@ module _ (t : List ℕ) where
         let g = head-of t h in
         let a : take m t ≡ heading p (g .north) (g .south) = ap (take m) (g .all) ∙ take-head (g .north) (g .south) (drop m t) p in
         let b : take (m + k) t ++ z .0 ≡ heading p (g .north) (g .south) ++ render (levelOf p) (z .1 .0) =
-        ap (λ (x : List ℕ). x ++ z .0) (take-add m k t) ∙ append-assoc (take m t) (take k (drop m t)) (z .0) ∙ ap₂ (λ (x y : List ℕ). x ++ y) a (z .1 .1 .all) in
-        (
+        ap (λ (x : List ℕ). x ++ z .0) (take-add m k t) ∙ append-assoc (take m t) (take k (drop m t)) (z .0) ∙ ap₂ (λ (x y : List ℕ). x ++ y) a (z .1 .1 .all) in (
           z .0,
-          (p, g .north, g .south, z .1 .0,
-            record { profiled = g .profiled; north = g .northern; south = g .southern; body = record { good = z .1 .1 .good; all = b } }),
+          (
+            p,
+            g .north,
+            g .south,
+            z .1 .0,
+            record { profiled = g .profiled; north = g .northern; south = g .southern; body = record { good = z .1 .1 .good; all = b } },
+          ),
         )
 
     body-begun : (k : ℕ) → m + k ≤ length t → Begins (take (m + k) t) → BeginsOne (Body (levelOf p) (depthOf p)) (take k (drop m t))

@@ -29,7 +29,7 @@ module _ (p : Profile) (n s : ℕ) (ns : Nodes) (q : IsProfile p) (h : n ≤ 3) 
   all =
       ap (parse (suc (length t)) (levelOf p) (depthOf p) 0) (drop-head n s (render (levelOf p) ns) p ∙ sym (append-nil (render (levelOf p) ns)))
       ∙ complete ns (suc (length t)) (levelOf p) (depthOf p) 0 [] g tt
-        (omega (arith, ap length (append-nil (render (levelOf p) ns)), length-head n s (render (levelOf p) ns) p))
+      (omega (arith, ap length (append-nil (render (levelOf p) ns)), length-head n s (render (levelOf p) ns) p))
 
   read-good : readText t ≡ asText p n s ns
   unfolding readText readBy toEnd
