@@ -82,8 +82,13 @@ jgv_size_answer jgv_size(uint64_t code);
 /* The shape of a cell: quad 0, cap 1, dart 2, skew quad 3. Refusal 4. */
 jgv_shape_answer jgv_shape(uint64_t code);
 
-/* How many cells touch a cell at a corner only. Refusal 4. */
+/* How many cells meet a cell at a corner only: none at resolution 0; above that 3 for a cell in a corner of its face (row and column each
+ * first or last), and 4 for every other. Refusal 4. */
 jgv_count jgv_corner_count(uint64_t code);
+
+/* The codes of those cells, of the code's arrangement, in rising order, written to the first of `codes` (4 are always enough): the
+ * neighbours of at least two of the cell's neighbours that are neither the cell nor a neighbour of it. Refusals 4, 8. */
+jgv_count jgv_corner_cells(uint64_t code, uint64_t *codes, size_t room);
 
 /* The square of a cell in the plane. Here and in the next three a face side is 28,697,814 units; x runs east from the left edge of O, y up
  * from the equator. Refusal 4. */

@@ -128,7 +128,7 @@ macro_rules! depths {
 
 fn numbers(inputs: &Inputs) -> Vec<(&'static str, usize)> {
     let (codes, points) = (&inputs.codes, &inputs.points);
-    let mut name = [0; 16];
+    let (mut name, mut corners) = ([0; 16], [0; 4]);
     depths! {
         jgv_cell_code: codes, &code => (code & 3, code >> 2 & 3, code % 7, code >> 12 & 15, code % 20_000_000 / 3, code % 10_000_019);
         jgv_code_cell: codes, &code => (code);
@@ -139,6 +139,7 @@ fn numbers(inputs: &Inputs) -> Vec<(&'static str, usize)> {
         jgv_size: codes, &code => (code);
         jgv_shape: codes, &code => (code);
         jgv_corner_count: codes, &code => (code);
+        jgv_corner_cells: codes, &code => (code, corners.as_mut_ptr(), corners.len());
         jgv_square: codes, &code => (code);
         jgv_nucleus: codes, &code => (code);
         jgv_vertices: codes, &code => (code);

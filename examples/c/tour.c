@@ -73,7 +73,7 @@ static void families(void) {
     }
 }
 
-/* Four shapes of cells; a dart has one corner neighbour less than the others. */
+/* Four shapes of cells. */
 static void shapes(void) {
     static const char *const words[] = {"quad", "cap", "dart", "skew quad"};
     static const char *const names[] = {"P0", "N4", "N0", "N1"};
@@ -81,9 +81,6 @@ static void shapes(void) {
         jgv_shape_answer shape = jgv_shape(code_of(names[i]));
         expect_answer(shape.refusal);
         printf("shape: %s -> %s\n", names[i], words[shape.shape]);
-        jgv_count corners = jgv_corner_count(code_of(names[i]));
-        expect_answer(corners.refusal);
-        printf("corner_count: %s -> %" PRIu64 "\n", names[i], corners.count);
     }
 }
 
@@ -169,6 +166,29 @@ static void neighbours(void) {
     for (uint64_t direction = 0; direction < 4; direction++)
         printf("neighbour: P0, %s -> %s\n", directions[direction], name_of(code_in(jgv_neighbour(code_of("P0"), direction))).text);
     printf("neighbour: P0, up, n 1 -> %s\n", name_of(code_in(jgv_neighbour(code_at(1, 0, "P0"), 0))).text);
+}
+
+static void print_corner_cells(uint64_t n, const char *name, const char *shown) {
+    uint64_t codes[4]; /* always enough */
+    jgv_count listed = jgv_corner_cells(code_at(n, 0, name), codes, 4);
+    expect_answer(listed.refusal);
+    printf("corner_cells: %s ->", shown);
+    for (size_t i = 0; i < listed.count; i++)
+        printf(" %s", name_of(codes[i]).text);
+    putchar('\n');
+}
+
+/* Cells that meet at a corner only: none about a face, three about a cell in a corner of its face, four about any other. */
+static void corners(void) {
+    static const char *const names[] = {"P", "P0", "P1", "N0", "N04"};
+    for (size_t i = 0; i < 5; i++) {
+        jgv_count answer = jgv_corner_count(code_of(names[i]));
+        expect_answer(answer.refusal);
+        printf("corner_count: %s -> %" PRIu64 "\n", names[i], answer.count);
+    }
+    print_corner_cells(0, "P0", "P0");
+    print_corner_cells(1, "P0", "P0, n 1");
+    print_corner_cells(0, "R5", "R5");
 }
 
 /* Writes the text of rising cells to `text` and shows its bytes; answers its length. No text is longer than 65,536 bytes. */
@@ -288,6 +308,7 @@ int main(void) {
     plane();
     ground();
     neighbours();
+    corners();
     coverage();
     two_arrangements();
     handhelds();

@@ -17,7 +17,7 @@ from typing import Iterable, List, NamedTuple, Optional, Tuple, Union
 
 UP, RIGHT, DOWN, LEFT = range(4)
 SHAPES = ("quad", "cap", "dart", "skew quad")
-LONGEST_NAME, LONGEST_TEXT = 16, 65536
+LONGEST_NAME, LONGEST_TEXT, MOST_AT_CORNERS = 16, 65536, 4
 
 REASONS = {
     1: "a face above 5, an empty name, or a name that does not start with N to S",
@@ -151,6 +151,7 @@ _child = _entry("jgv_child", _Code, _U64, _U64)
 _size = _entry("jgv_size", _Size, _U64)
 _shape = _entry("jgv_shape", _Shape, _U64)
 _corner_count = _entry("jgv_corner_count", _Count, _U64)
+_corner_cells = _entry("jgv_corner_cells", _Count, _U64, _CODES, c_size_t)
 _square = _entry("jgv_square", _Square, _U64)
 _nucleus = _entry("jgv_nucleus", _Point, _U64)
 _vertices = _entry("jgv_vertices", _Vertices, _U64)
@@ -209,8 +210,14 @@ def shape(code: int) -> str:
 
 
 def corner_count(code: int) -> int:
-    """How many cells touch a cell at a corner only."""
+    """How many cells meet a cell at a corner only."""
     return _corner_count(code).count
+
+
+def corner_cells(code: int) -> List[int]:
+    """Their codes, rising."""
+    codes = (c_uint64 * MOST_AT_CORNERS)()
+    return codes[: _corner_cells(code, codes, MOST_AT_CORNERS).count]
 
 
 def square(code: int) -> Square:

@@ -38,10 +38,9 @@ def families():
 
 
 def shapes():
-    """Four shapes of cells; a dart has one corner neighbour less than the others."""
+    """Four shapes of cells."""
     for name in ("P0", "N4", "N0", "N1"):
         print(f"shape: {name} -> {jgv.shape(code_of(name))}")
-        print(f"corner_count: {name} -> {jgv.corner_count(code_of(name))}")
 
 
 def plane():
@@ -94,6 +93,14 @@ def neighbours():
     for direction, word in ((jgv.UP, "up"), (jgv.RIGHT, "right"), (jgv.DOWN, "down"), (jgv.LEFT, "left")):
         print(f"neighbour: P0, {word} -> {code_name(jgv.neighbour(code_of('P0'), direction))}")
     print(f"neighbour: P0, up, n 1 -> {code_name(jgv.neighbour(code_of('P0', 1, 0), jgv.UP))}")
+
+
+def corners():
+    """Cells that meet at a corner only: none about a face, three about a cell in a corner of its face, four about any other."""
+    for name in ("P", "P0", "P1", "N0", "N04"):
+        print(f"corner_count: {name} -> {jgv.corner_count(code_of(name))}")
+    for n, name, shown in ((0, "P0", "P0"), (1, "P0", "P0, n 1"), (0, "R5", "R5")):
+        print(f"corner_cells: {shown} ->", *map(code_name, jgv.corner_cells(code_of(name, n, 0))))
 
 
 def write_text(names):
@@ -168,5 +175,5 @@ def handhelds():
 
 
 if __name__ == "__main__":
-    for part in (codes_and_names, families, shapes, plane, ground, neighbours, coverage, two_arrangements, handhelds):
+    for part in (codes_and_names, families, shapes, plane, ground, neighbours, corners, coverage, two_arrangements, handhelds):
         part()

@@ -292,12 +292,58 @@ static void shapes(void) {
     SHAPE(jgv_shape(code_at(3, 1, "S45")), 0, 3);
     SHAPE(jgv_shape(no_code), 4, 0);
     SHAPE(jgv_shape(code("N1") + WIDE), 4, 0);
-    COUNT(jgv_corner_count(code("P0")), 0, 4);
-    COUNT(jgv_corner_count(code("N4")), 0, 4);
+    /* 02: "At resolution 0 the number is 0. Above that it is 3 for a cell in a corner of its face" */
+    COUNT(jgv_corner_count(code("P")), 0, 0);
+    COUNT(jgv_corner_count(code("N")), 0, 0);
+    COUNT(jgv_corner_count(code("P0")), 0, 3);
     COUNT(jgv_corner_count(code("N0")), 0, 3);
+    COUNT(jgv_corner_count(code_at(1, 2, "R8")), 0, 3);
+    COUNT(jgv_corner_count(code("S22")), 0, 3);
+    COUNT(jgv_corner_count(code("P1")), 0, 4);
+    COUNT(jgv_corner_count(code("N4")), 0, 4);
     COUNT(jgv_corner_count(code("S1")), 0, 4);
+    COUNT(jgv_corner_count(code("N04")), 0, 4); /* a dart that is in no corner of its face */
+    COUNT(jgv_corner_count(GREATEST), 0, 3);
     COUNT(jgv_corner_count(no_code), 4, 0);
     COUNT(jgv_corner_count(code("N0") + WIDE), 4, 0);
+}
+
+/* Lists the cells at the corners of a cell and checks the answer, the codes, of the cell's arrangement, and their guards. */
+static void meets(uint64_t n, uint64_t s, const char *name, size_t room, const char *const *names, size_t count) {
+    jgv_count got = jgv_corner_cells(code_at(n, s, name), lend_codes(), room);
+    CHECK(got.refusal, 0, "jgv_corner_cells: refusal");
+    CHECK(got.count, count, "jgv_corner_cells: count");
+    for (size_t i = 0; i < count; i++)
+        CHECK(lent_codes[GUARD + i], code_at(n, s, names[i]), "jgv_corner_cells: a code");
+    CHECK(code_strays(count), 0, "jgv_corner_cells: bytes about the codes");
+}
+
+static void meets_nothing(uint64_t of, size_t room, uint64_t refusal) {
+    jgv_count got = jgv_corner_cells(of, lend_codes(), room);
+    CHECK(got.refusal, refusal, "jgv_corner_cells: refusal");
+    CHECK(got.count, 0, "jgv_corner_cells: count");
+    CHECK(code_strays(0), 0, "jgv_corner_cells: lent codes");
+}
+
+/* From the neighbours: P0 has N8, P1, P3, O2, of which two each have N5, P4, O5. */
+static void corner_cells(void) {
+    static const char *const p0[] = {"N5", "O5", "P4"}, *const p0_turned[] = {"N7", "O5", "P4"};
+    static const char *const r5[] = {"O0", "O6", "R1", "R7"}, *const q4[] = {"Q0", "Q2", "Q6", "Q8"};
+    meets(0, 0, "P0", 3, p0, 3);
+    meets(0, 0, "P0", ROOM, p0, 3);
+    meets(1, 3, "P0", 4, p0_turned, 3);
+    meets(0, 0, "R5", 4, r5, 4);
+    meets(3, 2, "Q4", 4, q4, 4);
+    meets(2, 1, "S", 0, q4, 0);
+    meets_nothing(code("P0"), 2, 8);
+    meets_nothing(code("R5"), 3, 8);
+    meets_nothing(code("R5"), 0, 8);
+    meets_nothing(no_code, ROOM, 4);
+    meets_nothing(no_code, 0, 4); /* the order is 4, 8 */
+    meets_nothing(code("P0") + WIDE, ROOM, 4);
+    jgv_count got = jgv_corner_cells(code("P"), NULL, 0);
+    CHECK(got.refusal, 0, "jgv_corner_cells to no memory: refusal");
+    CHECK(got.count, 0, "jgv_corner_cells to no memory: count");
 }
 
 #define SQUARE(call, want_refusal, want_left, want_top, want_side) \
@@ -844,6 +890,7 @@ int main(void) {
     fix_code();
     no_fix_code();
     ground_nucleus();
+    corner_cells();
     neighbour();
     coverage_check();
     handheld_check();

@@ -1,5 +1,1 @@
-pub mod Course
-pub mod Crossing
-pub mod Faces
 pub mod Seams
-pub mod Towards

@@ -1,6 +1,10 @@
 pub mod Cell
+pub mod Course
+pub mod Crossing
+pub mod Faces
 pub mod Found
 pub mod Hierarchy
 pub mod Line
 pub mod Neighbour
+pub mod Towards
 pub mod Turns

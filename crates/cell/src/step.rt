@@ -43,7 +43,7 @@ impl Cell {
     }
 
     // The cell has no further cell of its face in that direction.
-    fn leaves(self, direction: u64, last: u64) -> bool
+    pub fn leaves(self, direction: u64, last: u64) -> bool
         requires { ⌜ IsCell self ⌝ }
         requires { ⌜ last ≡ rows self - 1 ⌝ }
         ensures { λ r. ⌜ r ≡ leaves self direction ⌝ }

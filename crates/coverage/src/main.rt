@@ -57,6 +57,13 @@ struct Form {
     arrangement: Arrangement,
 }
 
+// A line that waits in front of its room up to `end`; and the refusal that is to be said with it, 0 for none, with its place.
+struct Shown {
+    end: usize,
+    refusal: u64,
+    place: u64,
+}
+
 fn usage() {
     console::say(b"usage: coverage check FILE | list FILE | ask FILE NAME\n");
     console::say(b"       coverage write n s [depth] < names > text\n");
@@ -64,12 +71,29 @@ fn usage() {
     console::say(b"  with a depth, 0 to 15, the text is for handhelds: N and S whole, nothing deeper\n");
 }
 
+// The line to standard output, then what a refusal means to standard error.
+fn show(shown: Shown, out: &[u8])
+    requires { ⌜ shown .end ≤ length (now out) ⌝ }
+{
+    let refusal = shown.refusal;
+    console::print_first(out, shown.end);
+    if refusal != 0 {
+        console::say_text(b"coverage", refusal, shown.place);
+    }
+}
+
 // A refusal: its number to standard output, what it means to standard error.
 fn refuse(refusal: u64, place: u64) {
     let mut out = [0u8; 21];
     let end = report::put_line(refusal, &mut out);
-    console::print_first(&out, end);
-    console::say_text(b"coverage", refusal, place);
+    show(
+        Shown {
+            end,
+            refusal,
+            place,
+        },
+        &out,
+    );
 }
 
 // The file that the second argument names. Where it cannot be read, standard error says why.
@@ -95,19 +119,26 @@ fn load(path: &mut [u8], text: &mut [u8]) -> BytesRead
     BytesRead::Count(count)
 }
 
-// check: the line of what the reader answers, in front: where it ends. A refusal is said.
-fn check_text(text: &[u8], out: &mut [u8]) -> usize
+// check: the line of what the reader answers, in front.
+fn check_text(text: &[u8], out: &mut [u8]) -> Shown
     requires { ⌜ 168 ≤ length (now out) ⌝ }
-    ensures { λ r. ⌜ Put 0 (checkLine (checkedOf (now (text .entry)))) (now (out .entry)) (now (out .exit)) r ⌝ }
-    ensures { λ r. ⌜ r ≤ 168 ⌝ }
+    ensures { λ r. ⌜ Put 0 (checkLine (checkedOf (now (text .entry)))) (now (out .entry)) (now (out .exit)) (r .end) ⌝ }
+    ensures { λ r. ⌜ r .end ≤ 168 ⌝ }
 {
     let checked = reader::check(text);
     let end = report::put_check(checked, out);
     let Checked::Refused { refusal, place } = checked else {
-        return end;
+        return Shown {
+            end,
+            refusal: 0,
+            place: 0,
+        };
     };
-    console::say_text(b"coverage", refusal, place);
-    end
+    Shown {
+        end,
+        refusal,
+        place,
+    }
 }
 
 // The names of codes, one a line: what is left of them in front, behind what was printed.
@@ -127,17 +158,22 @@ fn put_all_names(codes: &[u64], out: &mut [u8]) -> usize
 }
 
 // list: the names of the whole cells, or the refusal's line: what is left of them in front, behind what was printed.
-fn list_text(text: &[u8], codes: &mut [u64], out: &mut [u8]) -> usize
+fn list_text(text: &[u8], codes: &mut [u64], out: &mut [u8]) -> Shown
     requires { ⌜ 21 ≤ length (now out) ⌝ }
-    ensures { λ r. ⌜ ListWritten (listingRefusal (now (text .entry)) (length (now (codes .entry)))) (now (text .entry)) (now (out .exit)) r ⌝ }
-    ensures { λ r. ⌜ r ≤ length (now (out .exit)) ⌝ }
+    ensures { λ r. ⌜ ListWritten (listingRefusal (now (text .entry)) (length (now (codes .entry)))) (now (text .entry)) (now (out .exit)) (r .end) ⌝ }
+    ensures { λ r. ⌜ r .end ≤ length (now (out .exit)) ⌝ }
 {
     match listing::list(text, codes) {
-        Listed::Count(count) => put_all_names(&codes[..count as usize], out),
-        Listed::Refused { refusal, place } => {
-            console::say_text(b"coverage", refusal, place);
-            report::put_line(refusal, out)
-        }
+        Listed::Count(count) => Shown {
+            end: put_all_names(&codes[..count as usize], out),
+            refusal: 0,
+            place: 0,
+        },
+        Listed::Refused { refusal, place } => Shown {
+            end: report::put_line(refusal, out),
+            refusal,
+            place,
+        },
     }
 }
 
@@ -161,19 +197,26 @@ fn ask_name(text: &[u8], name: &[u8]) -> Asked
     }
 }
 
-// ask: the line of what is answered, in front: where it ends. A refusal is said.
-fn ask_text(text: &[u8], name: &[u8], out: &mut [u8]) -> usize
+// ask: the line of what is answered, in front.
+fn ask_text(text: &[u8], name: &[u8], out: &mut [u8]) -> Shown
     requires { ⌜ 21 ≤ length (now out) ⌝ }
-    ensures { λ r. ⌜ Put 0 (askedLine (askedName (now (text .entry)) (now (name .entry)))) (now (out .entry)) (now (out .exit)) r ⌝ }
-    ensures { λ r. ⌜ r ≤ 21 ⌝ }
+    ensures { λ r. ⌜ Put 0 (askedLine (askedName (now (text .entry)) (now (name .entry)))) (now (out .entry)) (now (out .exit)) (r .end) ⌝ }
+    ensures { λ r. ⌜ r .end ≤ 21 ⌝ }
 {
     let asked = ask_name(text, name);
     let end = report::put_asked(asked, out);
     let Asked::Refused { refusal, place } = asked else {
-        return end;
+        return Shown {
+            end,
+            refusal: 0,
+            place: 0,
+        };
     };
-    console::say_text(b"coverage", refusal, place);
-    end
+    Shown {
+        end,
+        refusal,
+        place,
+    }
 }
 
 // One line: a name, whose code is put behind the others. One that is none, or that has no room, is said.
@@ -337,21 +380,21 @@ fn ask_file(text: &[u8]) {
         return;
     }
     let mut out = [0u8; 21];
-    let end = ask_text(text, &word[..n], &mut out);
-    console::print_first(&out, end);
+    let shown = ask_text(text, &word[..n], &mut out);
+    show(shown, &out);
 }
 
 fn list_file(text: &[u8]) {
     let mut codes = [0u64; 65536];
     let mut out = [0u8; 65536];
-    let end = list_text(text, &mut codes, &mut out);
-    console::print_first(&out, end);
+    let shown = list_text(text, &mut codes, &mut out);
+    show(shown, &out);
 }
 
 fn check_file(text: &[u8]) {
     let mut out = [0u8; 168];
-    let end = check_text(text, &mut out);
-    console::print_first(&out, end);
+    let shown = check_text(text, &mut out);
+    show(shown, &out);
 }
 
 // The three commands that read a file.

@@ -25,7 +25,11 @@ use Rattle.plane.specs.Plane.{squareOf, nucleusOf, verticesOf, pointRefusal, po
 use Rattle.locate.specs.Fix.{fixCell, fixRefusal}
 use Rattle.nucleus.specs.declared.Fix.{Fix}
 use Rattle.nucleus.specs.Nucleus.{groundNucleus}
-use Rattle.shape.specs.Shape.{shapeOf, shapeNumber, cornersOf}
+use Rattle.shape.specs.Shape.{shapeOf, shapeNumber}
+use Rattle.corner.specs.declared.Cornered.{Cornered}
+use Rattle.corner.specs.declared.Cornered.the-variants as cornered-as
+use Rattle.corner.specs.Corner.{cornerNumber}
+use Rattle.corner.specs.List.{codesAt, cornersRefusal, cornered}
 use Rattle.jeguarivo.specs.declared.CodeAnswer.{CodeAnswer}
 use Rattle.jeguarivo.specs.declared.CellAnswer.{CellAnswer}
 use Rattle.jeguarivo.specs.declared.NameAnswer.{NameAnswer}
@@ -111,7 +115,15 @@ unfoldable pub cellShape : ℕ → ShapeAnswer
 cellShape code = record { refusal = codeRefusal code; shape = orZero (codeRefusal code) (shapeNumber (shapeOf (cellOf code))) }
 
 unfoldable pub cornerCount : ℕ → CountAnswer
-cornerCount code = record { refusal = codeRefusal code; count = orZero (codeRefusal code) (cornersOf (shapeOf (cellOf code))) }
+cornerCount code = record { refusal = codeRefusal code; count = orZero (codeRefusal code) (cornerNumber (cellOf code)) }
+
+-- how many codes were listed, or the refusal, as numbers
+abbrev pub cornerNumbers : Cornered → CountAnswer
+cornerNumbers (cornered-as.Count count) = record { refusal = 0; count = count }
+cornerNumbers (cornered-as.Refused refusal) = record { refusal = refusal; count = 0 }
+
+unfoldable pub cornerCells : (code room : ℕ) → CountAnswer
+cornerCells code room = cornerNumbers (cornered (cornersRefusal code room) (length (codesAt code)))
 
 -- ---- the plane
 

@@ -1,3 +1,4 @@
+pub mod Corners
 pub mod Entries
 pub mod Laws
 pub mod Order

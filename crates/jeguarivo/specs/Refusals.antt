@@ -12,6 +12,7 @@ use Rattle.logic.specs.Rise.{Rise}
 use Rattle.code.specs.Code.{cellOf, arrangementOf}
 use Rattle.code.specs.Laws.Exact.{NoCell}
 use Rattle.name.specs.Name.{nameOf}
+use Rattle.corner.specs.List.{codesAt}
 use Rattle.plane.specs.Plane.{faceSide, half, threeHalves}
 use Rattle.locate.specs.Fix.{InRange}
 use Rattle.reading.specs.Ground.{Apart}
@@ -77,6 +78,9 @@ nameTests n s bs = (5, (3 < n) ⊎ (3 < s)) ∷ (2, 16 < length bs) ∷ (1, NoLe
 -- 8: "lent buffer shorter than the answer"
 abbrev pub codeNameTests : (code room : ℕ) → Chain
 codeNameTests code room = (4, NoCell code) ∷ (8, room < length (nameOf (cellOf code))) ∷ []
+
+abbrev pub cornersTests : (code room : ℕ) → Chain
+cornersTests code room = (4, NoCell code) ∷ (8, room < length (codesAt code)) ∷ []
 
 -- 12: "parent at resolution 0, child at 15". 3: "child digit above 8"
 abbrev pub parentTests : ℕ → Chain

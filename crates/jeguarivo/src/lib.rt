@@ -7,18 +7,20 @@ ghost use Rattle.logic.specs.Refusal.{given};
 ghost use Rattle.cell.specs.Cell.{IsCell};
 ghost use Rattle.code.specs.Code.{codeOf, arrangementOf, Placed, foundCode};
 ghost use Rattle.name.specs.Name.{codeNameRefusal, nameIn};
+ghost use Rattle.corner.specs.List.{cornerMemory};
 ghost use Rattle.reader.specs.Check.{checkedOf};
 ghost use Rattle.listing.specs.List.{listingRefusal, listed, codesIn};
 ghost use Rattle.asking.specs.Ask.{askRefusal, asked};
 ghost use Rattle.jeguarivo.specs.Texts.{checkNumbers, listNumbers, askNumbers, writtenNumbers};
 ghost use Rattle.writing.specs.Write.{asksFor, writeRefusal, textOf, textIn, written};
 ghost use Rattle.jeguarivo.specs.Entries.{arrangement, codedAnswer, codeAnswer, codeOfCell, codeCell, nameAnswer, writtenName, parentCode, childCode};
-ghost use Rattle.jeguarivo.specs.Entries.{cellSize, cellShape, cornerCount, cellSquare, cellNucleus, cellVertices, pointCode, neighbourCode, fixCode, groundFix};
+ghost use Rattle.jeguarivo.specs.Entries.{cellSize, cellShape, cornerCount, cornerCells, cellSquare, cellNucleus, cellVertices, pointCode, neighbourCode, fixCode, groundFix};
 use asking::Asked;
 use cell::Arrangement;
 use cell::Cell;
 use cell::Found;
 use code::Coded;
+use corner::Cornered;
 use listing::Listed;
 use name::Named;
 use reader::Checked;
@@ -340,7 +342,22 @@ pub extern "C" fn jgv_corner_count(code: u64) -> CountAnswer
     };
     CountAnswer {
         refusal: 0,
-        count: shape::corners(shape::shape_of(cell)),
+        count: corner::count(cell),
+    }
+}
+
+// 4 where the code is no cell's, 8 where the room is shorter than the list.
+#[no_mangle]
+pub extern "C" fn jgv_corner_cells(code: u64, codes: &mut [u64]) -> CountAnswer
+    ensures { λ r. ⌜ r ≡ cornerCells code (length (now (codes .entry))) ⌝ }
+    ensures { λ r. ⌜ now (codes .exit) ≡ cornerMemory code (now (codes .entry)) ⌝ }
+{
+    match corner::list(code, codes) {
+        Cornered::Count(count) => CountAnswer { refusal: 0, count },
+        Cornered::Refused(refusal) => CountAnswer {
+            refusal,
+            count: 0, // none was listed
+        },
     }
 }
 

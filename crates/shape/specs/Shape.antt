@@ -46,10 +46,3 @@ shapeNumber Quad = 0
 shapeNumber Cap = 1
 shapeNumber Dart = 2
 shapeNumber SkewQuad = 3
-
--- "The number of cells that touch a cell at a corner only is 3 for a dart and 4 for any other shape"
-abbrev pub cornersOf : Shape → ℕ
-cornersOf Quad = 4
-cornersOf Cap = 4
-cornersOf Dart = 3
-cornersOf SkewQuad = 4

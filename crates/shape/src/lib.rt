@@ -1,8 +1,8 @@
-// The shape of a cell, and how many cells touch it at a corner only.
+// The shape of a cell.
 ghost use mathlib.Core.Path.{_≡_};
 ghost use Prim.Native.Nat.{_≤_, _<_};
 ghost use Rattle.cell.specs.Cell.{IsCell};
-ghost use Rattle.shape.specs.Shape.{shapeOf, capShape, shapeNumber, cornersOf};
+ghost use Rattle.shape.specs.Shape.{shapeOf, capShape, shapeNumber};
 use cell::Cell;
 
 pub enum Shape {
@@ -53,17 +53,5 @@ pub fn number(shape: Shape) -> u64
         Shape::Cap => 1,
         Shape::Dart => 2,
         Shape::SkewQuad => 3,
-    }
-}
-
-// The number of cells that touch a cell of this shape at a corner only.
-pub fn corners(shape: Shape) -> u64
-    ensures { λ r. ⌜ r ≡ cornersOf shape ⌝ }
-{
-    match shape {
-        Shape::Quad => 4,
-        Shape::Cap => 4,
-        Shape::Dart => 3,
-        Shape::SkewQuad => 4,
     }
 }

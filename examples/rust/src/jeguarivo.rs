@@ -65,6 +65,7 @@ unsafe extern "C" {
     pub safe fn jgv_size(code: u64) -> Size;
     pub safe fn jgv_shape(code: u64) -> Shape;
     pub safe fn jgv_corner_count(code: u64) -> Count;
+    pub fn jgv_corner_cells(code: u64, codes: *mut u64, room: usize) -> Count;
     pub safe fn jgv_square(code: u64) -> Square;
     pub safe fn jgv_nucleus(code: u64) -> Point;
     pub safe fn jgv_vertices(code: u64) -> Vertices;
@@ -90,6 +91,10 @@ pub mod lent {
 
     pub fn code_name(code: u64, name: &mut [u8]) -> Name {
         unsafe { jgv_code_name(code, name.as_mut_ptr(), name.len()) }
+    }
+
+    pub fn corner_cells(code: u64, codes: &mut [u64]) -> Count {
+        unsafe { jgv_corner_cells(code, codes.as_mut_ptr(), codes.len()) }
     }
 
     pub fn coverage_check(text: &[u8]) -> Check {
@@ -145,8 +150,15 @@ pub fn shape(code: u64) -> Answer<u64> {
     Ok(jgv_shape(code).read()?.shape)
 }
 
+/// How many cells meet a cell at a corner only.
 pub fn corner_count(code: u64) -> Answer<u64> {
     Ok(jgv_corner_count(code).read()?.count)
+}
+
+/// Their codes, rising; 4 are always enough.
+pub fn corner_cells(code: u64, codes: &mut [u64]) -> Answer<&[u64]> {
+    let listed = lent::corner_cells(code, codes).read()?;
+    Ok(&codes[..listed.count as usize])
 }
 
 pub fn square(code: u64) -> Answer<Square> {

@@ -48,12 +48,11 @@ fn families() -> Answer<()> {
     Ok(())
 }
 
-/// Four shapes of cells; a dart has one corner neighbour less than the others.
+/// Four shapes of cells.
 fn shapes() -> Answer<()> {
     let words = ["quad", "cap", "dart", "skew quad"];
     for name in ["P0", "N4", "N0", "N1"] {
         println!("shape: {name} -> {}", words[shape(code_of(name)?)? as usize]);
-        println!("corner_count: {name} -> {}", corner_count(code_of(name)?)?);
     }
     Ok(())
 }
@@ -131,6 +130,20 @@ fn neighbours() -> Answer<()> {
         println!("neighbour: P0, {word} -> {}", name_of(neighbour(code_of("P0")?, direction)?)?);
     }
     println!("neighbour: P0, up, n 1 -> {}", name_of(neighbour(code_at(1, 0, "P0")?, 0)?)?);
+    Ok(())
+}
+
+/// Cells that meet at a corner only: none about a face, three about a cell in a corner of its face, four about any other.
+fn corners() -> Answer<()> {
+    for name in ["P", "P0", "P1", "N0", "N04"] {
+        println!("corner_count: {name} -> {}", corner_count(code_of(name)?)?);
+    }
+    for (n, name, shown) in [(0, "P0", "P0"), (1, "P0", "P0, n 1"), (0, "R5", "R5")] {
+        let mut room = [0; 4]; // always enough
+        let codes = corner_cells(code_at(n, 0, name)?, &mut room)?;
+        let names = codes.iter().map(|&code| name_of(code)).collect::<Answer<Vec<String>>>()?;
+        println!("corner_cells: {shown} -> {}", names.join(" "));
+    }
     Ok(())
 }
 
@@ -229,6 +242,7 @@ fn main() -> Answer<()> {
     plane()?;
     ground()?;
     neighbours()?;
+    corners()?;
     coverage()?;
     two_arrangements()?;
     handhelds()

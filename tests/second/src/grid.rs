@@ -1,5 +1,6 @@
 //! Document 01's "Faces, rows, names, codes", "The plane" and "Neighbours and shapes", with the
-//! codes of document 02's W-210, which say their arrangement.
+//! codes of document 02's W-210, which say their arrangement, and the cells that meet at a corner
+//! of its W-204.
 //!
 //! A cell is its name here: a face letter, then a digit for each resolution. Codes, rows,
 //! squares and neighbours are worked out from the name, one digit at a time, and the way back
@@ -452,15 +453,6 @@ pub fn shape(code: u64) -> Answer<u64> {
     Ok(shape_of(&checked_code(code)?.name) as u64)
 }
 
-/// "The number of cells that touch a cell at a corner only is 3 for a dart and 4 for any other
-/// shape." Refuses 4.
-pub fn corner_count(code: u64) -> Answer<u64> {
-    match shape_of(&checked_code(code)?.name) {
-        Shape::Dart => Ok(3),
-        _ => Ok(4),
-    }
-}
-
 // ---------------------------------------------------------------- neighbours
 
 /// 01's table, first line: up from column j of O to R into N, as (row, column).
@@ -579,4 +571,49 @@ pub fn neighbour(code: u64, direction: u64) -> Answer<u64> {
     }
     let Arranged { n, s, name } = checked_code(code)?;
     Ok(code_of(n, s, &neighbour_of(n, s, &name, direction)))
+}
+
+// ---------------------------------------------------------------- cells that meet at a corner
+
+/// "Above resolution 0, those that are neighbours of at least two of the cell's neighbours, and
+/// neither it nor a neighbour of it", by a search among the neighbours' neighbours. In the byte
+/// order of names.
+pub fn corners_of(n: u64, s: u64, name: &[u8]) -> Vec<Name> {
+    if name.len() == 1 {
+        return Vec::new();
+    }
+    let around = |of: &[u8]| (0..4).map(|d| neighbour_of(n, s, of, d)).collect();
+    let near: Vec<Name> = around(name);
+    let further: Vec<Vec<Name>> = near.iter().map(|one| around(one)).collect();
+    let of_two = |x: &Name| further.iter().filter(|four| four.contains(x)).count() >= 2;
+    let mut found: Vec<Name> = further.concat();
+    found.retain(|x| of_two(x) && x != name && !near.contains(x));
+    found.sort();
+    found.dedup();
+    found
+}
+
+/// "At resolution 0 the number is 0. Above that it is 3 for a cell in a corner of its face (row and
+/// column each first or last), and 4 for every other cell, whatever its shape." Refuses 4.
+pub fn corner_count(code: u64) -> Answer<u64> {
+    let (_, _, at) = code_cell(code)?;
+    let outer = [0, cells_along(at.resolution) - 1];
+    Ok(match at.resolution {
+        0 => 0,
+        _ if outer.contains(&at.row) && outer.contains(&at.column) => 3,
+        _ => 4,
+    })
+}
+
+/// The codes of those cells "in rising code order", to the first of the lent ones, and how many;
+/// refuses 4, and 8 where the room is short.
+pub fn corner_cells(code: u64, lent: &mut [u64]) -> Answer<u64> {
+    let Arranged { n, s, name } = checked_code(code)?;
+    let corners = corners_of(n, s, &name);
+    let mut codes: Vec<u64> = corners.iter().map(|name| code_of(n, s, name)).collect();
+    codes.sort();
+    lent.get_mut(..codes.len())
+        .ok_or(8u64)?
+        .copy_from_slice(&codes);
+    Ok(codes.len() as u64)
 }

@@ -7,7 +7,7 @@
 //! the proved programs, the test `programs`; the others try this program alone.
 //! SECOND_SEED sets another seed for the inputs.
 //!
-//! - `grid`: names, codes, the plane, shapes, neighbours
+//! - `grid`: names, codes, the plane, shapes, neighbours, cells that meet at a corner
 //! - `ground`: the cell of a fix and the ground nucleus, over the whole numbers of `big`
 //! - `coverage`: the coverage text: check, list, write, ask
 //! - `proved`: the proved library's entries, as examples/rust declares them

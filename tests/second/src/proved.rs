@@ -6,8 +6,9 @@ use crate::coverage::{Checked, Refused, TextAnswer};
 use crate::grid::{self, Answer, Place};
 use jeguarivo::{Ask, Cell, Check, Code, Count, Fix, Length, List, Name, Point, Shape, Size};
 use jeguarivo::{Square, Vertices};
+use std::fmt::Debug;
 
-pub use jeguarivo::lent::{code_name, name_code};
+pub use jeguarivo::lent::{code_name, corner_cells, name_code};
 pub use jeguarivo::{
     jgv_cell_code as cell_code, jgv_child as child, jgv_code_cell as code_cell,
     jgv_corner_count as corner_count, jgv_fix_code as fix_code,
@@ -71,8 +72,8 @@ like! {
     Ask at place, TextAnswer<bool>, covered => { covered: u64::from(covered) };
 }
 
-/// An answer together with the lent bytes after it.
-impl<A: Refusing> Refusing for (A, Vec<u8>) {
+/// An answer together with the lent bytes or codes after it.
+impl<A: Refusing, T: PartialEq + Debug> Refusing for (A, Vec<T>) {
     fn refusal(&self) -> u64 {
         self.0.refusal()
     }

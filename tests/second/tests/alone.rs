@@ -160,6 +160,31 @@ fn neighbours_are_four_and_mutual() {
     }
 }
 
+/// 02, W-204: the search finds as many cells as the rule says, and meeting at a corner is mutual.
+#[test]
+fn corners_are_as_many_as_the_rule_says_and_mutual() {
+    for resolution in 0..=3 {
+        for name in names(resolution) {
+            for (n, s) in arrangements() {
+                let corners = corners_of(n, s, &name);
+                let count = corner_count(code_of(n, s, &name));
+                assert_eq!(count, Ok(corners.len() as u64));
+                for other in &corners {
+                    assert!(corners_of(n, s, other).contains(&name));
+                }
+            }
+        }
+    }
+}
+
+#[test]
+fn corners_of_p0() {
+    let names = |n| corners_of(n, 0, b"P0").join(&b' ');
+    assert_eq!(names(0), b"N5 O5 P4");
+    assert_eq!(names(1), b"N7 O5 P4");
+    assert_eq!(corners_of(0, 0, b"R5").join(&b' '), b"O0 O6 R1 R7");
+}
+
 /// 01's table with the whole m, and its inverse by trying every column of every belt face.
 fn neighbour_by_table(n: u64, s: u64, at: Place, direction: u64) -> (u64, u64, u64) {
     let m = cells_along(at.resolution);

@@ -10,13 +10,13 @@ fn the_proved_library_is_linked() {
 /// Each entry on random, border and bad inputs.
 #[cfg(proved)]
 mod entries {
-    use second::compare::{compare, About};
+    use second::compare::{compare, compare_mix, About, INPUTS};
     use second::grid;
     use second::proved::{self, Like};
-    use second::random::{Random, GUARD};
+    use second::random::{Random, GUARD, KINDS};
 
     /// The answer, and the whole memory after lending the part between the guards.
-    fn lend<A>(memory: &[u8], to: impl Fn(&mut [u8]) -> A) -> (A, Vec<u8>) {
+    fn lend<A, T: Clone>(memory: &[T], to: impl Fn(&mut [T]) -> A) -> (A, Vec<T>) {
         let mut memory = memory.to_vec();
         let end = memory.len() - GUARD;
         let answer = to(&mut memory[GUARD..end]);
@@ -148,6 +148,26 @@ mod entries {
         );
     }
 
+    /// More than a million of them are listed.
+    #[test]
+    fn corner_cells() {
+        compare_mix(
+            "jgv_corner_cells",
+            &[4, 8],
+            &KINDS,
+            2 * INPUTS,
+            |random, kind| {
+                let code = random.code(kind);
+                let room = random.pick(&[0, 2, 3, 4, 4, 4, 4, 4, 5, 9]);
+                let codes: Vec<u64> = (0..room).map(|_| random.any()).collect();
+                (code, random.guarded_codes(&codes))
+            },
+            |&(code, _)| About::code(code),
+            |(code, memory)| lend(memory, |lent| Like::like(grid::corner_cells(*code, lent))),
+            |(code, memory)| lend(memory, |lent| proved::corner_cells(*code, lent)),
+        );
+    }
+
     #[test]
     fn square() {
         compare(
@@ -270,6 +290,22 @@ mod all_coarse_cells {
                 let by_second = grid::code_name(code, &mut wanted);
                 assert_eq!((answer, lent), (Name::like(by_second), wanted));
             }
+        });
+    }
+
+    /// Cells that meet at a corner, by a search, into every room; the search finds as many as the
+    /// rule says.
+    #[test]
+    fn corners_into_every_room() {
+        each(|_, _, _, code| {
+            for room in 0..6 {
+                let (mut lent, mut wanted) = (vec![7; room], vec![7; room]);
+                let answer = proved::corner_cells(code, &mut lent);
+                let by_second = grid::corner_cells(code, &mut wanted);
+                assert_eq!((answer, lent), (Count::like(by_second), wanted));
+            }
+            let found = proved::corner_cells(code, &mut [0; 4]);
+            assert_eq!(found, proved::corner_count(code));
         });
     }
 
@@ -466,6 +502,24 @@ mod printed {
             found.sort();
             printed.sort();
             assert_eq!(found, printed);
+        }
+    }
+
+    /// 02, W-204: "a field hand counted round P0 and found three cells touching at a corner only".
+    #[test]
+    fn three_round_p0() {
+        for (n, wanted) in [(0, ["N5", "O5", "P4"]), (1, ["N7", "O5", "P4"])] {
+            let p0 = code_of(n, 0, b"P0");
+            let mut lent = [0; 4];
+            let listed = proved::corner_cells(p0, &mut lent);
+            assert_eq!((listed.refusal, listed.count, lent[3]), (0, 3, 0));
+            let names: Vec<String> = lent[..3]
+                .iter()
+                .map(|&code| name_of(Code { refusal: 0, code }))
+                .collect();
+            assert_eq!(names, wanted);
+            assert_eq!(grid::corner_count(p0), Ok(3));
+            assert_eq!(proved::corner_count(p0).count, 3);
         }
     }
 

@@ -8,9 +8,9 @@ use Rattle.cell.specs.Cell.{IsCell, IsArrangement}
 use Rattle.cell.specs.Neighbour.{rows, neighbourOf, backOf}
 use Rattle.cell.specs.Line.{Heading, IsHeading, Entered, opposite, onward, line, lineLength, reversed}
 use Rattle.cell.specs.Laws.Neighbour.{neighbour-is-cell, neighbour-resolution, back-small, back-returns, back-back, different}
-use Rattle.cell.specs.Internal.Faces.{IsWay, way}
-use Rattle.cell.specs.Internal.Crossing.{leftOf, behindOf, seen, left-small, behind-small, opposite-twice}
-use Rattle.cell.specs.Internal.Course.{on, round-on, apart-on}
+use Rattle.cell.specs.Laws.Faces.{IsWay, way}
+use Rattle.cell.specs.Laws.Crossing.{leftOf, behindOf, seen, left-small, behind-small, opposite-twice}
+use Rattle.cell.specs.Laws.Course.{on, round-on, apart-on}
 
 -- "from any cell, in any direction"
 pub any-heading : (c : Cell) (d : ℕ) → IsCell c → d < 4 → IsHeading (record { cell = c; direction = d })
@@ -32,12 +32,14 @@ module _ {a : Arrangement} (ok : IsArrangement a) where
       let r = back-returns d ok (v .cell) (v .direction) in
       ap opposite (different _ e ok (neighbour-is-cell d ok (v .cell) (v .direction)) (back-small a (h .cell) d) l (r ∙ sym p))
 
+  pub onward-heading : {h : Heading} → IsHeading h → IsHeading (onward a h)
+  unfolding onward
+  onward-heading {h} v = record { cell = neighbour-is-cell (h .direction) ok (v .cell) (v .direction); direction = omega arith }
+
   line-heading : {h : Heading} (n : ℕ) → IsHeading h → IsHeading (line a h n)
   unfolding line
   line-heading zero v = v
-  line-heading {h} (suc n) v =
-      let w = line-heading n v in
-      record { cell = neighbour-is-cell (line a h n .direction) ok (w .cell) (w .direction); direction = omega arith }
+  line-heading (suc n) v = onward-heading (line-heading n v)
 
   -- "visits .. cells of its resolution k"
   pub line-cell : {h : Heading} (n : ℕ) → IsHeading h → IsCell (line a h n .cell)

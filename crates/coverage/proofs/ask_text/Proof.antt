@@ -31,20 +31,14 @@ returns c =
       p .ensures .1,
     )
 
-slice-aggregate-say-text : tie.Need-slice-aggregate-say-text
-slice-aggregate-say-text c = search needs
-
-say-text-requires : tie.Need-say-text-requires
-say-text-requires c κs = search needs
-
 same-length-2 : tie.Need-same-length-2
 same-length-2 c = search needs
 
 returns-2 : tie.Need-returns-2
 returns-2 c =
-    let p = c .before .before .before .before .before .before .before .put-asked in (
-      subst (λ (x : Asked). Put 0 (askedLine x) (c .before .before .before .before .before .before .before .before .before .before .before .before .before .args .out .now) (p .last .1 .0) (p .result))
-          (c .before .before .before .before .before .before .before .before .before .ask-name .ensures) (p .ensures .0),
+    let p = c .before .before .before .before .before .put-asked in (
+      subst (λ (x : Asked). Put 0 (askedLine x) (c .before .before .before .before .before .before .before .before .before .before .before .args .out .now) (p .last .1 .0) (p .result))
+          (c .before .before .before .before .before .before .before .ask-name .ensures) (p .ensures .0),
       p .ensures .1,
     )
 
@@ -58,7 +52,5 @@ ask-text-spec =
     enum-told
     same-length
     returns
-    slice-aggregate-say-text
-    say-text-requires
     same-length-2
     returns-2)

@@ -34,12 +34,6 @@ put-all-names-requires c κs = search needs
 enum-known-refusal : tie.Need-enum-known-refusal
 enum-known-refusal c = search needs
 
-slice-aggregate-say-text : tie.Need-slice-aggregate-say-text
-slice-aggregate-say-text c = search needs
-
-say-text-requires : tie.Need-say-text-requires
-say-text-requires c κs = search needs
-
 put-line-requires : tie.Need-put-line-requires
 put-line-requires c κs = search needs
 
@@ -64,11 +58,11 @@ same-length-4 c = search needs
 
 returns-2 : tie.Need-returns-2
 returns-2 c =
-    let a = c .before .before .before .before .before .before .before .before .before .before .before .before .before .before .before .before .args in
+    let a = c .before .before .before .before .before .before .before .before .before .before .before .before .before .before .args in
     let p = c .before .before .put-line in
-    let fits : p .result ≤ length (a .out .now) = omega (arith, c .before .before .before .before .before .before .before .before .before .before .before .before .before .before .before .before .pre, p .ensures .1) in
-    let same = put-length 0 (numberLine (c .before .before .before .before .before .before .before .refusal .given .0 .0)) (a .out .now) (omega (arith, p .ensures .0 .ends)) in (
-      list-refused (a .text .now) (a .codes .now) (c .before .before .before .before .before .before .before .before .before .before .before .list .ensures .0) _ _ {later = p .last .1 .0} (c .before .before .before .before .before .before .before .refusal .given .1) (p .ensures .0) fits,
+    let fits : p .result ≤ length (a .out .now) = omega (arith, c .before .before .before .before .before .before .before .before .before .before .before .before .before .before .pre, p .ensures .1) in
+    let same = put-length 0 (numberLine (c .before .before .before .before .before .refusal .given .0 .0)) (a .out .now) (omega (arith, p .ensures .0 .ends)) in (
+      list-refused (a .text .now) (a .codes .now) (c .before .before .before .before .before .before .before .before .before .list .ensures .0) _ _ {later = p .last .1 .0} (c .before .before .before .before .before .refusal .given .1) (p .ensures .0) fits,
       omega (arith, same, ap length (p .ensures .0 .is)),
     )
 
@@ -82,8 +76,6 @@ list-text-spec =
     slice-aggregate-put-all-names
     put-all-names-requires
     enum-known-refusal
-    slice-aggregate-say-text
-    say-text-requires
     put-line-requires
     same-length
     same-length-2

@@ -1,7 +1,7 @@
 -- `jgv_corner_count` meets its contract. Assumes nothing.
 use mathlib.Core.Path.{sym, ap, _∙_}
 use Rattle.code.specs.Code.{cellOf}
-use Rattle.shape.specs.Shape.{shapeOf, cornersOf}
+use Rattle.corner.specs.Corner.{cornerNumber}
 use Rattle.jeguarivo.specs.Entries.{cornerCount}
 use Rattle.code.specs.Laws.Decoded.{decoded, undecoded}
 use Rattle.jeguarivo.proofs.Laws.{value-given, zero-given}
@@ -23,20 +23,17 @@ unfolding cornerCount
 returns c =
     let code = c .before .before .before .args .code in
     let u = undecoded code (c .before .before .cell-of .ensures) (c .enum-told .given .1) in
-    λ i. record { refusal = sym u i; count = zero-given (cornersOf (shapeOf (cellOf code))) 0 u i }
+    λ i. record { refusal = sym u i; count = zero-given (cornerNumber (cellOf code)) 0 u i }
 
-shape-of-requires : tie.Need-shape-of-requires
-shape-of-requires c κs = decoded _ (c .before .before .before .cell-of .ensures) (c .before .cell .given .1) .cell
-
-corners-requires : tie.Need-corners-requires
-corners-requires c κs = search needs
+count-requires : tie.Need-count-requires
+count-requires c κs = decoded _ (c .before .before .before .cell-of .ensures) (c .before .cell .given .1) .cell
 
 returns-2 : tie.Need-returns-2
 unfolding cornerCount
 returns-2 c =
-    let x = c .before .before .before in
+    let x = c .before .before in
     let d = decoded _ (x .before .before .cell-of .ensures) (x .cell .given .1) in
-    λ i. record { refusal = sym (d .allowed) i; count = value-given 0 (d .allowed) (c .corners .ensures ∙ ap cornersOf (c .before .shape-of .ensures ∙ ap shapeOf (d .is))) i }
+    λ i. record { refusal = sym (d .allowed) i; count = value-given 0 (d .allowed) (c .count .ensures ∙ ap cornerNumber (d .is)) i }
 
 pub jgv-corner-count-spec : {M : Type 1} → statement M
 jgv-corner-count-spec =
@@ -46,6 +43,5 @@ jgv-corner-count-spec =
     enum-known-cell
     enum-told
     returns
-    shape-of-requires
-    corners-requires
+    count-requires
     returns-2)

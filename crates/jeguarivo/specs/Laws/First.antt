@@ -26,6 +26,7 @@ use Rattle.cell.specs.Hierarchy.{parentOf, parentRefusal, childOf, childRefusal
 use Rattle.code.specs.Code.{codeOf, cellOf, cellCode, arrangementOf, isCode, isOf, codeRefusal, coded}
 use Rattle.code.specs.Laws.Code.{code-is-cell, code-cell, code-order, of-arrangement, arrangement-of}
 use Rattle.code.specs.Laws.Exact.{NoCell, no-cell, some-cell}
+use Rattle.corner.specs.List.{codesAt, cornersRefusal, cornered}
 use Rattle.name.specs.Name.{nameOf, firstLetter, isDigit, allDigits, nameRefusal, nameCode, codeNameRefusal, named}
 use Rattle.plane.specs.Plane.{squareOf, nucleusOf, verticesOf, pointRefusal, pointCell, inImage, inBelt, inNorth, inSouth, faceSide, half, threeHalves}
 use Rattle.locate.specs.Fix.{InRange, fixRefusal, fixCell, inRange}
@@ -51,13 +52,13 @@ use Rattle.jeguarivo.specs.declared.PointAnswer.{PointAnswer}
 use Rattle.jeguarivo.specs.declared.VerticesAnswer.{VerticesAnswer}
 use Rattle.jeguarivo.specs.declared.FixAnswer.{FixAnswer}
 use Rattle.jeguarivo.specs.Entries.{arrangement, codeAnswer, codeOfCell, nameAnswer, parentCode, childCode, pointCode, fixCode, neighbourCode, codeCell}
-use Rattle.jeguarivo.specs.Entries.{cellNumbers, nameNumbers, writtenName, cellSize, cellShape, cornerCount, placedAnswer, cellSquare}
+use Rattle.jeguarivo.specs.Entries.{cellNumbers, nameNumbers, writtenName, cellSize, cellShape, cornerCount, cornerNumbers, cornerCells, placedAnswer, cellSquare}
 use Rattle.jeguarivo.specs.Entries.{cellNucleus, cellVertices, groundFix, aSquare, noSquare, aPoint, noPoint, theVertices, noVertices, aFix, noFix}
 use Rattle.jeguarivo.specs.Texts.{checkNumbers, listNumbers, askNumbers, writtenNumbers}
 use Rattle.jeguarivo.specs.Order.{Chain, NoneOf, FirstOf}
 use Rattle.jeguarivo.specs.Laws.Order.{Decides, last, then, twice, lt-decides, le-decides, eq-decides, ltZ-decides, leZ-decides, not-decides, and-decides, or-decides}
 use Rattle.jeguarivo.specs.Refusals.{NoLetter, NoDigit, OnImage, arrangementTests, codeTests, textTests, cellTests, nameTests, codeNameTests}
-use Rattle.jeguarivo.specs.Refusals.{parentTests, childTests, pointTests, fixTests, neighbourTests, turnsOf, listTests, askTests, writeTests}
+use Rattle.jeguarivo.specs.Refusals.{cornersTests, parentTests, childTests, pointTests, fixTests, neighbourTests, turnsOf, listTests, askTests, writeTests}
 
 -- ---- what the tests decide
 
@@ -197,6 +198,12 @@ neighbour-first code d =
     (then (last 2 (lt-decides 3 d)) refl (λ _. code-first code))
 
 -- jgv_parent
+-- what jgv_corner_cells answers beside a refusal
+pub corners-refusal : (r count : ℕ) → cornerNumbers (cornered r count) .refusal ≡ r
+unfolding cornered
+corners-refusal zero count = refl
+corners-refusal (suc r) count = refl
+
 module _ (code : ℕ) where
   -- what no longer refuses a code
   real : (NoCell code → ⊥) → cellRefusal (cellOf code) ≡ 0
@@ -245,6 +252,13 @@ module _ (code : ℕ) where
   pub corner-first : FirstOf (codeTests code) (cornerCount code .refusal)
   unfolding cornerCount
   corner-first = code-first code
+
+  -- jgv_corner_cells
+  pub corners-first : (room : ℕ) → FirstOf (cornersTests code room) (cornerCells code room .refusal)
+  unfolding cornerCells cornersRefusal
+  corners-first room =
+      subst (FirstOf (cornersTests code room)) (sym (corners-refusal (cornersRefusal code room) (length (codesAt code))))
+      (then (code-first code) refl (λ _. last 7 (lt-decides room (length (codesAt code)))))
 
   -- jgv_code_name
   pub code-name-first : (room : ℕ) → FirstOf (codeNameTests code room) (writtenName code room .refusal)

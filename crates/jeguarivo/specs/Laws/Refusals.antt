@@ -17,6 +17,7 @@ use Rattle.code.specs.Code.{cellOf}
 use Rattle.code.specs.Laws.Code.{code-is-cell}
 use Rattle.code.specs.Laws.Exact.{NoCell}
 use Rattle.name.specs.Name.{nameOf, nameCode, nameRefusal}
+use Rattle.corner.specs.List.{codesAt}
 use Rattle.name.specs.Laws.Name.{accepted, name-accepted, name-code-is, code-name}
 use Rattle.reading.specs.Ground.{Apart}
 use Rattle.reading.specs.Text.{Accepted}
@@ -26,14 +27,14 @@ use Rattle.listing.specs.List.{listingRefusal, listed, codesOf}
 use Rattle.asking.specs.Ask.{askRefusal, asked}
 use Rattle.writing.specs.Write.{Another, asksFor, writeRefusal, textOf, written}
 use Rattle.locate.specs.Fix.{InRange}
-use Rattle.jeguarivo.specs.Entries.{arrangement, codeOfCell, nameAnswer, parentCode, childCode, pointCode, fixCode, neighbourCode, codeCell, writtenName, cellSquare}
+use Rattle.jeguarivo.specs.Entries.{arrangement, codeOfCell, nameAnswer, parentCode, childCode, pointCode, fixCode, neighbourCode, codeCell, writtenName, cornerCells, cellSquare}
 use Rattle.jeguarivo.specs.Texts.{checkNumbers, listNumbers, askNumbers, writtenNumbers}
 use Rattle.jeguarivo.specs.Order.{order, orderInWriting, numbers, inOrder, NoneOf}
 use Rattle.jeguarivo.specs.Laws.Order.{given-exactly, none-exactly}
 use Rattle.jeguarivo.specs.Refusals.{NoLetter, NoDigit, OnImage, codeTests, textTests, cellTests, nameTests, codeNameTests, parentTests, childTests}
-use Rattle.jeguarivo.specs.Refusals.{pointTests, fixTests, neighbourTests, turnsOf, listTests, askTests, writeTests}
+use Rattle.jeguarivo.specs.Refusals.{cornersTests, pointTests, fixTests, neighbourTests, turnsOf, listTests, askTests, writeTests}
 use Rattle.jeguarivo.specs.Laws.First.{name-refusal, cell-code-first, name-code-first, point-code-first, fix-code-first, neighbour-first, parent-first}
-use Rattle.jeguarivo.specs.Laws.First.{child-first, code-cell-first, code-name-first, square-first, check-first, list-first, ask-first, write-first}
+use Rattle.jeguarivo.specs.Laws.First.{child-first, code-cell-first, code-name-first, corners-first, square-first, check-first, list-first, ask-first, write-first}
 use Rattle.jeguarivo.specs.Laws.First.{of-grammar, of-order, of-version, asked-profile, of-profile}
 
 -- ---- "Order where several apply"
@@ -45,6 +46,7 @@ module _ (n s k f i j code digit room version depth : ℕ) (x y : ℤ) (bytes co
       numbers (codeTests code) ∷
       numbers (nameTests n s bytes) ∷
       numbers (codeNameTests code room) ∷
+      numbers (cornersTests code room) ∷
       numbers (parentTests code) ∷
       numbers (childTests code digit) ∷
       numbers (pointTests n s k x y) ∷
@@ -54,7 +56,7 @@ module _ (n s k f i j code digit room version depth : ℕ) (x y : ℤ) (bytes co
       numbers (listTests bytes room) ∷
       numbers (askTests bytes code) ∷ [])
   unfolding inOrder
-  in-order = (refl, (refl, (refl, (refl, (refl, (refl, (refl, (refl, (refl, (refl, (refl, (refl, tt))))))))))))
+  in-order = (refl, (refl, (refl, (refl, (refl, (refl, (refl, (refl, (refl, (refl, (refl, (refl, (refl, tt)))))))))))))
 
   -- "in writing, 13 is judged on the text of a good list, so there it comes last but for 8"
   pub in-order-writing : inOrder orderInWriting (numbers (writeTests version depth n s codes room)) ≡ true
@@ -153,6 +155,13 @@ module _ (code : ℕ) where
   -- 8: "lent buffer shorter than the answer", a name
   pub eight-name : (room : ℕ) → (writtenName code room .refusal ≡ 8) ↔ ((NoCell code → ⊥) × (room < length (nameOf (cellOf code))))
   eight-name room = given-exactly 7 (code-name-first code room) refl
+
+  -- the same two of the list of cells at a corner
+  pub four-corners : (room : ℕ) → (cornerCells code room .refusal ≡ 4) ↔ NoCell code
+  four-corners room = given-exactly 3 (corners-first code room) refl
+
+  pub eight-corners : (room : ℕ) → (cornerCells code room .refusal ≡ 8) ↔ ((NoCell code → ⊥) × (room < length (codesAt code)))
+  eight-corners room = given-exactly 7 (corners-first code room) refl
 
 -- ---- in an arrangement
 

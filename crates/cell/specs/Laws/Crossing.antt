@@ -13,7 +13,7 @@ use Rattle.cell.specs.Neighbour.{rows, belt, turnOf, turnNorth, turnSout
 use Rattle.cell.specs.Laws.Turns.{four-cases, four-all, face-cases, north-small, south-small}
 use Rattle.cell.specs.Internal.Seams.{Leads, ends, leads-inside, leads-north, leads-south, leads-belt}
 use Rattle.cell.specs.Line.{opposite}
-use Rattle.cell.specs.Internal.Faces.{Way, IsWay, way, beltNext, nextFace}
+use Rattle.cell.specs.Laws.Faces.{Way, IsWay, way, beltNext, nextFace, rightward}
 
 abbrev pub place : (k f i j : ℕ) → Cell
 place k f i j = record { face = f; resolution = k; row = i; column = j }
@@ -73,8 +73,29 @@ module _ (k : ℕ) (w : Way) (v : IsWay w) (l b : ℕ) (hl : l < 3 ^ k) (hb : b 
   in-face-behind =
       four-cases (λ (e : ℕ). behindOf (inFace k (way (w .face) e) l b) e ≡ b) (omega arith) refl refl (omega arith) (w .direction) (v .directed)
 
+  pub in-face-cell : k ≤ 15 → IsCell (inFace k w l b)
+  unfolding inFace
+  in-face-cell h =
+      four-all (λ (x : Cell). IsCell x) (w .direction)
+      (record { fine = h; faced = v .faced; rowed = omega arith; columned = omega arith })
+      (record { fine = h; faced = v .faced; rowed = omega arith; columned = omega arith })
+      (record { fine = h; faced = v .faced; rowed = omega arith; columned = omega arith })
+      (record { fine = h; faced = v .faced; rowed = omega arith; columned = omega arith })
+
+  -- the same cell, its face crossed to the right
+  pub in-face-right : inFace k w l b ≡ inFace k (rightward w) (last k - b) l
+  unfolding inFace
+  in-face-right =
+      four-cases (λ (e : ℕ). inFace k (way (w .face) e) l b ≡ inFace k (rightward (way (w .face) e)) (last k - b) l)
+      refl
+      (placed k _ refl (omega arith))
+      (placed k _ (omega arith) refl)
+      refl
+      (w .direction)
+      (v .directed)
+
   -- with a cell of the face ahead, and with none
-  goes-on : b + 1 < 3 ^ k → leaves (inFace k w l b) (w .direction) ≡ false
+  pub goes-on : b + 1 < 3 ^ k → leaves (inFace k w l b) (w .direction) ≡ false
   unfolding inFace leaves
   goes-on h =
       let f = w .face in
@@ -86,7 +107,7 @@ module _ (k : ℕ) (w : Way) (v : IsWay w) (l b : ℕ) (hl : l < 3 ^ k) (hb : b 
       (w .direction)
       (v .directed)
 
-  at-edge : b + 1 ≡ 3 ^ k → leaves (inFace k w l b) (w .direction) ≡ true
+  pub at-edge : b + 1 ≡ 3 ^ k → leaves (inFace k w l b) (w .direction) ≡ true
   unfolding inFace leaves
   at-edge h =
       let f = w .face in

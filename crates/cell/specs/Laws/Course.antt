@@ -13,8 +13,8 @@ use Rattle.cell.specs.Cell.{IsArrangement}
 use Rattle.cell.specs.Neighbour.{backOf}
 use Rattle.cell.specs.Internal.Seams.{Leads}
 use Rattle.cell.specs.Line.{Heading, opposite, onward, line}
-use Rattle.cell.specs.Internal.Faces.{Way, IsWay, nextFace, faceAfter, next-way, way-after, fourth, others}
-use Rattle.cell.specs.Internal.Crossing.{last, behindOf, inFace, in-face-face, in-face-behind, ahead, crosses}
+use Rattle.cell.specs.Laws.Faces.{Way, IsWay, nextFace, faceAfter, next-way, way-after, fourth, others}
+use Rattle.cell.specs.Laws.Crossing.{last, behindOf, inFace, in-face-face, in-face-behind, ahead, crosses}
 
 -- the heading with so many cells of the face to the left and behind
 abbrev pub on : (k : ℕ) → Way → (left behind : ℕ) → Heading
@@ -28,10 +28,10 @@ moved {a} {c} {x} {d} {e} s h =
 
 module _ {a : Arrangement} (ok : IsArrangement a) (k l : ℕ) (hl : l < 3 ^ k) where
   -- a move inside a face, and one across its edge
-  on-ahead : {w : Way} → IsWay w → (b : ℕ) → suc b < 3 ^ k → onward a (on k w l b) ≡ on k w l (suc b)
+  pub on-ahead : {w : Way} → IsWay w → (b : ℕ) → suc b < 3 ^ k → onward a (on k w l b) ≡ on k w l (suc b)
   on-ahead {w} v b h = moved (rw add-one at (ahead k w v l b hl (omega arith) a (omega arith))) (v .directed)
 
-  on-across : {w : Way} → IsWay w → (b : ℕ) → suc b ≡ 3 ^ k → onward a (on k w l b) ≡ on k (nextFace a w) l 0
+  pub on-across : {w : Way} → IsWay w → (b : ℕ) → suc b ≡ 3 ^ k → onward a (on k w l b) ≡ on k (nextFace a w) l 0
   on-across {w} v b h = moved (crosses a k l b hl (omega arith) w v) (next-way ok v .directed)
 
   -- after n moves, s edges lie behind, and r cells of the face

@@ -14,6 +14,7 @@ use Rattle.cell.specs.declared.Arrangement.{Arrangement}
 use Rattle.cell.specs.Cell.{IsArrangement}
 use Rattle.cell.specs.Neighbour.{belt, byFace, turnOf, turnNorth, turnSouth}
 use Rattle.cell.specs.Line.{opposite}
+use Rattle.cell.specs.Laws.Towards.{facing}
 
 -- a face, and the direction in which it is crossed
 pub record Way : Type 0 where
@@ -46,6 +47,10 @@ unfoldable pub faceAfter : Arrangement → ℕ → Way → Way
 unfolding nextFace
 faceAfter a zero w = w
 faceAfter a (suc n) w = nextFace a (faceAfter a n w)
+
+-- the same face, crossed to the right
+abbrev pub rightward : Way → Way
+rightward w = way (w .face) ((w .direction + 1) % 4)
 
 -- ---- a rule that is computed for every number below a bound, and for every arrangement, face and direction
 every : ℕ → (ℕ → Bool) → Bool
@@ -86,12 +91,15 @@ module _ {a : Arrangement} {w : Way} (ok : IsArrangement a) (v : IsWay w) where
         directed = ltb-true (nextFace a w .direction) 4 (passes (λ b x. ltb (nextFace b x .direction) 4) refl);
       }
 
+  equal : (f g : Arrangement → Way → ℕ) → everywhere (λ b x. eqb (f b x) (g b x)) ≡ true → f a w ≡ g a w
+  equal f g e = eqb-true (f a w) (g a w) (passes (λ b x. eqb (f b x) (g b x)) e)
+
   -- the fourth edge leads back to the first face, in the same direction
   pub fourth : faceAfter a 4 w ≡ w
   unfolding everywhere faceAfter
   fourth =
-      let p = eqb-true (faceAfter a 4 w .face) (w .face) (passes (λ b x. eqb (faceAfter b 4 x .face) (x .face)) refl) in
-      let q = eqb-true (faceAfter a 4 w .direction) (w .direction) (passes (λ b x. eqb (faceAfter b 4 x .direction) (x .direction)) refl) in
+      let p = equal (λ b x. faceAfter b 4 x .face) (λ b x. x .face) refl in
+      let q = equal (λ b x. faceAfter b 4 x .direction) (λ b x. x .direction) refl in
       λ i. record { face = p i; direction = q i }
 
   -- and the three before lead to others
@@ -100,6 +108,19 @@ module _ {a : Arrangement} {w : Way} (ok : IsArrangement a) (v : IsWay w) where
   others n h =
       let p = passes (λ b x. every 3 (λ m. not (eqb (faceAfter b (suc m) x .face) (x .face)))) refl in
       eqb-false (faceAfter a (suc n) w .face) (w .face) (not-true _ (each 3 (λ m. not (eqb (faceAfter a (suc m) w .face) (w .face))) p n h))
+
+  -- three faces meet at a corner: ahead and then right is right and then ahead
+  pub faces-meet : nextFace a (rightward (nextFace a w)) ≡ rightward (nextFace a (rightward w))
+  unfolding everywhere nextFace
+  faces-meet =
+      let p = equal (λ b x. nextFace b (rightward (nextFace b x)) .face) (λ b x. nextFace b (rightward x) .face) refl in
+      let q = equal (λ b x. nextFace b (rightward (nextFace b x)) .direction) (λ b x. rightward (nextFace b (rightward x)) .direction) refl in
+      λ i. record { face = p i; direction = q i }
+
+  -- the next face lies in the direction in which this one is crossed
+  pub facing-next : facing a (w .face) (nextFace a w .face) ≡ w .direction
+  unfolding everywhere nextFace facing
+  facing-next = equal (λ b x. facing b (x .face) (nextFace b x .face)) (λ b x. x .direction) refl
 
 pub way-after : {a : Arrangement} {w : Way} → IsArrangement a → IsWay w → (n : ℕ) → IsWay (faceAfter a n w)
 unfolding faceAfter

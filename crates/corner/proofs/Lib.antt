@@ -1,0 +1,3 @@
+pub mod Answers
+pub mod Fill
+pub mod Laws
