@@ -1,4 +1,5 @@
-// PROJ: the planar point of +proj=rhealpix on the sphere, by one proj_trans for each position. It gives no cell.
+// PROJ: the planar point of +proj=rhealpix on the sphere, by one proj_trans for each position. It gives no cell. And the authalic sine, which PROJ
+// gives to no caller by itself: the y of +proj=cea on WGS84 is that times a constant.
 #include <cstddef>
 #include <cstdint>
 #include <cstring>
@@ -10,8 +11,7 @@ static uint64_t bits(double x) {
     return word;
 }
 
-extern "C" uint64_t bench_proj(const double *longitude, const double *latitude, size_t count) {
-    static PJ *pj = proj_create(PJ_DEFAULT_CTX, "+proj=rhealpix +R=1 +north_square=0 +south_square=0");
+static uint64_t points(PJ *pj, const double *longitude, const double *latitude, size_t count) {
     if (!pj) return 0;
     uint64_t sum = 0;
     for (size_t i = 0; i < count; i++) {
@@ -19,4 +19,14 @@ extern "C" uint64_t bench_proj(const double *longitude, const double *latitude, 
         sum = (sum << 1 | sum >> 63) ^ bits(at.xy.x) ^ bits(at.xy.y);
     }
     return sum;
+}
+
+extern "C" uint64_t bench_proj(const double *longitude, const double *latitude, size_t count) {
+    static PJ *pj = proj_create(PJ_DEFAULT_CTX, "+proj=rhealpix +R=1 +north_square=0 +south_square=0");
+    return points(pj, longitude, latitude, count);
+}
+
+extern "C" uint64_t bench_proj_authalic(const double *longitude, const double *latitude, size_t count) {
+    static PJ *pj = proj_create(PJ_DEFAULT_CTX, "+proj=cea +ellps=WGS84");
+    return points(pj, longitude, latitude, count);
 }

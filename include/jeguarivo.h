@@ -13,7 +13,7 @@
  *    3  later name byte not 0 to 8, row or column not below 3^resolution, child digit above 8, direction above 3
  *    4  a code is no cell's
  *    5  n or s above 3
- *    6  longitude or z out of range
+ *    6  longitude, z, sine or eccentricity out of range
  *    7  planar point outside the image
  *    8  lent buffer shorter than the answer
  *    9  text not of the grammar; `place` is then the length of the longest leading part that some accepted text of either version begins with
@@ -53,6 +53,7 @@ typedef struct { uint64_t refusal; int64_t left, top, side; } jgv_square_answer;
 typedef struct { uint64_t refusal; int64_t x, y; } jgv_point;
 typedef struct { uint64_t refusal; int64_t x[4], y[4]; } jgv_vertices_answer;
 typedef struct { uint64_t refusal; int64_t longitude, z; } jgv_fix;
+typedef struct { uint64_t refusal; int64_t z; } jgv_z;
 typedef struct { uint64_t refusal, place, version, depth, n, s, cells, size; } jgv_check;
 typedef struct { uint64_t refusal, place, count; } jgv_list;
 typedef struct { uint64_t refusal, place, covered; } jgv_ask;
@@ -107,6 +108,14 @@ jgv_code jgv_point_code(uint64_t n, uint64_t s, uint64_t resolution, int64_t x, 
  * degree, where both ends are the antimeridian and get the same cell, and z, the sine of the authalic latitude, from -10^18 to 10^18 in units
  * of 10^-18. Refusals 5, 2, 6. */
 jgv_code jgv_fix_code(uint64_t n, uint64_t s, uint64_t resolution, int64_t longitude, int64_t z);
+
+/* z from a geodetic latitude: `sine` is its sine, from -10^18 to 10^18 in units of 10^-18, and `eccentricity` the squared eccentricity of the
+ * ellipsoid, from 0 to 10,000,000,000 in units of 10^-12 (WGS84: 6,694,379,990). The answer is within one unit of the exact authalic sine, odd
+ * in the sine and never falling as it rises; exact at the equator, at both poles and with eccentricity 0. Refusal 6. */
+jgv_z jgv_geodetic_z(int64_t sine, uint64_t eccentricity);
+
+/* The cell of a resolution in which a fix with a geodetic latitude lies: jgv_fix_code with the z of jgv_geodetic_z. Refusals 5, 2, 6. */
+jgv_code jgv_geodetic_code(uint64_t n, uint64_t s, uint64_t resolution, int64_t longitude, int64_t sine, uint64_t eccentricity);
 
 /* The longitude and z of a cell's middle on the ground, each floored to a whole unit: a fix that lies in that cell. Refusal 4. */
 jgv_fix jgv_ground_nucleus(uint64_t code);

@@ -1,10 +1,13 @@
-//! Fix to code at resolution 15, and the ground nucleus.
+//! Fix to code at resolution 15, also from the sine of a geodetic latitude, and the ground nucleus.
 
 use crate::inputs::{codes, Points, Random};
-use crate::library::{FixCode, Fold, GroundNucleus};
+use crate::library::{FixCode, Fold, GeodeticCode, GeodeticZ, GroundNucleus};
 use crate::measure::{compare, pair, Plan, Row, Side, Work};
-use crate::plain::fixes::{fix_code, ground_nucleus};
-use jeguarivo::{jgv_fix_code, jgv_ground_nucleus};
+use crate::plain::fixes::{
+    fix_code, geodetic_code, geodetic_z, geodetic_z_divided, ground_nucleus,
+};
+use jeguarivo::{jgv_fix_code, jgv_geodetic_code, jgv_geodetic_z, jgv_ground_nucleus};
+use std::hint::black_box;
 
 #[cfg(any(healpix, proj, s2))]
 mod shims {
@@ -13,12 +16,20 @@ mod shims {
         pub fn bench_healpix(z: *const f64, phi: *const f64, count: usize) -> u64;
         #[cfg(proj)]
         pub fn bench_proj(longitude: *const f64, latitude: *const f64, count: usize) -> u64;
+        #[cfg(proj)]
+        pub fn bench_proj_authalic(
+            longitude: *const f64,
+            latitude: *const f64,
+            count: usize,
+        ) -> u64;
         #[cfg(s2)]
         pub fn bench_s2(longitude: *const f64, latitude: *const f64, count: usize) -> u64;
     }
 }
 
 const BELT: i64 = 666_666_666_666_666_666;
+
+const WGS84: u64 = 6_694_379_990;
 
 pub fn run(plan: Plan, random: &mut Random) -> Vec<Row> {
     let count = plan.count(20_000);
@@ -35,6 +46,7 @@ pub fn run(plan: Plan, random: &mut Random) -> Vec<Row> {
         let points = Points::new(random, count, keep);
         rows.extend(compare(plan, Work::new(work, count), sides(&points, goals)));
     }
+    rows.extend(geodetic(plan, random, count));
     rows.extend(nucleus(plan, random, count));
     rows
 }
@@ -86,6 +98,43 @@ fn others<'a>(points: &'a Points, goal: impl Fn(f64) -> Option<f64>, sides: &mut
             shims::bench_s2(points.longitude.as_ptr(), points.latitude.as_ptr(), count)
         }),
     );
+}
+
+/// z from the sine of a geodetic latitude on WGS84, and the cell of such a fix.
+fn geodetic(plan: Plan, random: &mut Random, count: usize) -> Vec<Row> {
+    let points = Points::new(random, count, |_| true);
+    let sines = &points.fixes;
+    let pass = |entry: GeodeticZ, _| {
+        let sum = |sum, &(_, sine): &(i64, i64)| entry(sine, WGS84).fold(sum);
+        sines.iter().fold(0, sum)
+    };
+    let mut sides = pair::<GeodeticZ>(Some(1.1), jgv_geodetic_z, geodetic_z, pass);
+    let divided: GeodeticZ = geodetic_z_divided;
+    sides.push(Side {
+        name: "plain Rust, dividing u128",
+        same: false,
+        goal: Some(1.1),
+        pass: Box::new(move |turn| pass(black_box(divided), turn)),
+    });
+    #[cfg(proj)]
+    sides.push(Side {
+        name: "PROJ `cea`",
+        same: false,
+        goal: None,
+        pass: Box::new(|_| unsafe {
+            let (east, north) = (points.longitude.as_ptr(), points.latitude.as_ptr());
+            shims::bench_proj_authalic(east, north, count)
+        }),
+    });
+    let mut rows = compare(plan, Work::new("geodetic sine to z, WGS84", count), sides);
+    let sides = pair::<GeodeticCode>(Some(1.1), jgv_geodetic_code, geodetic_code, |entry, _| {
+        sines.iter().fold(0, |sum, &(longitude, sine)| {
+            entry(0, 0, 15, longitude, sine, WGS84).fold(sum)
+        })
+    });
+    let work = Work::new("geodetic fix to code, resolution 15, WGS84", count);
+    rows.extend(compare(plan, work, sides));
+    rows
 }
 
 fn nucleus(plan: Plan, random: &mut Random, count: usize) -> Vec<Row> {

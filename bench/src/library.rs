@@ -1,12 +1,14 @@
 //! The entries, of the library and of the plain Rust beside it, and a sum over their answers.
 
-use jeguarivo::{Ask, Cell, Check, Code, Fix, Length, List, Name};
+use jeguarivo::{Ask, Cell, Check, Code, Fix, Length, List, Name, Z};
 
 pub type CellCode = extern "C" fn(u64, u64, u64, u64, u64, u64) -> Code;
 pub type CodeCell = extern "C" fn(u64) -> Cell;
 pub type NameCode = unsafe extern "C" fn(u64, u64, *const u8, usize) -> Code;
 pub type CodeName = unsafe extern "C" fn(u64, *mut u8, usize) -> Name;
 pub type FixCode = extern "C" fn(u64, u64, u64, i64, i64) -> Code;
+pub type GeodeticZ = extern "C" fn(i64, u64) -> Z;
+pub type GeodeticCode = extern "C" fn(u64, u64, u64, i64, i64, u64) -> Code;
 pub type GroundNucleus = extern "C" fn(u64) -> Fix;
 pub type Neighbour = extern "C" fn(u64, u64) -> Code;
 pub type CoverageCheck = unsafe extern "C" fn(*const u8, usize) -> Check;
@@ -40,6 +42,7 @@ folds! {
     Name { n, s, length }
     Length { length }
     Fix { longitude, z }
+    Z { z }
     Check { place, version, depth, n, s, cells, size }
     List { place, count }
     Ask { place, covered }

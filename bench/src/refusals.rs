@@ -3,11 +3,14 @@
 use crate::inputs::{code, swath, Random};
 use crate::plain::codes::{cell_code, code_cell, code_name, name_code};
 use crate::plain::coverage::{coverage_ask, coverage_check, coverage_list};
-use crate::plain::fixes::{fix_code, ground_nucleus};
+use crate::plain::fixes::{
+    fix_code, geodetic_code, geodetic_z, geodetic_z_divided, ground_nucleus,
+};
 use crate::plain::neighbour::neighbour;
 use crate::plain::writing::{coverage_write, write, Profile};
 use jeguarivo::{
-    jgv_cell_code, jgv_code_cell, jgv_fix_code, jgv_ground_nucleus, jgv_neighbour, lent,
+    jgv_cell_code, jgv_code_cell, jgv_fix_code, jgv_geodetic_code, jgv_geodetic_z,
+    jgv_ground_nucleus, jgv_neighbour, lent,
 };
 use std::fmt::Debug;
 
@@ -73,8 +76,28 @@ fn numbers(random: &mut Random) {
         jgv_neighbour(code, direction),
         neighbour(code, direction),
     );
+    geodetic(random, n, s, k, longitude, z);
     edges(random, n, s, k);
     ends(random, n, s, k);
+}
+
+/// A sine, or an end of its range or a unit beside it, on a sphere, WGS84, the flattest ellipsoid or any, or one past that.
+fn geodetic(random: &mut Random, n: u64, s: u64, k: u64, longitude: i64, z: i64) {
+    let end = 1_000_000_000_000_000_000 + random.between(-1, 1);
+    let sine = [z, z >> random.below(62), end, -end][random.below(4) as usize];
+    let any = random.below(10_000_000_001);
+    let eccentricity =
+        [0, 6_694_379_990, 10_000_000_000, 10_000_000_001, any][random.below(5) as usize];
+    let library = jgv_geodetic_z(sine, eccentricity);
+    same("geodetic sine", library, geodetic_z(sine, eccentricity));
+    let divided = geodetic_z_divided(sine, eccentricity);
+    let near = divided.refusal == library.refusal && divided.z.abs_diff(library.z) <= 1;
+    same("geodetic sine by a division, within 1", true, near);
+    same(
+        "geodetic fix",
+        jgv_geodetic_code(n, s, k, longitude, sine, eccentricity),
+        geodetic_code(n, s, k, longitude, sine, eccentricity),
+    );
 }
 
 /// The ends of the ranges and a unit beside them: the antimeridian by both of its numbers, the belt's borders, the poles.

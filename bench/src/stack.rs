@@ -145,6 +145,8 @@ fn numbers(inputs: &Inputs) -> Vec<(&'static str, usize)> {
         jgv_vertices: codes, &code => (code);
         jgv_point_code: points, &(x, z) => (0, 0, z as u64 & 15, x.abs() % 114_791_256, z % 43_046_721);
         jgv_fix_code: points, &(longitude, z) => (z as u64 & 3, 0, longitude as u64 & 15, longitude, z);
+        jgv_geodetic_z: points, &(longitude, sine) => (sine, longitude.unsigned_abs() << 2);
+        jgv_geodetic_code: points, &(longitude, sine) => (sine as u64 & 3, 0, longitude as u64 & 15, longitude, sine, longitude.unsigned_abs() << 2);
         jgv_ground_nucleus: codes, &code => (code);
         jgv_neighbour: codes, &code => (code, code >> 12 & 3);
     }

@@ -137,6 +137,20 @@ static void print_fix(uint64_t n, uint64_t resolution, int64_t longitude, int64_
            name_of(code_in(jgv_fix_code(n, 0, resolution, longitude, z))).text);
 }
 
+static void print_z(int64_t sine, uint64_t eccentricity) {
+    jgv_z answer = jgv_geodetic_z(sine, eccentricity);
+    printf("geodetic_z: sine %" PRId64 ", eccentricity %" PRIu64 " -> ", sine, eccentricity);
+    if (answer.refusal)
+        printf("refused with %" PRIu64 "\n", answer.refusal);
+    else
+        printf("%" PRId64 "\n", answer.z);
+}
+
+static void print_geodetic(int64_t longitude, int64_t sine, uint64_t eccentricity) {
+    printf("geodetic_code: longitude %" PRId64 ", sine %" PRId64 ", eccentricity %" PRIu64 ", resolution 1 -> %s\n", longitude, sine,
+           eccentricity, name_of(code_in(jgv_geodetic_code(0, 0, 1, longitude, sine, eccentricity))).text);
+}
+
 static void print_ground_nucleus(const char *name) {
     jgv_fix fix = jgv_ground_nucleus(code_of(name));
     expect_answer(fix.refusal);
@@ -153,6 +167,17 @@ static void ground(void) {
     print_fix(1, 1, -900000000, 880000000000000000);
     print_fix(0, 1, -900000000, -880000000000000000);
     print_fix(0, 2, -1350000000, 970000000000000000);
+
+    /* A fix with the sine of its geodetic latitude on WGS84, by the squared eccentricity in units of 10^-12: 0.668 lies in the belt there, and past it
+     * on a sphere. */
+    const uint64_t wgs84 = 6694379990;
+    print_z(100000000000000000, wgs84);
+    print_z(-100000000000000000, wgs84);
+    print_z(1000000000000000000, wgs84);
+    print_z(100000000000000000, 0);
+    print_z(0, 10000000001);
+    print_geodetic(-1350000000, 668000000000000000, wgs84);
+    print_geodetic(-1350000000, 668000000000000000, 0);
 
     /* Back from a cell to the fix of its middle; both numbers are floored, so P6 is no mirror of P0. */
     print_ground_nucleus("Q");

@@ -18,6 +18,7 @@ from typing import Iterable, List, NamedTuple, Optional, Tuple, Union
 UP, RIGHT, DOWN, LEFT = range(4)
 SHAPES = ("quad", "cap", "dart", "skew quad")
 LONGEST_NAME, LONGEST_TEXT, MOST_AT_CORNERS = 16, 65536, 4
+WGS84 = 6_694_379_990  # the squared eccentricity, in units of 10^-12
 
 REASONS = {
     1: "a face above 5, an empty name, or a name that does not start with N to S",
@@ -25,7 +26,7 @@ REASONS = {
     3: "a name byte that is no digit 0 to 8, a row or column outside the face, a child digit above 8, or a direction above 3",
     4: "a number that is no cell's code",
     5: "n or s above 3",
-    6: "a longitude or z out of range",
+    6: "a longitude, z, sine or eccentricity out of range",
     7: "a point outside the image of the plane",
     8: "a buffer shorter than the answer",
     9: "a text that is not of the grammar",
@@ -97,6 +98,7 @@ _Square = _struct("jgv_square_answer", c_int64, "left", "top", "side")
 _Point = _struct("jgv_point", c_int64, "x", "y")
 _Vertices = _struct("jgv_vertices_answer", c_int64 * 4, "x", "y")
 _Fix = _struct("jgv_fix", c_int64, "longitude", "z")
+_Z = _struct("jgv_z", c_int64, "z")
 _Check = _struct("jgv_check", c_uint64, "place", "version", "depth", "n", "s", "cells", "size")
 _List = _struct("jgv_list", c_uint64, "place", "count")
 _Ask = _struct("jgv_ask", c_uint64, "place", "covered")
@@ -157,6 +159,8 @@ _nucleus = _entry("jgv_nucleus", _Point, _U64)
 _vertices = _entry("jgv_vertices", _Vertices, _U64)
 _point_code = _entry("jgv_point_code", _Code, _U64, _U64, _U64, _I64, _I64)
 _fix_code = _entry("jgv_fix_code", _Code, _U64, _U64, _U64, _I64, _I64)
+_geodetic_z = _entry("jgv_geodetic_z", _Z, _I64, _U64)
+_geodetic_code = _entry("jgv_geodetic_code", _Code, _U64, _U64, _U64, _I64, _I64, _U64)
 _ground_nucleus = _entry("jgv_ground_nucleus", _Fix, _U64)
 _neighbour = _entry("jgv_neighbour", _Code, _U64, _U64)
 _coverage_check = _entry("jgv_coverage_check", _Check, _BYTES, c_size_t)
@@ -246,6 +250,16 @@ def point_code(n: int, s: int, resolution: int, x: int, y: int) -> int:
 def fix_code(n: int, s: int, resolution: int, longitude: int, z: int) -> int:
     """The cell in which a fix lies: longitude in units of 10^-7 degree, z (the sine of the authalic latitude) in units of 10^-18."""
     return _fix_code(n, s, resolution, longitude, z).code
+
+
+def geodetic_z(sine: int, eccentricity: int) -> int:
+    """z from the sine of a geodetic latitude, in units of 10^-18, and a squared eccentricity in units of 10^-12, such as WGS84."""
+    return _geodetic_z(sine, eccentricity).z
+
+
+def geodetic_code(n: int, s: int, resolution: int, longitude: int, sine: int, eccentricity: int) -> int:
+    """The cell in which a fix with a geodetic latitude lies: that of the fix with `geodetic_z`."""
+    return _geodetic_code(n, s, resolution, longitude, sine, eccentricity).code
 
 
 def ground_nucleus(code: int) -> Fix:

@@ -83,6 +83,20 @@ def ground():
         turned = ", n 1" if n == 1 else ""
         print(f"fix_code: longitude {longitude}, z {z}, resolution {resolution}{turned} -> {name}")
 
+    # A fix with the sine of its geodetic latitude on WGS84: 0.668 lies in the belt there, and past it on a sphere.
+    tenth = 100_000_000_000_000_000
+    sines = ((tenth, jgv.WGS84), (-tenth, jgv.WGS84), (10 * tenth, jgv.WGS84), (tenth, 0), (0, 10_000_000_001))
+    for sine, eccentricity in sines:
+        try:
+            answer = jgv.geodetic_z(sine, eccentricity)
+        except jgv.Refused as refused:
+            answer = f"refused with {refused.number}"
+        print(f"geodetic_z: sine {sine}, eccentricity {eccentricity} -> {answer}")
+    for eccentricity in (jgv.WGS84, 0):
+        longitude, sine = -1_350_000_000, 668_000_000_000_000_000
+        name = code_name(jgv.geodetic_code(0, 0, 1, longitude, sine, eccentricity))
+        print(f"geodetic_code: longitude {longitude}, sine {sine}, eccentricity {eccentricity}, resolution 1 -> {name}")
+
     # Back from a cell to the fix of its middle; both numbers are floored, so P6 is no mirror of P0.
     for name in ("Q", "P0", "P6", "N4"):
         fix = jgv.ground_nucleus(code_of(name))

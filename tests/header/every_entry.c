@@ -33,6 +33,7 @@ ANSWER(jgv_point, 24); SIGNED(jgv_point, x, 8); SIGNED(jgv_point, y, 16);
 ANSWER(jgv_vertices_answer, 72); SIGNED(jgv_vertices_answer, x[0], 8); SIGNED(jgv_vertices_answer, x[3], 32);
 SIGNED(jgv_vertices_answer, y[0], 40); SIGNED(jgv_vertices_answer, y[3], 64);
 ANSWER(jgv_fix, 24); SIGNED(jgv_fix, longitude, 8); SIGNED(jgv_fix, z, 16);
+ANSWER(jgv_z, 16); SIGNED(jgv_z, z, 8);
 ANSWER(jgv_check, 64); UNSIGNED(jgv_check, place, 8); UNSIGNED(jgv_check, version, 16); UNSIGNED(jgv_check, depth, 24);
 UNSIGNED(jgv_check, n, 32); UNSIGNED(jgv_check, s, 40); UNSIGNED(jgv_check, cells, 48); UNSIGNED(jgv_check, size, 56);
 ANSWER(jgv_list, 24); UNSIGNED(jgv_list, place, 8); UNSIGNED(jgv_list, count, 16);
@@ -481,6 +482,54 @@ static void no_fix_code(void) {
     NO_CODE(jgv_fix_code(0, 0, 16, INT64_MAX, 0), 2);
 }
 
+#define SINE(call, want_refusal, want) CHECK_ONE(jgv_z, z, call, want_refusal, want)
+#define WGS84 UINT64_C(6694379990)
+#define MOST UINT64_C(10000000000)
+
+/* Each sine's exact quotient, by fractions of whole numbers, is less than 1/6 from the whole number given, so no other is within 5/6. */
+static void geodetic_z(void) {
+    SINE(jgv_geodetic_z(0, WGS84), 0, 0);
+    SINE(jgv_geodetic_z(ONE, WGS84), 0, ONE);
+    SINE(jgv_geodetic_z(-ONE, WGS84), 0, -ONE);
+    SINE(jgv_geodetic_z(ONE, MOST), 0, ONE);
+    SINE(jgv_geodetic_z(1, WGS84), 0, 1);
+    SINE(jgv_geodetic_z(-999999, WGS84), 0, -995529);
+    SINE(jgv_geodetic_z(100000000000000000, WGS84), 0, 99557452082510289);
+    SINE(jgv_geodetic_z(-300000000000000000, WGS84), 0, -298779051836825872);
+    SINE(jgv_geodetic_z(700000000000000000, WGS84), 0, 698399514111175776);
+    SINE(jgv_geodetic_z(900000000000000000, WGS84), 0, 899231894228880077);
+    SINE(jgv_geodetic_z(999999999999999999, WGS84), 0, 999999999999999999);
+    SINE(jgv_geodetic_z(-707106781186547525, MOST), 0, -704733546829349858);
+    SINE(jgv_geodetic_z(500300000000000000, MOST), 0, 497787978315287470);
+    SINE(jgv_geodetic_z(500000000000000000, 1), 0, 499999999999750000);
+    SINE(jgv_geodetic_z(707106781186547525, 0), 0, 707106781186547525); /* a sphere */
+    SINE(jgv_geodetic_z(ONE + 1, WGS84), 6, 0);
+    SINE(jgv_geodetic_z(-ONE - 1, WGS84), 6, 0);
+    SINE(jgv_geodetic_z(INT64_MIN, 0), 6, 0);
+    SINE(jgv_geodetic_z(ONE, MOST + 1), 6, 0);
+    SINE(jgv_geodetic_z(ONE, WGS84 + WIDE), 6, 0);
+    SINE(jgv_geodetic_z(0, UINT64_MAX), 6, 0);
+}
+
+/* 0.668 lies past the belt's border; its authalic sine on WGS84 is 0.66634.., before it. */
+static void geodetic_code(void) {
+    CODE(jgv_geodetic_code(0, 0, 1, -1350000000, 668000000000000000, WGS84), code("O1"));
+    CODE(jgv_geodetic_code(0, 0, 1, -1350000000, 668000000000000000, 0), code("N7"));
+    CODE(jgv_geodetic_code(0, 0, 1, -1350000000, -668000000000000000, WGS84), code("O7"));
+    CODE(jgv_geodetic_code(0, 0, 1, -1350000000, -668000000000000000, 0), code("S1"));
+    CODE(jgv_geodetic_code(2, 3, 15, 1800000000, ONE, WGS84), code_at(2, 3, "N444444444444444"));
+    CODE(jgv_geodetic_code(1, 3, 2, 0, 0, MOST), code_at(1, 3, "Q33"));
+    NO_CODE(jgv_geodetic_code(0, 0, 0, 1800000001, 0, WGS84), 6);
+    NO_CODE(jgv_geodetic_code(0, 0, 0, 0, ONE + 1, WGS84), 6);
+    NO_CODE(jgv_geodetic_code(0, 0, 0, 0, -ONE - 1, WGS84), 6);
+    NO_CODE(jgv_geodetic_code(0, 0, 0, 0, 0, MOST + 1), 6);
+    NO_CODE(jgv_geodetic_code(0, 0, 0, INT64_MIN, INT64_MIN, UINT64_MAX), 6);
+    NO_CODE(jgv_geodetic_code(4, 0, 16, 0, 0, MOST + 1), 5); /* the order is 5, 2, 6 */
+    NO_CODE(jgv_geodetic_code(0, WIDE, 0, 0, 0, 0), 5);
+    NO_CODE(jgv_geodetic_code(0, 0, 16, 0, ONE + 1, 0), 2);
+    NO_CODE(jgv_geodetic_code(0, 0, WIDE, 0, 0, MOST + 1), 2);
+}
+
 #define GROUND(call, want_refusal, want_longitude, want_z)   \
     do {                                                     \
         jgv_fix got = (call);                                \
@@ -889,6 +938,8 @@ int main(void) {
     point_code();
     fix_code();
     no_fix_code();
+    geodetic_z();
+    geodetic_code();
     ground_nucleus();
     corner_cells();
     neighbour();

@@ -1,16 +1,20 @@
 # Arguments: none, too few, too many, wrong ones. "Says on standard error how it is used, and writes nothing to standard output."
 
 for program in record name_fixes; do
-    for words in '' '0' '0 0' '0 0 9 9' 'a 0 9' '0 b 9' '0 0 c' '-1 0 9' '0 -1 9' '0 0 -1' '+0 0 9' '0.0 0 9' '0x0 0 9' \
-        '99999999999999999999 0 9' '0 0 99999999999999999999' "'' 0 9" "0 '' 9" "0 0 ''" "' 0' 0 9" "0 0 '9 '" '--help' '-h 0 9'; do
+    for words in '' '0' '0 0' '0 0 9 0 0' 'a 0 9' '0 b 9' '0 0 c' '-1 0 9' '0 -1 9' '0 0 -1' '+0 0 9' '0.0 0 9' '0x0 0 9' \
+        '99999999999999999999 0 9' '0 0 99999999999999999999' "'' 0 9" "0 '' 9" "0 0 ''" "' 0' 0 9" "0 0 '9 '" '--help' '-h 0 9' \
+        '0 0 9 a' '0 0 9 -1' '0 0 9 +1' "0 0 9 ''" '0 0 9 0.0' '0 0 9 99999999999999999999' '0 0 9 6,694,379,990'; do
         try "wrong arguments" "$program $words </dev/null" '' "usage $program"
     done
     # 5 comes before 2
-    for words in '4 0 9' '0 4 9' '4 4 9' '4 0 16' '0 4 16' '4 0 999' '256 0 9' '4294967296 0 9' '9223372036854775807 0 9'; do
+    for words in '4 0 9' '0 4 9' '4 4 9' '4 0 16' '0 4 16' '4 0 999' '256 0 9' '4294967296 0 9' '9223372036854775807 0 9' '4 0 16 10000000001'; do
         try "n or s above 3" "$program $words </dev/null" '' "5; usage $program"
     done
-    for words in '0 0 16' '3 3 16' '0 0 256' '0 0 4294967296'; do
+    for words in '0 0 16' '3 3 16' '0 0 256' '0 0 4294967296' '0 0 16 0' '0 0 16 10000000001'; do
         try "resolution above 15" "$program $words </dev/null" '' "2; usage $program"
+    done
+    for words in '0 0 9 10000000001' '3 3 15 4294967296000' '0 0 9 9223372036854775807'; do
+        try "an eccentricity out of range" "$program $words </dev/null" '' "6; usage $program"
     done
 done
 

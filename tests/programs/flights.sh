@@ -25,6 +25,16 @@ fly "the ends of the ranges" '-1800000000 0\n1799999999 0\n1800000000 0\n0 10000
 fly "the receiver that says 180" '1800000000 0\n-1800000000 0\n1800000000 880000000000000000\n' '0 0 1' 'O3\nO3\nN6\n' 'N(6)O(3)' ''
 fly "resolution 15 at a pole" '5 1000000000000000000\n' '0 0 15' 'N444444444444444\n' 'N(4(4(4(4(4(4(4(4(4(4(4(4(4(4(4)))))))))))))))' ''
 
+# with an eccentricity the lines are `longitude sine`. On WGS84 the sine 0.668 is z = 0.66634.., in the belt; on a sphere it is z, past the belt
+fly "a geodetic latitude on WGS84" '-1350000000 668000000000000000\n-1350000000 -668000000000000000\n' '0 0 1 6694379990' 'O1\nO7\n' 'O(17)' ''
+fly "the same numbers on a sphere" '-1350000000 668000000000000000\n-1350000000 -668000000000000000\n' '0 0 1 0' 'N7\nS1\n' 'N(7)S(1)' ''
+fly "the same numbers without an eccentricity" '-1350000000 668000000000000000\n-1350000000 -668000000000000000\n' '0 0 1' 'N7\nS1\n' 'N(7)S(1)' ''
+fly "poles, the equator and the antimeridian on the flattest ellipsoid" '5 1000000000000000000\n5 -1000000000000000000\n0 0\n1800000000 0\n' '0 0 1 10000000000' 'N4\nS4\nQ3\nO3\n' 'N(4)O(3)Q(3)S(4)' ''
+try "another arrangement on WGS84" "echo -900000000 880000000000000000 | record 1 0 1 6694379990" 'CVR\x00\x0110N(6)' ''
+for line in x '' '0 1000000000000000001' '0 -1000000000000000001' '1800000001 0' '0 0 6694379990' '0 9223372036854775808'; do
+    fly "a line that is no fix, or one out of range, on WGS84" "$line\n0 0\n" '0 0 0 6694379990' '6\nQ\n' 'Q' 'line 1: 6'
+done
+
 # line ends
 fly "no line end after the last line" '0 0\n-1800000000 0' '0 0 0' 'Q\nO\n' 'OQ' ''
 fly "a last line that is no fix and has no end" '0 0\nx' '0 0 0' 'Q\n6\n' 'Q' 'line 2: 6'

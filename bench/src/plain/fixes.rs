@@ -1,8 +1,8 @@
-//! The cell of a fix and the ground nucleus, in whole numbers up to u128.
+//! The cell of a fix, the authalic sine and the ground nucleus, in whole numbers up to u128.
 
 use super::codes::{arrangement, cell_of, code_of};
 use super::{Place, THREE};
-use jeguarivo::{Code, Fix};
+use jeguarivo::{Code, Fix, Z};
 
 const QUARTER: u64 = 900_000_000;
 const ONE: u64 = 1_000_000_000_000_000_000;
@@ -107,6 +107,80 @@ fn wide_product(x: u128, y: u128) -> (u128, u128) {
     let (bottom, middle) = (x0 * y0, x1 * y0 + x0 * y1);
     let (sum, carry) = bottom.overflowing_add(middle << 64);
     (x1 * y1 + (middle >> 64) + carry as u128, sum)
+}
+
+/// (k + 1) / (2k + 1), in units of 1 / 18,320,000,000,000,000,000, so that a sum of the series has 64 bits.
+const COEFFICIENTS: [u64; 10] = {
+    let mut all = [0; 10];
+    let mut k = 0;
+    while k < 10 {
+        all[k] = ((k as u128 + 1) * 18_320_000_000_000_000_000 / (2 * k as u128 + 1)) as u64;
+        k += 1;
+    }
+    all
+};
+
+fn high(a: u64, b: u64) -> u64 {
+    ((a as u128 * b as u128) >> 64) as u64
+}
+
+/// The sum of the coefficients times the powers of x = e s^2 in units of 2^-64, where e is in units of 10^36 / 2^184.
+fn series(s: u64, e: u64) -> u64 {
+    let x = high(high(16 * s, 16 * s), e);
+    let step = |g: u64, c: &u64| c + high(x, g);
+    COEFFICIENTS[..9].iter().rev().fold(COEFFICIENTS[9], step)
+}
+
+/// The sine of a geodetic latitude less s (b - a) / b, with `share` for 2^64 w / b. The request leaves the last unit open.
+#[inline(always)]
+fn authalic(sine: i64, eccentricity: u64, share: impl Fn(u64, u64) -> u64) -> Z {
+    let s = sine.unsigned_abs();
+    if s > ONE || eccentricity > 10_000_000_000 {
+        return Z::refused(6);
+    }
+    let e = high(eccentricity << 30, 421_249_166_674_228_746);
+    let (a, b) = (series(s, e), series(ONE, e));
+    let less = (share(high(16 * s, 128 * (b - a)), b) + 1024) / 2048;
+    let z = (s - less) as i64;
+    Z {
+        refusal: 0,
+        z: if sine < 0 { -z } else { z },
+    }
+}
+
+/// As the library takes it: 1 / (1 - a) = (1 + a) (1 + a^2) (1 + a^4) .., so that the answers are the same.
+#[inline(never)]
+pub extern "C" fn geodetic_z(sine: i64, eccentricity: u64) -> Z {
+    authalic(sine, eccentricity, |w, b| {
+        let a = b.wrapping_neg();
+        let c = high(a, a);
+        let y = w + high(w, a);
+        let y = y + high(y, c);
+        y + high(y, high(c, c))
+    })
+}
+
+/// By a division of u128: at most 1 unit from the other.
+#[inline(never)]
+pub extern "C" fn geodetic_z_divided(sine: i64, eccentricity: u64) -> Z {
+    authalic(sine, eccentricity, |w, b| {
+        (((w as u128) << 64) / b as u128) as u64
+    })
+}
+
+#[inline(never)]
+pub extern "C" fn geodetic_code(
+    n: u64,
+    s: u64,
+    resolution: u64,
+    longitude: i64,
+    sine: i64,
+    eccentricity: u64,
+) -> Code {
+    let z = geodetic_z(sine, eccentricity);
+    // a z out of range is refused with 6 after 5 and 2
+    let z = if z.refusal == 0 { z.z } else { i64::MAX };
+    fix_code(n, s, resolution, longitude, z)
 }
 
 #[inline(never)]

@@ -7,15 +7,22 @@ ghost use Rattle.console.specs.Input.{unread, Given, Fits, lastLine};
 ghost use Rattle.console.specs.Room.{Made};
 use cell::Arrangement;
 use decimal::Whole;
+use flight::Latitude;
 use flight::Setting;
 use libc::STDERR_FILENO;
 use libc::STDIN_FILENO;
 use libc::STDOUT_FILENO;
 use lines::Reached;
 
-// The arguments n, s and resolution.
+// The arguments n, s, resolution and, if there is one, eccentricity.
 pub enum Arguments {
     Good(Setting),
+    Wrong,
+}
+
+// The same of the fourth argument, or that there is none.
+enum LatitudeGiven {
+    Good(Latitude),
     Wrong,
 }
 
@@ -100,7 +107,7 @@ fn say_meaning(refusal: u64) {
         2 => say(b": a resolution or a depth is 0 to 15, a name has at most 16 bytes\n"),
         3 => say(b": after its letter a name has digits 0 to 8\n"),
         5 => say(b": n and s are 0 to 3\n"),
-        6 => say(b": no fix, or one out of range\n"),
+        6 => say(b": no fix, or a fix or an eccentricity out of range\n"),
         9 => say(b": not a coverage text\n"),
         10 => say(b": a coverage text of a version that is neither 1 nor 2\n"),
         11 => say(b": the names do not rise, or one cell lies inside another\n"),
@@ -157,13 +164,28 @@ pub fn whole_argument(i: usize) -> Whole
     decimal::whole_in(&word[..n])
 }
 
-// The arguments n, s and resolution, as many as there are to be. Where they cannot be used, standard error says why.
+// What the second number of a line is: z, or with a fourth argument the sine of a geodetic latitude.
+fn given_latitude() -> LatitudeGiven {
+    let count = os::arg_count();
+    if count == 4 {
+        return LatitudeGiven::Good(Latitude::Authalic);
+    }
+    if count != 5 {
+        return LatitudeGiven::Wrong;
+    }
+    match whole_argument(4) {
+        Whole::Is(eccentricity) => LatitudeGiven::Good(Latitude::Geodetic(eccentricity)),
+        Whole::Not => LatitudeGiven::Wrong,
+    }
+}
+
+// The arguments n, s, resolution and, where there is a fourth, eccentricity. Where they cannot be used, standard error says why.
 pub fn given_setting(program: &[u8]) -> Arguments
     ensures { λ r. ⌜ Usable r ⌝ }
 {
-    if os::arg_count() != 4 {
+    let LatitudeGiven::Good(latitude) = given_latitude() else {
         return Arguments::Wrong;
-    }
+    };
     let Whole::Is(north) = whole_argument(1) else {
         return Arguments::Wrong;
     };
@@ -176,6 +198,7 @@ pub fn given_setting(program: &[u8]) -> Arguments
     let setting = Setting {
         arrangement: Arrangement { north, south },
         resolution,
+        latitude,
     };
     let refusal = setting.refusal();
     if refusal != 0 {

@@ -1,3 +1,4 @@
 pub mod Code
 pub mod Cut
 pub mod Memory
+pub mod Setting

@@ -2,22 +2,44 @@
 ghost use mathlib.Core.Path.{_≡_};
 ghost use lib.ListN.{length, take};
 ghost use Rattle.track.specs.Track.{Held};
-ghost use Rattle.flight.specs.Setting.{settingRefusal};
-ghost use Rattle.flight.specs.Flight.{noFix, lineCode};
+ghost use Rattle.cell.specs.Cell.{found};
+ghost use Rattle.flight.specs.Setting.{latitudeRefusal, settingRefusal};
+ghost use Rattle.flight.specs.Flight.{lineRefusal, lineCell, noFix, lineCode};
 ghost use Rattle.flight.specs.Memory.{taken, takenMemory, countAfter};
 use cell::Arrangement;
+use cell::Found;
 use code::Coded;
 use decimal::FixLine;
 use track::Added;
+
+// What the second number of a line is: z, the sine of the authalic latitude; or the sine of the geodetic latitude on an ellipsoid with this squared
+// eccentricity (02 W-203).
+pub enum Latitude {
+    Authalic,
+    Geodetic(u64),
+}
+
+impl Latitude {
+    // 6 where the squared eccentricity is out of range, else 0.
+    pub fn refusal(self) -> u64
+        ensures { λ r. ⌜ r ≡ latitudeRefusal self ⌝ }
+    {
+        match self {
+            Latitude::Authalic => 0,
+            Latitude::Geodetic(eccentricity) => authalic::eccentricity_refusal(eccentricity),
+        }
+    }
+}
 
 // What a flight is recorded in.
 pub struct Setting {
     pub arrangement: Arrangement,
     pub resolution: u64,
+    pub latitude: Latitude,
 }
 
 impl Setting {
-    // 5 or 2, or 0 where this can be used.
+    // 5, 2 or 6, or 0 where this can be used.
     pub fn refusal(self) -> u64
         ensures { λ r. ⌜ r ≡ settingRefusal self ⌝ }
     {
@@ -25,7 +47,11 @@ impl Setting {
         if refusal != 0 {
             return refusal;
         }
-        if self.resolution > 15 { 2 } else { 0 }
+        if self.resolution > 15 {
+            return 2;
+        }
+        let latitude = self.latitude;
+        latitude.refusal()
     }
 }
 
@@ -40,15 +66,29 @@ fn no_fix(setting: Setting) -> Coded
     Coded::Refused(6)
 }
 
+// The cell in which the fix of these two numbers lies, or the refusal.
+fn fix_cell(setting: Setting, longitude: i64, second: i64) -> Found
+    ensures { λ r. ⌜ r ≡ found (lineRefusal setting longitude second) (lineCell setting longitude second) ⌝ }
+{
+    let arrangement = setting.arrangement;
+    let resolution = setting.resolution;
+    let latitude = setting.latitude;
+    match latitude {
+        Latitude::Authalic => locate::locate(arrangement, resolution, longitude, second),
+        Latitude::Geodetic(eccentricity) => {
+            geodetic::locate(arrangement, resolution, longitude, second, eccentricity)
+        }
+    }
+}
+
 // The code of the cell in which a line's fix lies: 5, 2 or 6, and 6 too where the line is no fix.
 pub fn line_code(setting: Setting, line: &[u8]) -> Coded
     ensures { λ r. ⌜ r ≡ lineCode setting (now (line .entry)) ⌝ }
 {
-    let FixLine::Fix(longitude, z) = decimal::fix_in(line) else {
+    let FixLine::Fix(longitude, second) = decimal::fix_in(line) else {
         return no_fix(setting);
     };
-    let found = locate::locate(setting.arrangement, setting.resolution, longitude, z); // this tests the setting
-    code::found_code(setting.arrangement, found)
+    code::found_code(setting.arrangement, fix_cell(setting, longitude, second)) // `fix_cell` tests the setting
 }
 
 // How many codes the memory holds after a line; or it has no room for the line's cell; or the line is refused.

@@ -23,6 +23,9 @@ use Rattle.plane.specs.declared.Point.{Point}
 use Rattle.plane.specs.declared.Vertices.{Vertices}
 use Rattle.plane.specs.Plane.{squareOf, nucleusOf, verticesOf, pointRefusal, pointCell}
 use Rattle.locate.specs.Fix.{fixCell, fixRefusal}
+use Rattle.authalic.specs.Authalic.{sineRefusal}
+use Rattle.authalic.specs.Computed.{authalicSine}
+use Rattle.geodetic.specs.GeodeticFix.{geodeticRefusal, geodeticCell}
 use Rattle.nucleus.specs.declared.Fix.{Fix}
 use Rattle.nucleus.specs.Nucleus.{groundNucleus}
 use Rattle.shape.specs.Shape.{shapeOf, shapeNumber}
@@ -39,6 +42,7 @@ use Rattle.jeguarivo.specs.declared.CountAnswer.{CountAnswer}
 use Rattle.jeguarivo.specs.declared.SquareAnswer.{SquareAnswer}
 use Rattle.jeguarivo.specs.declared.PointAnswer.{PointAnswer}
 use Rattle.jeguarivo.specs.declared.FixAnswer.{FixAnswer}
+use Rattle.jeguarivo.specs.declared.ZAnswer.{ZAnswer}
 use Rattle.jeguarivo.specs.declared.VerticesAnswer.{VerticesAnswer}
 
 abbrev cell : ℕ → ℕ → ℕ → ℕ → Cell
@@ -86,6 +90,12 @@ pointCode n s resolution x y =
 unfoldable pub fixCode : (n s resolution : ℕ) (longitude z : ℤ) → CodeAnswer
 fixCode n s resolution longitude z =
     codeAnswer (fixRefusal (arrangement n s) resolution longitude z) (codeOf (arrangement n s) (fixCell (arrangement n s) resolution longitude z))
+
+-- that of the fix with z (02 W-203)
+unfoldable pub geodeticCode : (n s resolution : ℕ) (longitude sine : ℤ) (eccentricity : ℕ) → CodeAnswer
+geodeticCode n s resolution longitude sine eccentricity =
+    codeAnswer (geodeticRefusal (arrangement n s) resolution longitude sine eccentricity)
+    (codeOf (arrangement n s) (geodeticCell (arrangement n s) resolution longitude sine eccentricity))
 
 -- ---- other answers
 
@@ -168,3 +178,8 @@ aFix fix = record { refusal = 0; longitude = fix .longitude; z = fix .z }
 
 unfoldable pub groundFix : ℕ → FixAnswer
 groundFix code = placedAnswer code (λ a c. aFix (groundNucleus a c)) noFix
+
+-- our answer to W-203
+unfoldable pub geodeticZ : (sine : ℤ) (eccentricity : ℕ) → ZAnswer
+geodeticZ sine eccentricity =
+    record { refusal = sineRefusal sine eccentricity; z = given (sineRefusal sine eccentricity) (authalicSine sine eccentricity) (pos 0) }

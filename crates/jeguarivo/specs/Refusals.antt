@@ -15,6 +15,8 @@ use Rattle.name.specs.Name.{nameOf}
 use Rattle.corner.specs.List.{codesAt}
 use Rattle.plane.specs.Plane.{faceSide, half, threeHalves}
 use Rattle.locate.specs.Fix.{InRange}
+use Rattle.authalic.specs.Authalic.{Geodetic}
+use Rattle.geodetic.specs.GeodeticFix.{GeodeticRange}
 use Rattle.reading.specs.Ground.{Apart}
 use Rattle.reading.specs.Text.{Accepted}
 use Rattle.reading.specs.Laws.Written.{TextOf}
@@ -94,6 +96,13 @@ pointTests n s k x y = (5, (3 < n) ⊎ (3 < s)) ∷ (2, 15 < k) ∷ (7, OnImage 
 
 abbrev pub fixTests : (n s resolution : ℕ) (L z : ℤ) → Chain
 fixTests n s k L z = (5, (3 < n) ⊎ (3 < s)) ∷ (2, 15 < k) ∷ (6, InRange L z → ⊥) ∷ []
+
+-- 6: "also for S or E out of range" (02, W-203)
+abbrev pub zTests : (S : ℤ) (E : ℕ) → Chain
+zTests S E = (6, Geodetic S E → ⊥) ∷ []
+
+abbrev pub geodeticTests : (n s resolution : ℕ) (L S : ℤ) (E : ℕ) → Chain
+geodeticTests n s k L S E = (5, (3 < n) ⊎ (3 < s)) ∷ (2, 15 < k) ∷ (6, GeodeticRange L S E → ⊥) ∷ []
 
 -- 3: "direction above 3"
 abbrev pub neighbourTests : (code direction : ℕ) → Chain

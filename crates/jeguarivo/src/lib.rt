@@ -14,7 +14,8 @@ ghost use Rattle.asking.specs.Ask.{askRefusal, asked};
 ghost use Rattle.jeguarivo.specs.Texts.{checkNumbers, listNumbers, askNumbers, writtenNumbers};
 ghost use Rattle.writing.specs.Write.{asksFor, writeRefusal, textOf, textIn, written};
 ghost use Rattle.jeguarivo.specs.Entries.{arrangement, codedAnswer, codeAnswer, codeOfCell, codeCell, nameAnswer, writtenName, parentCode, childCode};
-ghost use Rattle.jeguarivo.specs.Entries.{cellSize, cellShape, cornerCount, cornerCells, cellSquare, cellNucleus, cellVertices, pointCode, neighbourCode, fixCode, groundFix};
+ghost use Rattle.jeguarivo.specs.Entries.{cellSize, cellShape, cornerCount, cellSquare, cellNucleus, cellVertices, pointCode, neighbourCode, fixCode, groundFix};
+ghost use Rattle.jeguarivo.specs.Entries.{geodeticZ, geodeticCode, cornerCells};
 use asking::Asked;
 use cell::Arrangement;
 use cell::Cell;
@@ -88,6 +89,12 @@ pub struct PointAnswer {
     pub refusal: u64,
     pub x: i64,
     pub y: i64,
+}
+
+#[repr(C)]
+pub struct ZAnswer {
+    pub refusal: u64,
+    pub z: i64,
 }
 
 #[repr(C)]
@@ -388,6 +395,42 @@ pub extern "C" fn jgv_fix_code(
     found_answer(
         arrangement,
         locate::locate(arrangement, resolution, longitude, z),
+    )
+}
+
+// 6 where the sine or the squared eccentricity is out of range (02 W-203).
+#[no_mangle]
+pub extern "C" fn jgv_geodetic_z(sine: i64, eccentricity: u64) -> ZAnswer
+    ensures { λ r. ⌜ r ≡ geodeticZ sine eccentricity ⌝ }
+{
+    if authalic::is_geodetic(sine, eccentricity) {
+        return ZAnswer {
+            refusal: 0,
+            z: authalic::sine_of(sine, eccentricity),
+        };
+    }
+    ZAnswer {
+        refusal: 6,
+        z: 0, // of no sine
+    }
+}
+
+// 5 where n or s is above 3, 2 where the resolution is above 15, 6 where the longitude, the sine or the squared eccentricity is out of range.
+#[no_mangle]
+pub extern "C" fn jgv_geodetic_code(
+    n: u64,
+    s: u64,
+    resolution: u64,
+    longitude: i64,
+    sine: i64,
+    eccentricity: u64,
+) -> CodeAnswer
+    ensures { λ r. ⌜ r ≡ geodeticCode n s resolution longitude sine eccentricity ⌝ }
+{
+    let arrangement = Arrangement { north: n, south: s }; // `geodetic::locate` tests it
+    found_answer(
+        arrangement,
+        geodetic::locate(arrangement, resolution, longitude, sine, eccentricity),
     )
 }
 

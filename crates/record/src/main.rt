@@ -1,4 +1,5 @@
-// record n s resolution: reads a flight, a line `longitude z` for each fix, and writes the coverage text of the cells flown.
+// record n s resolution [eccentricity]: reads a flight, a line `longitude z` for each fix, and writes the coverage text of the cells flown. With an
+// eccentricity the lines are `longitude sine` (02 W-203).
 ghost use mathlib.Core.Path.{_≡_};
 ghost use Prim.Native.Nat.{_≤_};
 ghost use lib.ListN.{length, take};
@@ -116,9 +117,12 @@ fn put_text(setting: Setting, codes: &[u64], memory: Memory, text: &mut [u8]) ->
 
 fn main() {
     let Arguments::Good(setting) = console::given_setting(b"record") else {
-        console::say(b"usage: record n s resolution < flight > text\n");
+        console::say(b"usage: record n s resolution [eccentricity] < flight > text\n");
         console::say(
             b"  n and s are 0 to 3, the resolution is 0 to 15; a flight has a line `longitude z` for each fix\n",
+        );
+        console::say(
+            b"  with a squared eccentricity, 0 to 10000000000 in units of 10^-12, the lines are `longitude sine`\n",
         );
         return;
     };

@@ -16,6 +16,3 @@ answerOf (Refused refusal) = printed refusal
 -- "for each line the name of its cell, or the refusal number", and a line feed
 abbrev pub answerLine : Setting → (line : List ℕ) → List ℕ
 answerLine s line = answerOf (lineCode s line) ++ (10 ∷ [])
-
-abbrev setting : (resolution : ℕ) → Setting
-setting k = record { arrangement = record { north = 0; south = 0 }; resolution = k }

@@ -1,1 +1,3 @@
+pub mod High
+pub mod Laws
 pub mod Value

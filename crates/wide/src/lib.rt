@@ -1,7 +1,9 @@
-// Whole numbers of two and of three words of 64 bits, by value: the squares that decide a floor over a root stay below 2^168.
+// Whole numbers of two and of three words of 64 bits, by value: the squares that decide a floor over a root stay below 2^168. And the upper word
+// of a product, for the one sum that is rounded (02 W-203).
 ghost use mathlib.Core.Path.{_≡_};
 ghost use Prim.Native.Nat.{_+_, _*_, _^_, _≤_};
 ghost use lib.Dec.{leb};
+ghost use Rattle.wide.specs.High.{highWord};
 ghost use Rattle.wide.specs.Value.{two, three};
 
 pub struct Two {
@@ -47,6 +49,13 @@ pub fn product(a: u64, b: u64) -> Two
         high: a1 * b1 + t / 0x1_0000_0000 + v / 0x1_0000_0000,
         low: v % 0x1_0000_0000 * 0x1_0000_0000 + w % 0x1_0000_0000,
     }
+}
+
+// The upper word of a product.
+pub fn high(a: u64, b: u64) -> u64
+    ensures { λ r. ⌜ r ≡ highWord a b ⌝ }
+{
+    product(a, b).high
 }
 
 // The product of two words and one.

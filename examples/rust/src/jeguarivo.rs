@@ -49,6 +49,7 @@ answers! {
     Point { x: i64, y: i64 }
     Vertices { x: [i64; 4], y: [i64; 4] }
     Fix { longitude: i64, z: i64 }
+    Z { z: i64 }
     Check at place { version: u64, depth: u64, n: u64, s: u64, cells: u64, size: u64 }
     List at place { count: u64 }
     Ask at place { covered: u64 }
@@ -71,6 +72,8 @@ unsafe extern "C" {
     pub safe fn jgv_vertices(code: u64) -> Vertices;
     pub safe fn jgv_point_code(n: u64, s: u64, resolution: u64, x: i64, y: i64) -> Code;
     pub safe fn jgv_fix_code(n: u64, s: u64, resolution: u64, longitude: i64, z: i64) -> Code;
+    pub safe fn jgv_geodetic_z(sine: i64, eccentricity: u64) -> Z;
+    pub safe fn jgv_geodetic_code(n: u64, s: u64, resolution: u64, longitude: i64, sine: i64, eccentricity: u64) -> Code;
     pub safe fn jgv_ground_nucleus(code: u64) -> Fix;
     pub safe fn jgv_neighbour(code: u64, direction: u64) -> Code;
     pub fn jgv_coverage_check(text: *const u8, length: usize) -> Check;
@@ -179,6 +182,15 @@ pub fn point_code(n: u64, s: u64, resolution: u64, x: i64, y: i64) -> Answer<u64
 
 pub fn fix_code(n: u64, s: u64, resolution: u64, longitude: i64, z: i64) -> Answer<u64> {
     Ok(jgv_fix_code(n, s, resolution, longitude, z).read()?.code)
+}
+
+/// z from the sine of a geodetic latitude and a squared eccentricity.
+pub fn geodetic_z(sine: i64, eccentricity: u64) -> Answer<i64> {
+    Ok(jgv_geodetic_z(sine, eccentricity).read()?.z)
+}
+
+pub fn geodetic_code(n: u64, s: u64, resolution: u64, longitude: i64, sine: i64, eccentricity: u64) -> Answer<u64> {
+    Ok(jgv_geodetic_code(n, s, resolution, longitude, sine, eccentricity).read()?.code)
 }
 
 pub fn ground_nucleus(code: u64) -> Answer<Fix> {

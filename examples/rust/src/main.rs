@@ -117,6 +117,20 @@ fn ground() -> Answer<()> {
         let turned = if n == 1 { ", n 1" } else { "" };
         println!("fix_code: longitude {longitude}, z {z}, resolution {resolution}{turned} -> {name}");
     }
+    // A fix with the sine of its geodetic latitude on WGS84, by the squared eccentricity in units of 10^-12: 0.668 lies in the belt there, and
+    // past it on a sphere.
+    let (tenth, wgs84) = (100_000_000_000_000_000, 6_694_379_990);
+    for (sine, eccentricity) in [(tenth, wgs84), (-tenth, wgs84), (10 * tenth, wgs84), (tenth, 0), (0, 10_000_000_001)] {
+        match geodetic_z(sine, eccentricity) {
+            Ok(z) => println!("geodetic_z: sine {sine}, eccentricity {eccentricity} -> {z}"),
+            Err(refused) => println!("geodetic_z: sine {sine}, eccentricity {eccentricity} -> refused with {}", refused.number),
+        }
+    }
+    for eccentricity in [wgs84, 0] {
+        let (longitude, sine) = (-1_350_000_000, 668_000_000_000_000_000);
+        let name = name_of(geodetic_code(0, 0, 1, longitude, sine, eccentricity)?)?;
+        println!("geodetic_code: longitude {longitude}, sine {sine}, eccentricity {eccentricity}, resolution 1 -> {name}");
+    }
     // Back from a cell to the fix of its middle; both numbers are floored, so P6 is no mirror of P0.
     for name in ["Q", "P0", "P6", "N4"] {
         let Fix { longitude, z, .. } = ground_nucleus(code_of(name)?)?;

@@ -1,5 +1,5 @@
 //! Whole numbers of any length, from 0 up: the squares that decide a floor over a root are
-//! longer than 128 bits.
+//! longer than 128 bits, and the sums of the authalic sine have some 1,500.
 
 use std::cmp::Ordering;
 
@@ -43,6 +43,18 @@ impl Whole {
 
     pub fn squared(&self) -> Whole {
         self.times(self)
+    }
+
+    pub fn plus(&self, other: &Whole) -> Whole {
+        let digit = |number: &Whole, place: usize| number.0.get(place).copied().unwrap_or(0);
+        let mut digits = Vec::new();
+        let mut carry = 0;
+        for place in 0..=self.0.len().max(other.0.len()) {
+            let sum = u128::from(digit(self, place)) + u128::from(digit(other, place)) + carry;
+            digits.push(sum as u64);
+            carry = sum >> 64;
+        }
+        Whole::trimmed(digits)
     }
 
     /// The difference from a number that is not greater.

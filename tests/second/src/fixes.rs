@@ -3,6 +3,7 @@
 //! dull input.
 
 use crate::big::Whole;
+use crate::ellipsoid::{GREATEST, WGS84};
 use crate::grid::{cells_along, square_of};
 use crate::ground::{ground_of_point, HALF_TURN, ONE, QUARTER};
 use crate::random::{Kind, Random};
@@ -210,5 +211,40 @@ impl Random {
             };
         }
         (longitude, z)
+    }
+
+    /// A squared eccentricity: of known ellipsoids, at the ends of the range, any, or past them.
+    pub fn eccentricity(&mut self, kind: Kind) -> u64 {
+        let border = [
+            0,
+            1,
+            2,
+            GREATEST - 1,
+            GREATEST,
+            WGS84,
+            WGS84 + 33,
+            6_722_670_022,
+        ];
+        match kind {
+            Kind::Random => self.below(GREATEST + 1),
+            Kind::Border => self.pick(&border),
+            Kind::Bad if self.chance(3) => self.past(GREATEST + 1),
+            Kind::Bad => self.below(GREATEST + 1),
+        }
+    }
+
+    /// The sine of a geodetic latitude: any, of any size, at the ends, the middle and the belt's
+    /// border and within two units of them, or out of range.
+    pub fn sine(&mut self, kind: Kind) -> i64 {
+        let sign = self.sign();
+        match kind {
+            Kind::Random => sign * (self.below(ONE as u64 + 1) as i64 >> self.below(60)),
+            Kind::Border => {
+                let border = [0, ONE, ONE / 2, 707_106_781_186_547_524, BELT_END, ONE / 10];
+                let sine = self.pick(&border) + self.between(-2, 2);
+                sign * sine.min(ONE)
+            }
+            Kind::Bad => self.bad_fix().1,
+        }
     }
 }

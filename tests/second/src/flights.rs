@@ -2,6 +2,7 @@
 //! cells, and the coverage text of the cells flown.
 
 use crate::coverage::{written, FIRST};
+use crate::ellipsoid::geodetic_code;
 use crate::grid::{cell_of, Answer};
 use crate::ground::fix_code;
 use std::collections::BTreeSet;
@@ -53,11 +54,29 @@ pub fn line_code(n: u64, s: u64, resolution: u64, line: &[u8]) -> Answer<u64> {
     fix_code(n, s, resolution, longitude, z)
 }
 
+/// The same with an eccentricity, where the line is `longitude sine` (02, W-203). None where the
+/// request leaves the cell open.
+pub fn geodetic_line_code(
+    n: u64,
+    s: u64,
+    resolution: u64,
+    eccentricity: u64,
+    line: &[u8],
+) -> Option<Answer<u64>> {
+    let (longitude, sine) = fix(line).unwrap_or((i64::MAX, i64::MAX));
+    geodetic_code(n, s, resolution, longitude, sine, eccentricity)
+}
+
 /// "For each line the name of its cell, or the refusal number."
 pub fn named(n: u64, s: u64, resolution: u64, input: &[u8]) -> Vec<u8> {
+    named_by(input, |line| line_code(n, s, resolution, line))
+}
+
+/// The same with the code of each line by another rule.
+pub fn named_by(input: &[u8], code: impl Fn(&[u8]) -> Answer<u64>) -> Vec<u8> {
     let mut output = Vec::new();
     for line in lines(input) {
-        match line_code(n, s, resolution, line) {
+        match code(line) {
             Ok(code) => output.extend(cell_of(code).expect("a cell's code").name),
             Err(refusal) => output.extend(refusal.to_string().bytes()),
         }
@@ -69,10 +88,15 @@ pub fn named(n: u64, s: u64, resolution: u64, input: &[u8]) -> Vec<u8> {
 /// "The coverage text of the cells flown", of version 1, which "skips a fix that is refused, and a line that is
 /// no fix".
 pub fn recorded(n: u64, s: u64, resolution: u64, input: &[u8]) -> Flown {
+    recorded_by(n, s, input, |line| line_code(n, s, resolution, line))
+}
+
+/// The same with the code of each line by another rule.
+pub fn recorded_by(n: u64, s: u64, input: &[u8], code: impl Fn(&[u8]) -> Answer<u64>) -> Flown {
     let mut cells = BTreeSet::new();
     let mut left_out = Vec::new();
     for (at, line) in (1..).zip(lines(input)) {
-        match line_code(n, s, resolution, line) {
+        match code(line) {
             Ok(code) => {
                 cells.insert(code);
             }

@@ -5,16 +5,16 @@ use crate::compare::Refusing;
 use crate::coverage::{Checked, Refused, TextAnswer};
 use crate::grid::{self, Answer, Place};
 use jeguarivo::{Ask, Cell, Check, Code, Count, Fix, Length, List, Name, Point, Shape, Size};
-use jeguarivo::{Square, Vertices};
+use jeguarivo::{Square, Vertices, Z};
 use std::fmt::Debug;
 
 pub use jeguarivo::lent::{code_name, corner_cells, name_code};
 pub use jeguarivo::{
     jgv_cell_code as cell_code, jgv_child as child, jgv_code_cell as code_cell,
-    jgv_corner_count as corner_count, jgv_fix_code as fix_code,
-    jgv_ground_nucleus as ground_nucleus, jgv_neighbour as neighbour, jgv_nucleus as nucleus,
-    jgv_parent as parent, jgv_point_code as point_code, jgv_shape as shape, jgv_size as size,
-    jgv_square as square, jgv_vertices as vertices,
+    jgv_corner_count as corner_count, jgv_fix_code as fix_code, jgv_geodetic_code as geodetic_code,
+    jgv_geodetic_z as geodetic_z, jgv_ground_nucleus as ground_nucleus, jgv_neighbour as neighbour,
+    jgv_nucleus as nucleus, jgv_parent as parent, jgv_point_code as point_code, jgv_shape as shape,
+    jgv_size as size, jgv_square as square, jgv_vertices as vertices,
 };
 
 /// The coverage entries.
@@ -64,6 +64,7 @@ like! {
     Point, Answer<(i64, i64)>, (x, y) => { x: x, y: y };
     Vertices, Answer<([i64; 4], [i64; 4])>, (x, y) => { x: x, y: y };
     Fix, Answer<(i64, i64)>, (longitude, z) => { longitude: longitude, z: z };
+    Z, Answer<i64>, z => { z: z };
     Check at place, TextAnswer<Checked>, of => {
         version: of.profile.version, depth: of.profile.depth,
         n: of.n, s: of.s, cells: of.cells, size: of.size

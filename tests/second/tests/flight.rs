@@ -1,7 +1,8 @@
 //! The sample flight in examples/flight: its expected text is the second program's.
 
 use second::coverage::{ask, check, whole_cells};
-use second::flights::{line_code, lines, named, recorded};
+use second::ellipsoid::WGS84;
+use second::flights::{geodetic_line_code, line_code, lines, named, named_by, recorded};
 use second::grid::code_of;
 
 fn example(file: &str) -> Vec<u8> {
@@ -79,7 +80,11 @@ fn what_the_example_prints_is_the_second_programs() {
         let covered = ask(&text, code_of(0, 0, name.as_bytes())).expect("an accepted text");
         wanted.push(if covered { "yes" } else { "no" }.to_string());
     }
-    let names = named(0, 0, 9, &example("flight/flight.txt"));
+    let flight = example("flight/flight.txt");
+    let names = named(0, 0, 9, &flight);
     wanted.extend(lines(&names).iter().take(3).map(|name| string(name)));
+    let on_wgs84 = |line: &[u8]| geodetic_line_code(0, 0, 9, WGS84, line).expect("one cell");
+    let names = named_by(&lines(&flight)[..3].join(&b'\n'), on_wgs84);
+    wanted.extend(lines(&names).iter().map(|name| string(name)));
     assert_eq!(answers, wanted);
 }

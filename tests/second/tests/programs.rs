@@ -3,23 +3,74 @@
 
 use second::compare::say;
 use second::coverage::HEADING;
-use second::flights::{fix, lines, named, number, recorded, MOST_CELLS};
-use second::random::{Random, KINDS};
+use second::flights::{
+    fix, geodetic_line_code, line_code, lines, named, named_by, number, recorded, recorded_by,
+    Flown, MOST_CELLS,
+};
+use second::grid::Answer;
+use second::random::{Kind, Random, KINDS};
 use std::fs::File;
 use std::path::PathBuf;
 use std::process::{Command, Output};
 
-/// n, s, the resolution and the input of one run.
+/// n, s, the resolution, the eccentricity if there is one, and the input of one run.
 struct Run {
     setting: [u64; 3],
+    eccentricity: Option<u64>,
     input: Vec<u8>,
 }
 
-/// One line without its end: a fix of any kind, one time in four damaged.
-fn line(random: &mut Random, [n, s, resolution]: [u64; 3]) -> Vec<u8> {
+impl Run {
+    /// The code of a line, by the second program. The lines of a run leave none open.
+    fn code(&self, line: &[u8]) -> Answer<u64> {
+        let [n, s, resolution] = self.setting;
+        code(n, s, resolution, self.eccentricity, line).expect("a line that leaves no cell open")
+    }
+
+    fn named(&self) -> Vec<u8> {
+        let [n, s, resolution] = self.setting;
+        match self.eccentricity {
+            None => named(n, s, resolution, &self.input),
+            Some(_) => named_by(&self.input, |line| self.code(line)),
+        }
+    }
+
+    fn recorded(&self) -> Flown {
+        let [n, s, resolution] = self.setting;
+        match self.eccentricity {
+            None => recorded(n, s, resolution, &self.input),
+            Some(_) => recorded_by(n, s, &self.input, |line| self.code(line)),
+        }
+    }
+}
+
+/// The code of a line with or without an eccentricity, unless that is left open.
+fn code(n: u64, s: u64, k: u64, eccentricity: Option<u64>, line: &[u8]) -> Option<Answer<u64>> {
+    match eccentricity {
+        None => Some(line_code(n, s, k, line)),
+        Some(eccentricity) => geodetic_line_code(n, s, k, eccentricity, line),
+    }
+}
+
+/// One line without its end: a fix of any kind, one time in four damaged. With an eccentricity the
+/// second number is a sine, and the line leaves no cell open.
+fn line(random: &mut Random, setting: [u64; 3], eccentricity: Option<u64>) -> Vec<u8> {
+    let [n, s, resolution] = setting;
     let kind = random.pick(&KINDS);
     let (longitude, z) = random.fix(kind, n, s, resolution);
-    let mut line = format!("{longitude} {z}").into_bytes();
+    let second = match eccentricity {
+        None => z,
+        Some(_) => random.sine(kind),
+    };
+    let line = damaged(random, format!("{longitude} {second}").into_bytes());
+    match code(n, s, resolution, eccentricity, &line) {
+        Some(_) => line,
+        None => self::line(random, setting, eccentricity),
+    }
+}
+
+/// A line, one time in four with a byte more, less or another, or cut.
+fn damaged(random: &mut Random, mut line: Vec<u8>) -> Vec<u8> {
     if !random.chance(4) {
         return line;
     }
@@ -37,10 +88,10 @@ fn line(random: &mut Random, [n, s, resolution]: [u64; 3]) -> Vec<u8> {
 }
 
 /// An input of so many lines. Some lines end as in Windows, and the last one may have no end.
-fn input(random: &mut Random, setting: [u64; 3], count: u64) -> Vec<u8> {
+fn input(random: &mut Random, setting: [u64; 3], eccentricity: Option<u64>, count: u64) -> Vec<u8> {
     let mut input = Vec::new();
     for _ in 0..count {
-        input.extend(line(random, setting));
+        input.extend(line(random, setting, eccentricity));
         input.extend(random.pick(&[&b"\n"[..], b"\n", b"\n", b"\r\n"]));
     }
     if random.chance(3) {
@@ -49,18 +100,25 @@ fn input(random: &mut Random, setting: [u64; 3], count: u64) -> Vec<u8> {
     input
 }
 
-/// All arrangements at all resolutions, a few lines each, and at times some thousands.
-fn runs(random: &mut Random) -> Vec<Run> {
+/// All arrangements at all resolutions, a few lines each, and at times some thousands; or fewer
+/// lines, each run with an eccentricity.
+fn runs(random: &mut Random, on_ellipsoids: bool) -> Vec<Run> {
     let mut runs = Vec::new();
     for nth in 0..256 {
         let setting = [nth / 64, nth / 16 % 4, nth % 16];
-        let count = if nth % 37 == 1 {
-            6000
-        } else {
-            random.below(60)
+        let kind = random.pick(&[Kind::Random, Kind::Border]);
+        let eccentricity = on_ellipsoids.then(|| random.eccentricity(kind));
+        let count = match (nth % 37, on_ellipsoids) {
+            (1, false) => 6000,
+            (1, true) => 500,
+            _ => random.below(60),
         };
-        let input = input(random, setting, count);
-        runs.push(Run { setting, input });
+        let input = input(random, setting, eccentricity, count);
+        runs.push(Run {
+            setting,
+            eccentricity,
+            input,
+        });
     }
     runs
 }
@@ -74,6 +132,7 @@ fn output(program: &str, run: &Run) -> Output {
     std::fs::write(&file, &run.input).expect("a scratch file");
     Command::new(PathBuf::from(folder).join(program))
         .args(run.setting.map(|number| number.to_string()))
+        .args(run.eccentricity.map(|number| number.to_string()))
         .stdin(File::open(&file).expect("a scratch file"))
         .output()
         .expect("a program of RATTLE_BIN")
@@ -89,30 +148,41 @@ fn check_said(said: &[u8], wanted: &[String], setting: [u64; 3]) {
     }
 }
 
-#[test]
-fn name_fixes() {
-    let mut random = Random::for_test("name_fixes");
+/// `name_fixes` on each run: how many lines there were, and how many were refused with 6.
+fn name_all(test: &str, on_ellipsoids: bool) -> (usize, usize) {
+    let mut random = Random::for_test(test);
     let (mut all, mut refused) = (0, 0);
-    for run in runs(&mut random) {
-        let [n, s, resolution] = run.setting;
-        let wanted = named(n, s, resolution, &run.input);
+    for run in runs(&mut random, on_ellipsoids) {
+        let wanted = run.named();
         let found = output("name_fixes", &run);
         assert!(found.stdout == wanted, "{:?}: {:?}", run.setting, run.input);
         check_said(&found.stderr, &[], run.setting);
         all += lines(&wanted).len();
         refused += lines(&wanted).iter().filter(|&&line| line == b"6").count();
     }
-    say(&format!("name_fixes: {all} lines; refused 6: {refused}"));
-    assert!(all > 30_000 && refused > 5000 && all - refused > 15_000);
+    say(&format!("{test}: {all} lines; refused 6: {refused}"));
+    (all, refused)
 }
 
 #[test]
-fn record() {
-    let mut random = Random::for_test("record");
+fn name_fixes() {
+    let (all, refused) = name_all("name_fixes", false);
+    assert!(all > 30_000 && refused > 5000 && all - refused > 15_000);
+}
+
+/// With a fourth argument the lines are `longitude sine`.
+#[test]
+fn name_fixes_on_ellipsoids() {
+    let (all, refused) = name_all("name_fixes on ellipsoids", true);
+    assert!(all > 8000 && refused > 1500 && all - refused > 4000);
+}
+
+/// `record` on each run: how many lines there were, lines left out, texts, and texts too long.
+fn record_all(test: &str, on_ellipsoids: bool) -> [usize; 4] {
+    let mut random = Random::for_test(test);
     let (mut all, mut left_out, mut texts, mut too_long) = (0, 0, 0, 0);
-    for run in runs(&mut random) {
-        let [n, s, resolution] = run.setting;
-        let wanted = recorded(n, s, resolution, &run.input);
+    for run in runs(&mut random, on_ellipsoids) {
+        let wanted = run.recorded();
         let found = output("record", &run);
         let refusal =
             |(line, refusal): &(u64, u64)| format!("record: line {line}: refusal {refusal}:");
@@ -131,9 +201,21 @@ fn record() {
         left_out += wanted.left_out.len();
     }
     say(&format!(
-        "record: {all} lines, left out {left_out}; {texts} texts, {too_long} too long"
+        "{test}: {all} lines, left out {left_out}; {texts} texts, {too_long} too long"
     ));
+    [all, left_out, texts, too_long]
+}
+
+#[test]
+fn record() {
+    let [all, left_out, texts, too_long] = record_all("record", false);
     assert!(all > 30_000 && left_out > 5000 && texts > 200 && too_long > 0);
+}
+
+#[test]
+fn record_on_ellipsoids() {
+    let [all, left_out, texts, _] = record_all("record on ellipsoids", true);
+    assert!(all > 8000 && left_out > 1500 && texts > 200);
 }
 
 /// `name_fixes` on an input, by both programs.
@@ -141,8 +223,12 @@ fn names(setting: [u64; 3], input: &[u8], wanted: &str) {
     let [n, s, resolution] = setting;
     let by_second = named(n, s, resolution, input);
     assert_eq!(String::from_utf8_lossy(&by_second), wanted);
-    let input = input.to_vec();
-    let found = output("name_fixes", &Run { setting, input });
+    let run = Run {
+        setting,
+        eccentricity: None,
+        input: input.to_vec(),
+    };
+    let found = output("name_fixes", &run);
     assert_eq!(String::from_utf8_lossy(&found.stdout), wanted);
     check_said(&found.stderr, &[], setting);
 }
@@ -153,8 +239,12 @@ fn records(setting: [u64; 3], input: &[u8], body: Option<&[u8]>, said: &[&str]) 
     let wanted = body.map_or(Vec::new(), |body| [HEADING, body].concat());
     let flown = recorded(n, s, resolution, input);
     assert_eq!(flown.text.unwrap_or_default(), wanted);
-    let input = input.to_vec();
-    let found = output("record", &Run { setting, input });
+    let run = Run {
+        setting,
+        eccentricity: None,
+        input: input.to_vec(),
+    };
+    let found = output("record", &run);
     assert_eq!(found.stdout, wanted);
     let said: Vec<String> = said.iter().map(|said| said.to_string()).collect();
     check_said(&found.stderr, &said, setting);

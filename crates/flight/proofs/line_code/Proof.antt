@@ -3,8 +3,8 @@ use mathlib.Core.Path.{sym, ap, ap₂, _∙_}
 use Rattle.signed.specs.Laws.Sign.{back-result}
 use Rattle.code.specs.Code.{foundCode}
 use Rattle.code.specs.Laws.Code.{found-coded, found-placed}
-use Rattle.locate.specs.Laws.Fix.{fix-allowed}
 use Rattle.flight.specs.Flight.{fixCoded, ofLine, lineCode}
+use Rattle.flight.specs.Laws.Code.{line-allowed}
 use borrow.Author.Needs.{needs}
 use Rattle.flight.proofs.line_code.Statement.{statement}
 use Rattle.flight.proofs.line_code.Tie as tie
@@ -27,11 +27,11 @@ returns c =
     let f = c .before .before .before in
     c .no-fix .ensures ∙ ap (ofLine (f .before .before .args .setting)) (sym (c .before .enum-told .given .1) ∙ f .fix-in .ensures)
 
-locate-requires : tie.Need-locate-requires
-locate-requires c κs = search needs
+fix-cell-requires : tie.Need-fix-cell-requires
+fix-cell-requires c κs = search needs
 
 found-code-requires : tie.Need-found-code-requires
-found-code-requires c κs = rw (c .locate .ensures) (found-placed _ _ (fix-allowed _ _ _ _))
+found-code-requires c κs = rw (c .fix-cell .ensures) (found-placed _ _ (line-allowed _ _ _))
 
 returns-2 : tie.Need-returns-2
 unfolding lineCode ofLine fixCoded
@@ -41,7 +41,7 @@ returns-2 c =
     let f = x .before .before in
     let a = f .before .before .args in
     let g = x .longitude .given in
-    c .found-code .ensures ∙ ap (foundCode (a .setting .arrangement)) (c .before .locate .ensures) ∙ found-coded _ _ _
+    c .found-code .ensures ∙ ap (foundCode (a .setting .arrangement)) (c .before .fix-cell .ensures) ∙ found-coded _ _ _
     ∙ ap₂ (fixCoded (a .setting)) (back-result (g .0 .0) (k .known-told .given .0 .1)) (back-result (g .0 .1 .0) (k .known-told .given .1 .0 .1))
     ∙ ap (ofLine (a .setting)) (sym (g .1) ∙ f .fix-in .ensures)
 
@@ -54,6 +54,6 @@ line-code-spec =
     enum-told
     no-fix-requires
     returns
-    locate-requires
+    fix-cell-requires
     found-code-requires
     returns-2)

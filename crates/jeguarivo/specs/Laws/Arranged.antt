@@ -32,6 +32,8 @@ use Rattle.plane.specs.Plane.{rightOf, bottomOf, nucleusX, nucleusY, squareOf, 
 use Rattle.plane.specs.Laws.Plane.{point-allowed, owner-found, nucleus-owned}
 use Rattle.locate.specs.Fix.{fixRefusal, fixCell}
 use Rattle.locate.specs.Laws.Fix.{fix-allowed}
+use Rattle.geodetic.specs.GeodeticFix.{geodeticRefusal, geodeticCell}
+use Rattle.geodetic.specs.Laws.GeodeticFix.{geodetic-allowed}
 use Rattle.nucleus.specs.Nucleus.{groundNucleus}
 use Rattle.nucleus.specs.Laws.Nucleus.{again}
 use Rattle.reading.specs.TextReading.{profileOf, northOf, southOf, textArrangement}
@@ -49,7 +51,7 @@ use Rattle.jeguarivo.specs.declared.CodeAnswer.{CodeAnswer}
 use Rattle.jeguarivo.specs.declared.CellAnswer.{CellAnswer}
 use Rattle.jeguarivo.specs.Entries.{arrangement, codeAnswer, codeOfCell, nameAnswer, parentCode, childCode, neighbourCode, pointCode, fixCode, cellNumbers, codeCell}
 use Rattle.jeguarivo.specs.Entries.{nameNumbers, writtenName, placedAnswer, cellSquare, cellNucleus, cellVertices, groundFix, aSquare, noSquare, aPoint, noPoint}
-use Rattle.jeguarivo.specs.Entries.{theVertices, noVertices, aFix, noFix}
+use Rattle.jeguarivo.specs.Entries.{theVertices, noVertices, aFix, noFix, geodeticCode}
 use Rattle.jeguarivo.specs.Texts.{checkNumbers}
 use Rattle.jeguarivo.specs.Laws.First.{list-refusal, ask-refusal}
 use Rattle.jeguarivo.specs.Laws.Texts.{writeAnswer, turned, listed-good, listAnswer, listedCodes, relisted, askAnswer}
@@ -136,6 +138,14 @@ module _ (n s : ℕ) where
       let a : Arrangement = arrangement n s in
       let m = made (fixRefusal a k L z) (codeOf a (fixCell a k L z)) e in
       let v = fix-allowed a k L z (m .0) in
+      says (v .0) (v .1) (m .1)
+
+  pub geodetic-says : (k : ℕ) (L S : ℤ) (E : ℕ) → geodeticCode n s k L S E .refusal ≡ 0 → Says n s (geodeticCode n s k L S E .code)
+  unfolding geodeticCode
+  geodetic-says k L S E e =
+      let a : Arrangement = arrangement n s in
+      let m = made (geodeticRefusal a k L S E) (codeOf a (geodeticCell a k L S E)) e in
+      let v = geodetic-allowed a k L S E (m .0) in
       says (v .0) (v .1) (m .1)
 
 -- ---- made from a code

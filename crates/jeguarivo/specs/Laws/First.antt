@@ -31,6 +31,10 @@ use Rattle.name.specs.Name.{nameOf, firstLetter, isDigit, allDigits, nameRefusa
 use Rattle.plane.specs.Plane.{squareOf, nucleusOf, verticesOf, pointRefusal, pointCell, inImage, inBelt, inNorth, inSouth, faceSide, half, threeHalves}
 use Rattle.locate.specs.Fix.{InRange, fixRefusal, fixCell, inRange}
 use Rattle.locate.specs.Laws.Fix.{within-range, range-holds}
+use Rattle.authalic.specs.Authalic.{Geodetic, isGeodetic, sineRefusal}
+use Rattle.authalic.specs.Laws.Authalic.{geodetic-tests, geodetic-range}
+use Rattle.geodetic.specs.GeodeticFix.{GeodeticRange, inGeodeticRange, geodeticRefusal, geodeticCell}
+use Rattle.geodetic.specs.Laws.GeodeticFix.{range-tests, range-of}
 use Rattle.reading.specs.Ground.{Apart, Rising}
 use Rattle.reading.specs.declared.Profile.{Profile}
 use Rattle.reading.specs.Reading.{render}
@@ -51,14 +55,16 @@ use Rattle.jeguarivo.specs.declared.SquareAnswer.{SquareAnswer}
 use Rattle.jeguarivo.specs.declared.PointAnswer.{PointAnswer}
 use Rattle.jeguarivo.specs.declared.VerticesAnswer.{VerticesAnswer}
 use Rattle.jeguarivo.specs.declared.FixAnswer.{FixAnswer}
-use Rattle.jeguarivo.specs.Entries.{arrangement, codeAnswer, codeOfCell, nameAnswer, parentCode, childCode, pointCode, fixCode, neighbourCode, codeCell}
-use Rattle.jeguarivo.specs.Entries.{cellNumbers, nameNumbers, writtenName, cellSize, cellShape, cornerCount, cornerNumbers, cornerCells, placedAnswer, cellSquare}
-use Rattle.jeguarivo.specs.Entries.{cellNucleus, cellVertices, groundFix, aSquare, noSquare, aPoint, noPoint, theVertices, noVertices, aFix, noFix}
+use Rattle.jeguarivo.specs.Entries.{arrangement, codeAnswer, codeOfCell, nameAnswer, parentCode, childCode, pointCode, fixCode, geodeticCode, neighbourCode}
+use Rattle.jeguarivo.specs.Entries.{codeCell, cellNumbers, nameNumbers, writtenName, cellSize, cellShape, cornerCount, placedAnswer, cellSquare, cellNucleus}
+use Rattle.jeguarivo.specs.Entries.{cellVertices, groundFix, aSquare, noSquare, aPoint, noPoint, theVertices, noVertices, aFix, noFix, geodeticZ, cornerNumbers}
+use Rattle.jeguarivo.specs.Entries.{cornerCells}
 use Rattle.jeguarivo.specs.Texts.{checkNumbers, listNumbers, askNumbers, writtenNumbers}
 use Rattle.jeguarivo.specs.Order.{Chain, NoneOf, FirstOf}
 use Rattle.jeguarivo.specs.Laws.Order.{Decides, last, then, twice, lt-decides, le-decides, eq-decides, ltZ-decides, leZ-decides, not-decides, and-decides, or-decides}
 use Rattle.jeguarivo.specs.Refusals.{NoLetter, NoDigit, OnImage, arrangementTests, codeTests, textTests, cellTests, nameTests, codeNameTests}
-use Rattle.jeguarivo.specs.Refusals.{cornersTests, parentTests, childTests, pointTests, fixTests, neighbourTests, turnsOf, listTests, askTests, writeTests}
+use Rattle.jeguarivo.specs.Refusals.{cornersTests, parentTests, childTests, pointTests, fixTests, neighbourTests, turnsOf, listTests, askTests, writeTests, zTests}
+use Rattle.jeguarivo.specs.Refusals.{geodeticTests}
 
 -- ---- what the tests decide
 
@@ -189,6 +195,24 @@ unfolding fixCode fixRefusal
 fix-code-first n s k L z =
     coded-first (codeOf (arrangement n s) (fixCell (arrangement n s) k L z))
     (then (arrangement-first n s) refl (λ _. then (last 1 (lt-decides 15 k)) refl (λ _. last 5 (not-decides (range L z)))))
+
+-- jgv_geodetic_z
+geodetic : (S : ℤ) (E : ℕ) → Decides (isGeodetic S E) (Geodetic S E)
+geodetic S E = record { holds = geodetic-range; fails = λ e g. clash (sym (geodetic-tests g) ∙ e) }
+
+pub z-first : (S : ℤ) (E : ℕ) → FirstOf (zTests S E) (geodeticZ S E .refusal)
+unfolding geodeticZ sineRefusal
+z-first S E = last 5 (not-decides (geodetic S E))
+
+-- jgv_geodetic_code
+geodetic-fix : (L S : ℤ) (E : ℕ) → Decides (inGeodeticRange L S E) (GeodeticRange L S E)
+geodetic-fix L S E = record { holds = range-of; fails = λ e g. clash (sym (range-tests g) ∙ e) }
+
+pub geodetic-code-first : (n s k : ℕ) (L S : ℤ) (E : ℕ) → FirstOf (geodeticTests n s k L S E) (geodeticCode n s k L S E .refusal)
+unfolding geodeticCode geodeticRefusal
+geodetic-code-first n s k L S E =
+    coded-first (codeOf (arrangement n s) (geodeticCell (arrangement n s) k L S E))
+    (then (arrangement-first n s) refl (λ _. then (last 1 (lt-decides 15 k)) refl (λ _. last 5 (not-decides (geodetic-fix L S E)))))
 
 -- jgv_neighbour
 pub neighbour-first : (code d : ℕ) → FirstOf (neighbourTests code d) (neighbourCode code d .refusal)

@@ -27,15 +27,18 @@ use Rattle.listing.specs.List.{listingRefusal, listed, codesOf}
 use Rattle.asking.specs.Ask.{askRefusal, asked}
 use Rattle.writing.specs.Write.{Another, asksFor, writeRefusal, textOf, written}
 use Rattle.locate.specs.Fix.{InRange}
-use Rattle.jeguarivo.specs.Entries.{arrangement, codeOfCell, nameAnswer, parentCode, childCode, pointCode, fixCode, neighbourCode, codeCell, writtenName, cornerCells, cellSquare}
+use Rattle.authalic.specs.Authalic.{Geodetic}
+use Rattle.geodetic.specs.GeodeticFix.{GeodeticRange}
+use Rattle.jeguarivo.specs.Entries.{arrangement, codeOfCell, nameAnswer, parentCode, childCode, pointCode, fixCode, neighbourCode, codeCell, writtenName}
+use Rattle.jeguarivo.specs.Entries.{cellSquare, geodeticZ, geodeticCode, cornerCells}
 use Rattle.jeguarivo.specs.Texts.{checkNumbers, listNumbers, askNumbers, writtenNumbers}
 use Rattle.jeguarivo.specs.Order.{order, orderInWriting, numbers, inOrder, NoneOf}
 use Rattle.jeguarivo.specs.Laws.Order.{given-exactly, none-exactly}
 use Rattle.jeguarivo.specs.Refusals.{NoLetter, NoDigit, OnImage, codeTests, textTests, cellTests, nameTests, codeNameTests, parentTests, childTests}
-use Rattle.jeguarivo.specs.Refusals.{cornersTests, pointTests, fixTests, neighbourTests, turnsOf, listTests, askTests, writeTests}
+use Rattle.jeguarivo.specs.Refusals.{cornersTests, pointTests, fixTests, neighbourTests, turnsOf, listTests, askTests, writeTests, zTests, geodeticTests}
 use Rattle.jeguarivo.specs.Laws.First.{name-refusal, cell-code-first, name-code-first, point-code-first, fix-code-first, neighbour-first, parent-first}
 use Rattle.jeguarivo.specs.Laws.First.{child-first, code-cell-first, code-name-first, corners-first, square-first, check-first, list-first, ask-first, write-first}
-use Rattle.jeguarivo.specs.Laws.First.{of-grammar, of-order, of-version, asked-profile, of-profile}
+use Rattle.jeguarivo.specs.Laws.First.{of-grammar, of-order, of-version, asked-profile, of-profile, z-first, geodetic-code-first}
 
 -- ---- "Order where several apply"
 
@@ -51,12 +54,14 @@ module _ (n s k f i j code digit room version depth : ℕ) (x y : ℤ) (bytes co
       numbers (childTests code digit) ∷
       numbers (pointTests n s k x y) ∷
       numbers (fixTests n s k x y) ∷
+      numbers (zTests x room) ∷
+      numbers (geodeticTests n s k x y room) ∷
       numbers (neighbourTests code digit) ∷
       numbers (textTests bytes) ∷
       numbers (listTests bytes room) ∷
       numbers (askTests bytes code) ∷ [])
   unfolding inOrder
-  in-order = (refl, (refl, (refl, (refl, (refl, (refl, (refl, (refl, (refl, (refl, (refl, (refl, (refl, tt)))))))))))))
+  in-order = (refl, (refl, (refl, (refl, (refl, (refl, (refl, (refl, (refl, (refl, (refl, (refl, (refl, (refl, (refl, tt)))))))))))))))
 
   -- "in writing, 13 is judged on the text of a good list, so there it comes last but for 8"
   pub in-order-writing : inOrder orderInWriting (numbers (writeTests version depth n s codes room)) ≡ true
@@ -188,9 +193,26 @@ module _ (n s : ℕ) where
   pub zero-fix : (k : ℕ) (L z : ℤ) → (fixCode n s k L z .refusal ≡ 0) ↔ NoneOf (fixTests n s k L z)
   zero-fix k L z = none-exactly (fix-code-first n s k L z) refl
 
+  -- 6: "also for S or E out of range" (02, W-203), after 5 and 2
+  pub five-geodetic : (k : ℕ) (L S : ℤ) (E : ℕ) → (geodeticCode n s k L S E .refusal ≡ 5) ↔ ((3 < n) ⊎ (3 < s))
+  five-geodetic k L S E = given-exactly 4 (geodetic-code-first n s k L S E) refl
+
+  pub two-geodetic : (k : ℕ) (L S : ℤ) (E : ℕ) → (geodeticCode n s k L S E .refusal ≡ 2) ↔ (((3 < n) ⊎ (3 < s) → ⊥) × (15 < k))
+  two-geodetic k L S E = given-exactly 1 (geodetic-code-first n s k L S E) refl
+
+  pub six-geodetic :
+      (k : ℕ) (L S : ℤ) (E : ℕ) → (geodeticCode n s k L S E .refusal ≡ 6) ↔ (((3 < n) ⊎ (3 < s) → ⊥) × ((15 < k → ⊥) × (GeodeticRange L S E → ⊥)))
+  six-geodetic k L S E = given-exactly 5 (geodetic-code-first n s k L S E) refl
+
   -- 7: "planar point outside the image"
   pub seven-point : (k : ℕ) (x y : ℤ) → (pointCode n s k x y .refusal ≡ 7) ↔ (((3 < n) ⊎ (3 < s) → ⊥) × ((15 < k → ⊥) × (OnImage n s x y → ⊥)))
   seven-point k x y = given-exactly 6 (point-code-first n s k x y) refl
+
+-- ---- of a sine
+
+-- 6: "also for S or E out of range" (02, W-203)
+pub six-z : (S : ℤ) (E : ℕ) → (geodeticZ S E .refusal ≡ 6) ↔ (Geodetic S E → ⊥)
+six-z S E = given-exactly 5 (z-first S E) refl
 
 -- ---- of a text that is read
 

@@ -3,9 +3,9 @@ use mathlib.Core.Path.{sym, ap, _∙_}
 use mathlib.Core.Bool.{Bool}
 use borrow.Author.Tests.{lt-ltb, le-ltb}
 use borrow.Author.Needs.{needs}
-use Rattle.logic.specs.Refusal.{refuse}
+use Rattle.logic.specs.Refusal.{refuse, _otherwise_}
 use Rattle.logic.specs.Laws.Refusal.{stops, passes}
-use Rattle.flight.specs.Setting.{settingRefusal}
+use Rattle.flight.specs.Setting.{latitudeRefusal, settingRefusal}
 use Rattle.flight.proofs.Setting.refusal.Statement.{statement}
 use Rattle.flight.proofs.Setting.refusal.Tie as tie
 
@@ -17,16 +17,23 @@ unfolding settingRefusal
 returns c = let e = c .before .refusal .ensures in e ∙ sym (stops _ _ (λ z. c .if1 .taken (e ∙ z)))
 
 returns-2 : tie.Need-returns-2
-unfolding settingRefusal
+unfolding settingRefusal _otherwise_
 returns-2 c =
-    let z = sym (c .before .before .before .refusal .ensures) ∙ c .before .before .if1 .left in
-    sym (passes _ z ∙ ap (λ (b : Bool). refuse b 2) (lt-ltb 15 (c .before .before .before .before .args .self .resolution) (c .if2 .taken)))
+    let l = c .before .before in
+    let z = sym (l .before .refusal .ensures) ∙ l .if1 .left in
+    sym (passes _ z ∙ ap (λ (b : Bool). refuse b 2 otherwise latitudeRefusal (l .before .before .args .self .latitude)) (lt-ltb 15 (l .before .before .args .self .resolution) (c .if2 .taken)))
+
+refusal-requires-2 : tie.Need-refusal-requires-2
+refusal-requires-2 c κs = search needs
 
 returns-3 : tie.Need-returns-3
-unfolding settingRefusal
+unfolding settingRefusal _otherwise_
 returns-3 c =
-    let z = sym (c .before .before .before .refusal .ensures) ∙ c .before .before .if1 .left in
-    sym (passes _ z ∙ ap (λ (b : Bool). refuse b 2) (le-ltb 15 (c .before .before .before .before .args .self .resolution) (c .if2 .left)))
+    let t = c .before in
+    let l = t .before .before in
+    let z = sym (l .before .refusal .ensures) ∙ l .if1 .left in
+    c .refusal2 .ensures
+    ∙ sym (passes _ z ∙ ap (λ (b : Bool). refuse b 2 otherwise latitudeRefusal (l .before .before .args .self .latitude)) (le-ltb 15 (l .before .before .args .self .resolution) (t .if2 .left)))
 
 pub refusal-spec : {M : Type 1} → statement M
-refusal-spec = tie.close (tie.spec refusal-requires returns returns-2 returns-3)
+refusal-spec = tie.close (tie.spec refusal-requires returns returns-2 refusal-requires-2 returns-3)

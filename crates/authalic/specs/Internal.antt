@@ -1,0 +1,6 @@
+pub mod AnswerLaws
+pub mod Approximation
+pub mod PointLaws
+pub mod SeriesLaws
+pub mod ShareLaws
+pub mod SumLaws

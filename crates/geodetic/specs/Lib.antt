@@ -1,0 +1,2 @@
+pub mod GeodeticFix
+pub mod Laws
