@@ -201,7 +201,7 @@ module _ (t : List ℕ) where
   pub thirteen-check : (checkNumbers (checkedOf t) .refusal ≡ 13) ↔ (65536 < length t)
   thirteen-check = given-exactly 12 (check-first t) refl
 
-  -- 10: "five bytes or more, mark right, version not 1"
+  -- 10: "five bytes or more, mark right", version "neither 1 nor 2"
   pub ten-check : (checkNumbers (checkedOf t) .refusal ≡ 10) ↔ ((65536 < length t → ⊥) × WrongVersion t)
   ten-check = given-exactly 9 (check-first t) refl
 
