@@ -1,3 +1,4 @@
+pub mod Allowed
 pub mod Built
 pub mod Demand
 pub mod Fewest

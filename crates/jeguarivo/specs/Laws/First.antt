@@ -1,7 +1,7 @@
 -- Each entry refuses with the first of its numbers whose condition holds, and with 0 where none does (01 "Refusal numbers": "Order where several
 -- apply"). Assumes nothing.
 use mathlib.Core.Path.{_≡_, refl, sym, ap, ap₂, _∙_, subst}
-use mathlib.Core.Logic.{_⊎_, inl, inr, ⊎-elim}
+use mathlib.Core.Logic.{_↔_, _⊎_, inl, inr, ⊎-elim}
 use mathlib.Core.Bool.{Bool, true, false, _&&_, not}
 use mathlib.Core.List.{List, [], _∷_, map}
 use Prim.Native.Nat.{ℕ, zero, suc, _+_, _*_, _^_, _<_, _≤_}
@@ -35,13 +35,15 @@ use Rattle.authalic.specs.Authalic.{Geodetic, isGeodetic, sineRefusal}
 use Rattle.authalic.specs.Laws.Authalic.{geodetic-tests, geodetic-range}
 use Rattle.geodetic.specs.GeodeticFix.{GeodeticRange, inGeodeticRange, geodeticRefusal, geodeticCell}
 use Rattle.geodetic.specs.Laws.GeodeticFix.{range-tests, range-of}
-use Rattle.reading.specs.Ground.{Apart, Rising}
+use Rattle.reading.specs.Ground.{Apart, Rising, Covers, Cells}
+use Rattle.reading.specs.Fewest.{FewestOf}
 use Rattle.reading.specs.declared.Profile.{Profile}
 use Rattle.reading.specs.Reading.{render}
 use Rattle.reading.specs.Text.{IsProfile, levelOf, ReadsAs, Accepted}
 use Rattle.reading.specs.Laws.Heading.{turn-bytes}
-use Rattle.reading.specs.Written.{keeps}
+use Rattle.reading.specs.Written.{keeps, Allows}
 use Rattle.reading.specs.Laws.Written.{TextOf, keeps-exactly}
+use Rattle.reading.specs.Laws.Allowed.{keeps-fewest}
 use Rattle.reading.specs.TextReading.{nodesOf, profileOf, northOf, southOf, textArrangement, isText}
 use Rattle.reading.specs.Laws.TextReading.{reads-own}
 use Rattle.reader.specs.Check.{WrongVersion, otherVersion, textRefusal, answer, checkedOf}
@@ -479,6 +481,13 @@ module _ (p : Profile) (n s : ℕ) (codes : List ℕ) (q : IsProfile p) (a : (3 
 
   pub of-profile : ((TextOf p n s (map cellOf codes) → ⊥) → ⊥) → TextOf p n s (map cellOf codes)
   of-profile m = in-profile .holds (passed in-profile m)
+
+  pub text-allowed : (few : List Cell) → FewestOf (Covers (map cellOf codes)) few → TextOf p n s (map cellOf codes) ↔ All (Allows p) few
+  text-allowed few f =
+      let g : Cells (map cellOf codes) = codes-cells codes (missed (allCodes codes) (cells-of codes) c) in
+      let e = keeps-exactly p n s (map cellOf codes) q (turned n s a .0) (turned n s a .1) g in
+      let k = keeps-fewest p (map cellOf codes) few g f in
+      ((λ t. k .0 (e .1 t)), (λ h. e .0 (k .1 h)))
 
 pub write-refusal : (r n : ℕ) → writtenNumbers (written r n) .refusal ≡ r
 unfolding written

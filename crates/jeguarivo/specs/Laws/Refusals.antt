@@ -19,8 +19,10 @@ use Rattle.code.specs.Laws.Exact.{NoCell}
 use Rattle.name.specs.Name.{nameOf, nameCode, nameRefusal}
 use Rattle.corner.specs.List.{codesAt}
 use Rattle.name.specs.Laws.Name.{accepted, name-accepted, name-code-is, code-name}
-use Rattle.reading.specs.Ground.{Apart}
+use Rattle.reading.specs.Ground.{Covers, Apart}
+use Rattle.reading.specs.Fewest.{FewestOf}
 use Rattle.reading.specs.Text.{Accepted}
+use Rattle.reading.specs.Written.{Allows}
 use Rattle.reading.specs.Laws.Written.{TextOf}
 use Rattle.reader.specs.Check.{WrongVersion, checkedOf}
 use Rattle.listing.specs.List.{listingRefusal, listed, codesOf}
@@ -38,7 +40,7 @@ use Rattle.jeguarivo.specs.Refusals.{NoLetter, NoDigit, OnImage, codeTes
 use Rattle.jeguarivo.specs.Refusals.{cornersTests, pointTests, fixTests, neighbourTests, turnsOf, listTests, askTests, writeTests, zTests, geodeticTests}
 use Rattle.jeguarivo.specs.Laws.First.{name-refusal, cell-code-first, name-code-first, point-code-first, fix-code-first, neighbour-first, parent-first}
 use Rattle.jeguarivo.specs.Laws.First.{child-first, code-cell-first, code-name-first, corners-first, square-first, check-first, list-first, ask-first, write-first}
-use Rattle.jeguarivo.specs.Laws.First.{of-grammar, of-order, of-version, asked-profile, of-profile, z-first, geodetic-code-first}
+use Rattle.jeguarivo.specs.Laws.First.{of-grammar, of-order, of-version, asked-profile, of-profile, z-first, geodetic-code-first, text-allowed}
 
 -- ---- "Order where several apply"
 
@@ -221,7 +223,7 @@ module _ (t : List ℕ) where
   pub thirteen-check : (checkNumbers (checkedOf t) .refusal ≡ 13) ↔ (65536 < length t)
   thirteen-check = given-exactly 12 (check-first t) refl
 
-  -- 10: "five bytes or more, mark right, version not 1"
+  -- 10: "five bytes or more, mark right", version "neither 1 nor 2"
   pub ten-check : (checkNumbers (checkedOf t) .refusal ≡ 10) ↔ ((65536 < length t → ⊥) × WrongVersion t)
   ten-check = given-exactly 9 (check-first t) refl
 
@@ -326,6 +328,22 @@ module _ (version depth n s : ℕ) (codes : List ℕ) (room : ℕ) where
             let b = a .1 .1 in
             let c = b .1 .1 in
             k .1 (a .0, (a .1 .0, (b .0, ((λ m. m (b .1 .0)), (c .0, ((λ m. m (c .1 .0)), c .1 .1))))))),
+      )
+
+  -- "A good list is outside the profile exactly when the fewest cells of its ground break it"
+  pub fifteen-cells :
+      (few : List Cell) → FewestOf (Covers (map cellOf codes)) few → (refusedWrite ≡ 15) ↔ Listed (All (Allows (asksFor version depth)) few → ⊥)
+  fifteen-cells few f =
+      let k : ((3 < n) ⊎ (3 < s) → ⊥) → (15 < depth → ⊥) → (Any NoCell codes → ⊥) → TextOf (asksFor version depth) n s (map cellOf codes) ↔ All (Allows (asksFor version depth)) few =
+      λ a d c. text-allowed (asksFor version depth) n s codes (asked-profile version depth d) a c few f in (
+        (λ e.
+            let a = fifteen-write .0 e in
+            let b = a .1 .1 in
+            (a .0, (a .1 .0, (b .0, (b .1 .0, (b .1 .1 .0, (b .1 .1 .1 .0, (λ h. b .1 .1 .1 .1 (k (a .0) (a .1 .0) (b .0) .1 h))))))))),
+        (λ a.
+            let b = a .1 .1 in
+            fifteen-write .1
+            (a .0, (a .1 .0, (b .0, (b .1 .0, (b .1 .1 .0, (b .1 .1 .1 .0, (λ t. b .1 .1 .1 .1 (k (a .0) (a .1 .0) (b .0) .0 t))))))))),
       )
 
   -- behind 15
