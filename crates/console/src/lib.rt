@@ -2,7 +2,7 @@
 ghost use mathlib.Core.Path.{_≡_};
 ghost use Prim.Native.Nat.{_≤_, _<_};
 ghost use lib.ListN.{length};
-ghost use Rattle.console.specs.Arguments.{OfWord, Usable};
+ghost use Rattle.console.specs.Arguments.{latitudeGiven, settingGiven, OfWord, Usable};
 ghost use Rattle.console.specs.Input.{unread, Given, Fits, lastLine};
 ghost use Rattle.console.specs.Room.{Made};
 use cell::Arrangement;
@@ -164,41 +164,59 @@ pub fn whole_argument(i: usize) -> Whole
     decimal::whole_in(&word[..n])
 }
 
-// What the second number of a line is: z, or with a fourth argument the sine of a geodetic latitude.
-fn given_latitude() -> LatitudeGiven {
-    let count = os::arg_count();
+// What the second number of a line is, by the number of words, the program's own name among them, and the fourth argument: z, or with a fourth
+// argument the sine of a geodetic latitude.
+fn latitude_given(count: usize, fourth: Whole) -> LatitudeGiven
+    ensures { λ r. ⌜ r ≡ latitudeGiven count fourth ⌝ }
+{
     if count == 4 {
         return LatitudeGiven::Good(Latitude::Authalic);
     }
     if count != 5 {
         return LatitudeGiven::Wrong;
     }
-    match whole_argument(4) {
+    match fourth {
         Whole::Is(eccentricity) => LatitudeGiven::Good(Latitude::Geodetic(eccentricity)),
         Whole::Not => LatitudeGiven::Wrong,
     }
+}
+
+// The setting that is given, not yet tested.
+fn setting_given(latitude: LatitudeGiven, n: Whole, s: Whole, resolution: Whole) -> Arguments
+    ensures { λ r. ⌜ r ≡ settingGiven latitude n s resolution ⌝ }
+{
+    let LatitudeGiven::Good(latitude) = latitude else {
+        return Arguments::Wrong;
+    };
+    let Whole::Is(north) = n else {
+        return Arguments::Wrong;
+    };
+    let Whole::Is(south) = s else {
+        return Arguments::Wrong;
+    };
+    let Whole::Is(resolution) = resolution else {
+        return Arguments::Wrong;
+    };
+    Arguments::Good(Setting {
+        arrangement: Arrangement { north, south },
+        resolution,
+        latitude, // with its eccentricity
+    })
 }
 
 // The arguments n, s, resolution and, where there is a fourth, eccentricity. Where they cannot be used, standard error says why.
 pub fn given_setting(program: &[u8]) -> Arguments
     ensures { λ r. ⌜ Usable r ⌝ }
 {
-    let LatitudeGiven::Good(latitude) = given_latitude() else {
-        return Arguments::Wrong;
-    };
-    let Whole::Is(north) = whole_argument(1) else {
-        return Arguments::Wrong;
-    };
-    let Whole::Is(south) = whole_argument(2) else {
-        return Arguments::Wrong;
-    };
-    let Whole::Is(resolution) = whole_argument(3) else {
-        return Arguments::Wrong;
-    };
-    let setting = Setting {
-        arrangement: Arrangement { north, south },
-        resolution,
+    let latitude = latitude_given(os::arg_count(), whole_argument(4));
+    let given = setting_given(
         latitude,
+        whole_argument(1),
+        whole_argument(2),
+        whole_argument(3),
+    );
+    let Arguments::Good(setting) = given else {
+        return Arguments::Wrong;
     };
     let refusal = setting.refusal();
     if refusal != 0 {

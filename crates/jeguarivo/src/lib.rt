@@ -427,11 +427,8 @@ pub extern "C" fn jgv_geodetic_code(
 ) -> CodeAnswer
     ensures { λ r. ⌜ r ≡ geodeticCode n s resolution longitude sine eccentricity ⌝ }
 {
-    let arrangement = Arrangement { north: n, south: s }; // `geodetic::locate` tests it
-    found_answer(
-        arrangement,
-        geodetic::locate(arrangement, resolution, longitude, sine, eccentricity),
-    )
+    let z = geodetic::z_of(sine, eccentricity);
+    jgv_fix_code(n, s, resolution, longitude, z)
 }
 
 // 3 where the direction is above 3, 4 where the code is no cell's.

@@ -1,24 +1,25 @@
 -- How the refusals of such a fix follow from those of its sine and of the fix with z. Assumes nothing.
 use mathlib.Core.Path.{_≡_, refl, sym, ap, _∙_}
 use mathlib.Core.Logic.{_↔_}
-use mathlib.Core.Bool.{Bool, true, false, _&&_, not}
+use mathlib.Core.Bool.{Bool, true, false, _&&_, not, cond}
 use Prim.Native.Nat.{ℕ, _≤_}
 use native.Mathlib.Omega.{arith}
 use lib.Dec.{leb, ltb}
-use lib.IntN.{ℤ}
+use lib.IntN.{ℤ, pos}
 use borrow.Author.Tests.{leb-true, le-leb, le-ltb}
 use Rattle.logic.specs.Laws.Bools.{and-left, and-right, refuted, same-truth, clash}
 use Rattle.logic.specs.Refusal.{refuse, _otherwise_}
 use Rattle.logic.specs.Laws.Refusal.{passes, both, allowed}
+use Rattle.cell.specs.declared.Cell.{Cell}
 use Rattle.cell.specs.declared.Arrangement.{Arrangement}
 use Rattle.cell.specs.Cell.{IsCell, IsArrangement, arrangementRefusal}
 use Rattle.cell.specs.Laws.Cell.{arrangement-is}
-use Rattle.locate.specs.Fix.{InRange, inRange, fixRefusal}
+use Rattle.locate.specs.Fix.{InRange, inRange, fixRefusal, fixCell}
 use Rattle.locate.specs.Laws.Fix.{fix-allowed, within-range, range-holds}
 use Rattle.authalic.specs.Authalic.{Geodetic, isGeodetic}
 use Rattle.authalic.specs.Computed.{authalicSine}
 use Rattle.authalic.specs.Laws.Authalic.{authalic, geodetic-tests, geodetic-range}
-use Rattle.geodetic.specs.GeodeticFix.{GeodeticRange, inGeodeticRange, geodeticRefusal, geodeticCell}
+use Rattle.geodetic.specs.GeodeticFix.{GeodeticRange, inGeodeticRange, geodeticRefusal, geodeticCell, zFor}
 
 -- ---- the range
 
@@ -90,3 +91,30 @@ geodetic-allowed a k L S E e =
     not-false : (b : Bool) → not b ≡ false → b ≡ true
     not-false true q = refl
     not-false false q = sym q
+
+-- ---- by z alone
+
+none-out : (L : ℤ) → inRange L (pos 2000000000000000000) ≡ false
+none-out L = refuted (inRange L (pos 2000000000000000000)) (λ e. range-holds {L = L} {z = pos 2000000000000000000} e .high .le)
+
+not-none : (r q : ℕ) → (q ≡ 0 → ⊥) → r otherwise q ≡ 0 → ⊥
+not-none r q n e = n (both r q e .1)
+
+-- what is made of the refusal and the cell, and with a refusal not of the cell, is made of the fix with z
+pub by-z {ℓ} :
+    {X : Type ℓ} (f : ℕ → Cell → X) → ((r : ℕ) (c d : Cell) → (r ≡ 0 → ⊥) → f r c ≡ f r d) → (a : Arrangement) (k : ℕ) (L S : ℤ) (E : ℕ) →
+    f (fixRefusal a k L (zFor S E)) (fixCell a k L (zFor S E)) ≡ f (geodeticRefusal a k L S E) (geodeticCell a k L S E)
+unfolding zFor geodeticCell fixRefusal
+by-z {X = X} f same a k L S E = go (isGeodetic S E) refl
+  where
+    go : (t : Bool) → isGeodetic S E ≡ t →
+        f (fixRefusal a k L (cond t (authalicSine S E) (pos 2000000000000000000))) (fixCell a k L (cond t (authalicSine S E) (pos 2000000000000000000)))
+        ≡ f (geodeticRefusal a k L S E) (fixCell a k L (authalicSine S E))
+    go true e = ap (λ (r : ℕ). f r (fixCell a k L (authalicSine S E))) (same-refusal a k L S E (geodetic-range e))
+    go false e =
+        let p : fixRefusal a k L (pos 2000000000000000000) ≡ arrangementRefusal a otherwise refuse (ltb 15 k) 2 otherwise 6 =
+        ap (λ (t : Bool). arrangementRefusal a otherwise refuse (ltb 15 k) 2 otherwise refuse (not t) 6) (none-out L) in
+        let q = last-refusal a k L S E e in
+        ap (λ (r : ℕ). f r (fixCell a k L (pos 2000000000000000000))) (p ∙ sym q)
+        ∙ same (geodeticRefusal a k L S E) (fixCell a k L (pos 2000000000000000000)) (fixCell a k L (authalicSine S E))
+        (λ z. not-none (arrangementRefusal a) _ (not-none (refuse (ltb 15 k) 2) 6 (λ y. omega arith)) (sym q ∙ z))

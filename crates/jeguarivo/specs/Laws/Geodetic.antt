@@ -8,13 +8,13 @@ use lib.IntN.{ℤ, pos, negsuc, negℤ}
 use lib.Signed.{_≤ℤ_}
 use lib.Dec.{leb}
 use borrow.Author.Tests.{leb-true, le-leb}
-use Rattle.logic.specs.Laws.Bools.{and-left, same-truth}
+use Rattle.logic.specs.Laws.Bools.{and-left, refuted, same-truth}
 use Rattle.logic.specs.Refusal.{refuse, given}
 use Rattle.locate.specs.Fix.{fixCell}
 use Rattle.authalic.specs.Sums.{Near}
 use Rattle.authalic.specs.Authalic.{Geodetic, isGeodetic, isSine, sineRefusal, Authalic}
 use Rattle.authalic.specs.Computed.{authalicSine}
-use Rattle.authalic.specs.Laws.Authalic.{authalic, geodetic-tests}
+use Rattle.authalic.specs.Laws.Authalic.{authalic, geodetic-tests, geodetic-range}
 use Rattle.geodetic.specs.GeodeticFix.{geodeticCell}
 use Rattle.geodetic.specs.Laws.GeodeticFix.{same-refusal}
 use Rattle.code.specs.Code.{codeOf}
@@ -28,6 +28,13 @@ zOf S E = geodeticZ S E .z
 answered : {S : ℤ} {E : ℕ} → Geodetic S E → zOf S E ≡ authalicSine S E
 unfolding geodeticZ sineRefusal given
 answered {S} {E} g = ap (λ (t : Bool). given (refuse (not t) 6) (authalicSine S E) (pos 0)) (geodetic-tests g)
+
+-- out of range it is 0
+pub z-refused : (S : ℤ) (E : ℕ) → (Geodetic S E → ⊥) → geodeticZ S E ≡ record { refusal = 6; z = pos 0 }
+unfolding geodeticZ sineRefusal given
+z-refused S E h =
+    ap (λ (t : Bool). record { refusal = refuse (not t) 6; z = given (refuse (not t) 6) (authalicSine S E) (pos 0) })
+    (refuted (isGeodetic S E) (λ e. h (geodetic-range e)))
 
 -- jgv_geodetic_code is jgv_fix_code with the z of jgv_geodetic_z
 pub geodetic-by-z : (n s k : ℕ) (L S : ℤ) (E : ℕ) → Geodetic S E → geodeticCode n s k L S E ≡ fixCode n s k L (zOf S E)
