@@ -9,23 +9,28 @@
  * one arrangement the order of codes is the byte order of names. The greatest code is 316,248,778,897,380,863. Names say no arrangement.
  *
  *    1  face above 5, empty name, first byte not N to S
- *    2  resolution above 15, name over 16 bytes
+ *    2  resolution above 15, name over 16 bytes, depth above 15
  *    3  later name byte not 0 to 8, row or column not below 3^resolution, child digit above 8, direction above 3
  *    4  a code is no cell's
  *    5  n or s above 3
  *    6  longitude, z, sine or eccentricity out of range
  *    7  planar point outside the image
  *    8  lent buffer shorter than the answer
- *    9  text not of the grammar; `place` is then the length of the longest leading part that some accepted text begins with
- *   10  five bytes or more, mark right, version not 1
+ *    9  text not of the grammar; `place` is then the length of the longest leading part that some accepted text of either version begins with
+ *   10  five bytes or more, mark right, version neither 1 nor 2; a version neither 1 nor 2 asked of the writer
  *   11  list not strictly rising, or one cell inside another
  *   12  parent at resolution 0, child at 15
  *   13  text longer than 65,536 bytes, read or to be written
  *   14  a question of another arrangement than the text's heading has, or a list with a code of another arrangement than the asked one
+ *   15  list outside the profile of version 2: the fewest cells of its ground hold a part of N or S, or one deeper than the asked depth
  *
- * Where several apply, the order is 5, 2, 1, 3, 4, 6, 7, 12, 13, 10, 9, 14, 11, 8; in
- * writing 13 comes after 11. Faces 0 to 5 are N, O, P, Q, R, S; N lies above face n of O to R and S below
+ * Where several apply, the order is 5, 2, 1, 3, 4, 6, 7, 12, 13, 10, 9, 14, 11, 15, 8; in
+ * writing 13 comes after 15. Faces 0 to 5 are N, O, P, Q, R, S; N lies above face n of O to R and S below
  * face s, both from 0 to 3.
+ *
+ * A coverage text is a heading and a body: the mark `CVR`, the version in two bytes (00 01 or 00 02), n and s as digits, at version 2 one
+ * letter a to p for the greatest depth 0 to 15, and the whole cells as faces with lists of digits. At version 2, for handhelds, N and S
+ * stand only whole and nothing lies deeper than that depth; version 1 is depth 15 with N and S divided like the others.
  */
 #ifndef JEGUARIVO_H
 #define JEGUARIVO_H
@@ -49,7 +54,7 @@ typedef struct { uint64_t refusal; int64_t x, y; } jgv_point;
 typedef struct { uint64_t refusal; int64_t x[4], y[4]; } jgv_vertices_answer;
 typedef struct { uint64_t refusal; int64_t longitude, z; } jgv_fix;
 typedef struct { uint64_t refusal; int64_t z; } jgv_z;
-typedef struct { uint64_t refusal, place, n, s, cells, size; } jgv_check;
+typedef struct { uint64_t refusal, place, version, depth, n, s, cells, size; } jgv_check;
 typedef struct { uint64_t refusal, place, count; } jgv_list;
 typedef struct { uint64_t refusal, place, covered; } jgv_ask;
 
@@ -118,16 +123,19 @@ jgv_fix jgv_ground_nucleus(uint64_t code);
 /* The neighbour of a cell, in its arrangement: direction 0 is up, 1 right, 2 down, 3 left. Refusals 3, 4. */
 jgv_code jgv_neighbour(uint64_t code, uint64_t direction);
 
-/* Checks a coverage text: the heading's n and s, the number of its whole cells and the sum of their sizes. Refusals 13, 10, 9. */
+/* Checks a coverage text: the heading's version, depth (15 at version 1), n and s, the number of its whole cells and the sum of their sizes.
+ * Refusals 13, 10, 9. */
 jgv_check jgv_coverage_check(const uint8_t *text, size_t length);
 
 /* The codes of a text's whole cells, of its heading's arrangement, in rising order, written to the first of `codes`. A text has fewer whole
  * cells than bytes, so a room of `length` is enough. Refusals 13, 10, 9, 8. */
 jgv_list jgv_coverage_list(const uint8_t *text, size_t length, uint64_t *codes, size_t room);
 
-/* The coverage text of rising codes of the arrangement (n, s), none inside another, with nine whole siblings merged upwards. A room of
- * 65,536 bytes is always enough. Refusals 5, 4, 14, 11, 13, 8. */
-jgv_length jgv_coverage_write(uint64_t n, uint64_t s, const uint64_t *codes, size_t count, uint8_t *text, size_t room);
+/* The coverage text, of version 1 or 2, of rising codes of the arrangement (n, s), none inside another, with nine whole siblings merged
+ * upwards. At version 2 the merged cells must keep to the depth and leave N and S whole, so N0 to N8 pass as N; at version 1 the depth is
+ * tested and not used. A room of 65,536 bytes is always enough. Refusals 5, 2, 4, 10, 14, 11, 15, 13, 8. */
+jgv_length jgv_coverage_write(uint64_t version, uint64_t depth, uint64_t n, uint64_t s, const uint64_t *codes, size_t count, uint8_t *text,
+                              size_t room);
 
 /* Whether a text covers all finest cells of a cell of its arrangement: 1 or 0. Refusals 4, 13, 10, 9, 14. */
 jgv_ask jgv_coverage_ask(const uint8_t *text, size_t length, uint64_t code);

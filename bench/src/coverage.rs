@@ -105,6 +105,8 @@ fn write(plan: Plan, at: &Text) -> Vec<Row> {
         let mut room = room.borrow_mut();
         let answer = unsafe {
             write(
+                1,
+                15,
                 0,
                 0,
                 at.codes.as_ptr(),

@@ -107,7 +107,7 @@ pub fn swath(random: &mut Random, resolution: u64, longest: usize) -> (Vec<u64>,
             at = code(random, resolution);
         }
         let codes: Vec<u64> = cells.iter().copied().collect();
-        let text = writing::write(0, 0, &codes);
+        let text = writing::write(writing::FULL, 0, 0, &codes);
         if text.len() > longest {
             return best;
         }

@@ -14,7 +14,7 @@ pub type Neighbour = extern "C" fn(u64, u64) -> Code;
 pub type CoverageCheck = unsafe extern "C" fn(*const u8, usize) -> Check;
 pub type CoverageList = unsafe extern "C" fn(*const u8, usize, *mut u64, usize) -> List;
 pub type CoverageWrite =
-    unsafe extern "C" fn(u64, u64, *const u64, usize, *mut u8, usize) -> Length;
+    unsafe extern "C" fn(u64, u64, u64, u64, *const u64, usize, *mut u8, usize) -> Length;
 pub type CoverageAsk = unsafe extern "C" fn(*const u8, usize, u64) -> Ask;
 
 /// A sum that depends on every field and on the order of answers.
@@ -43,7 +43,7 @@ folds! {
     Length { length }
     Fix { longitude, z }
     Z { z }
-    Check { place, n, s, cells, size }
+    Check { place, version, depth, n, s, cells, size }
     List { place, count }
     Ask { place, covered }
 }

@@ -7,14 +7,14 @@ use crate::plain::fixes::{
     fix_code, geodetic_code, geodetic_z, geodetic_z_divided, ground_nucleus,
 };
 use crate::plain::neighbour::neighbour;
-use crate::plain::writing::coverage_write;
+use crate::plain::writing::{coverage_write, write, Profile};
 use jeguarivo::{
     jgv_cell_code, jgv_code_cell, jgv_fix_code, jgv_geodetic_code, jgv_geodetic_z,
     jgv_ground_nucleus, jgv_neighbour, lent,
 };
 use std::fmt::Debug;
 
-const BYTES: &[u8] = b"()()0123456789NOPQRSMTCVR\0\x01";
+const BYTES: &[u8] = b"()()0123456789NOPQRSMTCVR\0\x01\x02afp";
 
 fn same<A: PartialEq + Debug>(what: &str, library: A, plain: A) {
     if library != plain {
@@ -165,7 +165,10 @@ fn spoil(random: &mut Random, text: &mut Vec<u8>) {
 
 fn texts(random: &mut Random) {
     let resolution = 5 + random.below(11);
-    let (_, mut text) = swath(random, resolution, 300);
+    let (codes, mut text) = swath(random, resolution, 300);
+    if random.below(2) == 0 {
+        text = handheld(random, resolution, &codes);
+    }
     if random.below(4) == 0 {
         text[5] = b'0' + random.below(4) as u8;
         text[6] = b'0' + random.below(4) as u8;
@@ -191,6 +194,24 @@ fn texts(random: &mut Random) {
     same("list", (counts.0, library), (counts.1, plain));
 }
 
+/// A text of version 2 of the cells, most often with a depth that they keep to.
+fn handheld(random: &mut Random, resolution: u64, codes: &[u64]) -> Vec<u8> {
+    let depth = match random.below(8) {
+        0 => random.below(16),
+        _ => resolution,
+    };
+    write(Profile { version: 2, depth }, 0, 0, codes)
+}
+
+/// What the writer is asked: both versions, and now and then a version that there is not or a depth above 15.
+fn asked(random: &mut Random, resolution: u64) -> (u64, u64) {
+    let depth = match random.below(3) {
+        0 => random.below(17),
+        _ => resolution,
+    };
+    (1 + random.below(17) / 8, depth)
+}
+
 fn lists(random: &mut Random) {
     let resolution = 5 + random.below(11);
     let (mut codes, text) = swath(random, resolution, 2_000);
@@ -207,11 +228,21 @@ fn lists(random: &mut Random) {
         0 => random.below(5),
         _ => both >> 2,
     };
-    let (s, room) = (both & 3, text.len() - random.below(2) as usize);
-    let (mut library, mut plain) = ([7; 2_000], [7; 2_000]);
+    let (s, room) = (both & 3, text.len() + 1 - random.below(3) as usize);
+    let (version, depth) = asked(random, resolution);
+    let (mut library, mut plain) = ([7; 2_001], [7; 2_001]);
     let lengths = (
-        lent::coverage_write(n, s, &codes, &mut library[..room]),
-        coverage_write(n, s, codes.as_ptr(), codes.len(), plain.as_mut_ptr(), room),
+        lent::coverage_write(version, depth, n, s, &codes, &mut library[..room]),
+        coverage_write(
+            version,
+            depth,
+            n,
+            s,
+            codes.as_ptr(),
+            codes.len(),
+            plain.as_mut_ptr(),
+            room,
+        ),
     );
     same("write", (lengths.0, library), (lengths.1, plain));
 }

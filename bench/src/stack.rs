@@ -77,20 +77,21 @@ fn inputs(random: &mut Random, check: bool) -> Inputs {
     }
 }
 
-/// The fullest text, with eight whole nodes before each list, then one node in each, in six faces; and both cut and spoilt.
+/// The fullest text, with eight whole nodes before each list, then one node in each, in six faces; and both cut and spoilt. The same in four
+/// faces at version 2.
 fn deep_texts() -> Vec<Vec<u8>> {
     let close = ")".repeat(15);
     let fullest = format!("{}(01234567{close}", "(012345678".repeat(14));
     let leanest = format!("{}{close}", "(8".repeat(15));
     let mut texts = Vec::new();
     for list in [fullest, leanest] {
-        let body: String = ["N", "O", "P", "Q", "R", "S"]
-            .map(|face| format!("{face}{list}"))
-            .concat();
-        let text = [b"CVR\0\x0100", body.as_bytes()].concat();
-        let cut = text[..text.len() - 15].to_vec();
-        let spoilt = [&cut[..], b"9"].concat();
-        texts.extend([text, cut, spoilt]);
+        for (heading, faces) in [("CVR\0\x0100", "NOPQRS"), ("CVR\0\x0200p", "OPQR")] {
+            let body: String = faces.chars().map(|face| format!("{face}{list}")).collect();
+            let text = [heading.as_bytes(), body.as_bytes()].concat();
+            let cut = text[..text.len() - 15].to_vec();
+            let spoilt = [&cut[..], b"9"].concat();
+            texts.extend([text, cut, spoilt]);
+        }
     }
     texts
 }
@@ -157,7 +158,7 @@ fn texts(inputs: &Inputs) -> Vec<(&'static str, usize)> {
     depths! {
         jgv_coverage_check: texts, text => (text.as_ptr(), text.len());
         jgv_coverage_list: texts, text => (text.as_ptr(), text.len(), codes.as_mut_ptr(), codes.len());
-        jgv_coverage_write: lists, list => (0, 0, list.as_ptr(), list.len(), room.as_mut_ptr(), room.len());
+        jgv_coverage_write: lists, list => (1, 15, 0, 0, list.as_ptr(), list.len(), room.as_mut_ptr(), room.len());
         jgv_coverage_ask: texts, text => (text.as_ptr(), text.len(), 15 << 4);
     }
 }

@@ -224,7 +224,7 @@ static size_t write_text(const char *const *names, size_t count, uint8_t *text, 
         codes[i] = code_of(names[i]);
         printf(" %s", names[i]);
     }
-    jgv_length written = jgv_coverage_write(0, 0, codes, count, text, room);
+    jgv_length written = jgv_coverage_write(1, 15, 0, 0, codes, count, text, room); /* version 1; any depth to 15 will do */
     expect_answer(written.refusal);
     printf(" ->");
     for (size_t i = 0; i < written.length; i++)
@@ -245,12 +245,52 @@ static void two_arrangements(void) {
     const uint64_t theirs = code_in(jgv_fix_code(1, 0, 1, -900000000, 880000000000000000));
     const uint64_t both[] = {theirs, ours};
     uint8_t text[32];
-    jgv_length mixed = jgv_coverage_write(0, 0, both, 2, text, sizeof text);
+    jgv_length mixed = jgv_coverage_write(1, 15, 0, 0, both, 2, text, sizeof text);
     printf("coverage_write: N6, n 1, and N8, n 0 -> refused with %" PRIu64 "\n", mixed.refusal);
-    jgv_length written = jgv_coverage_write(0, 0, &ours, 1, text, sizeof text);
+    jgv_length written = jgv_coverage_write(1, 15, 0, 0, &ours, 1, text, sizeof text);
     expect_answer(written.refusal);
     jgv_ask asked = jgv_coverage_ask(text, (size_t)written.length, theirs);
     printf("coverage_ask: N(8), N6, n 1 -> refused with %" PRIu64 "\n", asked.refusal);
+}
+
+/* What the heading says and what the reading comes to. */
+static void print_check(const uint8_t *text, size_t length) {
+    jgv_check check = jgv_coverage_check(text, length);
+    expect_answer(check.refusal);
+    printf("coverage_check: P(34(1)) -> version %" PRIu64 ", depth %" PRIu64, check.version, check.depth);
+    printf(", n %" PRIu64 ", s %" PRIu64 ", %" PRIu64 " whole cells, size %" PRIu64 "\n", check.n, check.s, check.cells, check.size);
+}
+
+/* Writes the text of version 2 of rising cells and shows its bytes, or the refusal; answers its length. */
+static size_t write_handheld(uint64_t depth, const char *const *names, size_t count, uint8_t *text, size_t room) {
+    uint64_t codes[10];
+    printf("coverage_write: version 2, depth %" PRIu64 ",", depth);
+    for (size_t i = 0; i < count; i++) {
+        codes[i] = code_of(names[i]);
+        printf(" %s", names[i]);
+    }
+    jgv_length written = jgv_coverage_write(2, depth, 0, 0, codes, count, text, room);
+    if (written.refusal) {
+        printf(" -> refused with %" PRIu64 "\n", written.refusal);
+        return 0;
+    }
+    printf(" ->");
+    for (size_t i = 0; i < written.length; i++)
+        printf(" %02X", text[i]);
+    putchar('\n');
+    return (size_t)written.length;
+}
+
+/* Handhelds take no cap detail and a limited depth: texts of version 2 say it in an eighth byte, a letter a to p for depth 0 to 15. */
+static void handhelds(void) {
+    static const char *const two[] = {"P3", "P41"};
+    static const char *const north[] = {"N0", "N1", "N2", "N3", "N4", "N5", "N6", "N7", "N8", "P3"};
+    uint8_t text[32];
+    size_t length = write_handheld(2, two, 2, text, sizeof text);
+    print_check(text, length);
+    write_handheld(1, two, 2, text, sizeof text); /* P41 lies deeper */
+    write_handheld(1, north, 10, text, sizeof text); /* the fewest cells are judged: N0 to N8 are N */
+    write_handheld(1, north + 1, 9, text, sizeof text); /* N is not whole */
 }
 
 /* A text that is not of the grammar is refused with 9; `place` says how much of it some good text begins with. */
@@ -261,7 +301,7 @@ static void print_bad_text(const char *body) {
     printf("coverage_check: %s -> refused with %" PRIu64 " at place %" PRIu64 "\n", body, check.refusal, check.place);
 }
 
-/* A coverage text is a heading of seven bytes, with the version and n and s, and the whole cells as a tree of digits. */
+/* A coverage text of version 1 is a heading of seven bytes, with the version and n and s, and the whole cells as a tree of digits. */
 static void coverage(void) {
     static const char *const whole[] = {"O", "P0", "P1", "P2", "P3", "P4", "P5", "P6", "P7", "P8"};
     static const char *const two[] = {"P3", "P41"};
@@ -269,10 +309,7 @@ static void coverage(void) {
     write_text(whole, 10, text, sizeof text); /* nine whole siblings become their parent */
     size_t length = write_text(two, 2, text, sizeof text);
 
-    jgv_check check = jgv_coverage_check(text, length);
-    expect_answer(check.refusal);
-    printf("coverage_check: P(34(1)) -> n %" PRIu64 ", s %" PRIu64 ", ", check.n, check.s);
-    printf("%" PRIu64 " whole cells, size %" PRIu64 "\n", check.cells, check.size);
+    print_check(text, length);
     uint64_t codes[32]; /* a text has fewer whole cells than bytes */
     jgv_list list = jgv_coverage_list(text, length, codes, 32);
     expect_answer(list.refusal);
@@ -299,5 +336,6 @@ int main(void) {
     corners();
     coverage();
     two_arrangements();
+    handhelds();
     return 0;
 }

@@ -13,7 +13,7 @@ import operator
 import os
 import pathlib
 from ctypes import c_char_p, c_int64, c_size_t, c_uint64
-from typing import Iterable, List, NamedTuple, Tuple, Union
+from typing import Iterable, List, NamedTuple, Optional, Tuple, Union
 
 UP, RIGHT, DOWN, LEFT = range(4)
 SHAPES = ("quad", "cap", "dart", "skew quad")
@@ -22,7 +22,7 @@ WGS84 = 6_694_379_990  # the squared eccentricity, in units of 10^-12
 
 REASONS = {
     1: "a face above 5, an empty name, or a name that does not start with N to S",
-    2: "a resolution above 15, or a name over 16 bytes",
+    2: "a resolution or a depth above 15, or a name over 16 bytes",
     3: "a name byte that is no digit 0 to 8, a row or column outside the face, a child digit above 8, or a direction above 3",
     4: "a number that is no cell's code",
     5: "n or s above 3",
@@ -30,11 +30,12 @@ REASONS = {
     7: "a point outside the image of the plane",
     8: "a buffer shorter than the answer",
     9: "a text that is not of the grammar",
-    10: "a text of another version",
+    10: "a version neither 1 nor 2",
     11: "a list of codes that does not rise strictly, or with one cell inside another",
     12: "the parent of a cell of resolution 0, or a child of one of resolution 15",
     13: "a text longer than 65,536 bytes",
     14: "a question of another arrangement than the text's, or a list with a code of another arrangement than the asked one",
+    15: "a list outside the profile: a part of N or S, or a cell deeper than the asked depth",
 }
 
 
@@ -73,6 +74,8 @@ class Fix(NamedTuple):
 
 
 class Check(NamedTuple):
+    version: int
+    depth: int
     n: int
     s: int
     cells: int
@@ -96,7 +99,7 @@ _Point = _struct("jgv_point", c_int64, "x", "y")
 _Vertices = _struct("jgv_vertices_answer", c_int64 * 4, "x", "y")
 _Fix = _struct("jgv_fix", c_int64, "longitude", "z")
 _Z = _struct("jgv_z", c_int64, "z")
-_Check = _struct("jgv_check", c_uint64, "place", "n", "s", "cells", "size")
+_Check = _struct("jgv_check", c_uint64, "place", "version", "depth", "n", "s", "cells", "size")
 _List = _struct("jgv_list", c_uint64, "place", "count")
 _Ask = _struct("jgv_ask", c_uint64, "place", "covered")
 
@@ -162,7 +165,7 @@ _ground_nucleus = _entry("jgv_ground_nucleus", _Fix, _U64)
 _neighbour = _entry("jgv_neighbour", _Code, _U64, _U64)
 _coverage_check = _entry("jgv_coverage_check", _Check, _BYTES, c_size_t)
 _coverage_list = _entry("jgv_coverage_list", _List, _BYTES, c_size_t, _CODES, c_size_t)
-_coverage_write = _entry("jgv_coverage_write", _Length, _U64, _U64, _CODES, c_size_t, _ROOM, c_size_t)
+_coverage_write = _entry("jgv_coverage_write", _Length, _U64, _U64, _U64, _U64, _CODES, c_size_t, _ROOM, c_size_t)
 _coverage_ask = _entry("jgv_coverage_ask", _Ask, _BYTES, c_size_t, _U64)
 
 
@@ -271,9 +274,9 @@ def neighbour(code: int, direction: int) -> int:
 
 
 def coverage_check(text: bytes) -> Check:
-    """A text's n and s, the number of its whole cells and the sum of their sizes."""
+    """A text's version, depth (15 at version 1), n and s, the number of its whole cells and the sum of their sizes."""
     got = _coverage_check(text, len(text))
-    return Check(got.n, got.s, got.cells, got.size)
+    return Check(got.version, got.depth, got.n, got.s, got.cells, got.size)
 
 
 def coverage_list(text: bytes) -> List[int]:
@@ -282,11 +285,12 @@ def coverage_list(text: bytes) -> List[int]:
     return codes[: _coverage_list(text, len(text), codes, len(text)).count]
 
 
-def coverage_write(n: int, s: int, codes: Iterable[int]) -> bytes:
-    """The coverage text of rising codes of an arrangement, none inside another."""
+def coverage_write(n: int, s: int, codes: Iterable[int], depth: Optional[int] = None) -> bytes:
+    """The coverage text of rising codes of an arrangement, none inside another: of version 1, or with a depth of version 2, for handhelds."""
     given = [_U64.from_param(code) for code in codes]
+    version, depth = (1, 15) if depth is None else (2, depth)
     room = ctypes.create_string_buffer(LONGEST_TEXT)
-    length = _coverage_write(n, s, (c_uint64 * len(given))(*given), len(given), room, LONGEST_TEXT).length
+    length = _coverage_write(version, depth, n, s, (c_uint64 * len(given))(*given), len(given), room, LONGEST_TEXT).length
     return room.raw[:length]
 
 

@@ -124,12 +124,18 @@ def write_text(names):
     return text
 
 
+def print_check(text):
+    """What the heading says and what the reading comes to."""
+    check = jgv.coverage_check(text)
+    heading = f"version {check.version}, depth {check.depth}, n {check.n}, s {check.s}"
+    print(f"coverage_check: P(34(1)) -> {heading}, {check.cells} whole cells, size {check.size}")
+
+
 def coverage():
-    """A coverage text is a heading of seven bytes, with the version and n and s, and the whole cells as a tree of digits."""
+    """A coverage text of version 1 is a heading of seven bytes, with the version and n and s, and the whole cells as a tree of digits."""
     write_text(["O", "P0", "P1", "P2", "P3", "P4", "P5", "P6", "P7", "P8"])  # nine whole siblings become their parent
     text = write_text(["P3", "P41"])
-    check = jgv.coverage_check(text)
-    print(f"coverage_check: P(34(1)) -> n {check.n}, s {check.s}, {check.cells} whole cells, size {check.size}")
+    print_check(text)
     print("coverage_list: P(34(1)) ->", *map(code_name, jgv.coverage_list(text)))
     for name in ("P3", "P41", "P418", "P4"):  # P4 is covered in part only: no
         covered = jgv.coverage_ask(text, code_of(name))
@@ -160,6 +166,28 @@ def two_arrangements():
     print(f"coverage_ask: N(8), N6, n 1 -> {refusal(jgv.coverage_ask, text, theirs)}")
 
 
+def write_handheld(depth, names):
+    """The text of version 2 of rising cells; shows its bytes, or the refusal."""
+    text, shown = b"", None
+    try:
+        text = jgv.coverage_write(0, 0, map(code_of, names), depth=depth)
+        shown = text.hex(" ").upper()
+    except jgv.Refused as refused:
+        shown = f"refused with {refused.number}"
+    print(f"coverage_write: version 2, depth {depth}, {' '.join(names)} -> {shown}")
+    return text
+
+
+def handhelds():
+    """Handhelds take no cap detail and a limited depth: texts of version 2 say it in an eighth byte, a letter a to p for depth 0 to 15."""
+    two = ["P3", "P41"]
+    print_check(write_handheld(2, two))
+    write_handheld(1, two)  # P41 lies deeper
+    north = [f"N{digit}" for digit in range(9)] + ["P3"]
+    write_handheld(1, north)  # the fewest cells are judged: N0 to N8 are N
+    write_handheld(1, north[1:])  # N is not whole
+
+
 if __name__ == "__main__":
-    for part in (codes_and_names, families, shapes, plane, ground, neighbours, corners, coverage, two_arrangements):
+    for part in (codes_and_names, families, shapes, plane, ground, neighbours, corners, coverage, two_arrangements, handhelds):
         part()

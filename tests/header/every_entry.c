@@ -34,8 +34,8 @@ ANSWER(jgv_vertices_answer, 72); SIGNED(jgv_vertices_answer, x[0], 8); SIGNED(jg
 SIGNED(jgv_vertices_answer, y[0], 40); SIGNED(jgv_vertices_answer, y[3], 64);
 ANSWER(jgv_fix, 24); SIGNED(jgv_fix, longitude, 8); SIGNED(jgv_fix, z, 16);
 ANSWER(jgv_z, 16); SIGNED(jgv_z, z, 8);
-ANSWER(jgv_check, 48); UNSIGNED(jgv_check, place, 8); UNSIGNED(jgv_check, n, 16); UNSIGNED(jgv_check, s, 24);
-UNSIGNED(jgv_check, cells, 32); UNSIGNED(jgv_check, size, 40);
+ANSWER(jgv_check, 64); UNSIGNED(jgv_check, place, 8); UNSIGNED(jgv_check, version, 16); UNSIGNED(jgv_check, depth, 24);
+UNSIGNED(jgv_check, n, 32); UNSIGNED(jgv_check, s, 40); UNSIGNED(jgv_check, cells, 48); UNSIGNED(jgv_check, size, 56);
 ANSWER(jgv_list, 24); UNSIGNED(jgv_list, place, 8); UNSIGNED(jgv_list, count, 16);
 ANSWER(jgv_ask, 24); UNSIGNED(jgv_ask, place, 8); UNSIGNED(jgv_ask, covered, 16);
 
@@ -583,6 +583,7 @@ static void neighbour(void) {
 
 /* Coverage texts. HEAD is the heading of version 1 and (0, 0). */
 #define HEAD "CVR\0\1" "00"
+#define HEAD_2 "CVR\0\2" "00" /* version 2, up to its letter */
 #define TEXT(literal) (const uint8_t *)(literal), sizeof(literal) - 1
 #define DEEP_14 "(0(0(0(0(0(0(0(0(0(0(0(0(0(0" /* fourteen lists, each within the one before */
 enum { LONGEST = 65536, MANY = 40000, TOO_MANY = 50000 };
@@ -598,16 +599,21 @@ static jgv_check checked(const uint8_t *text, size_t length) {
     return got;
 }
 
-#define TEXT_ANSWER(call, want_refusal, want_place, want_n, want_s, want_cells, want_size) \
-    do {                                                                                   \
-        jgv_check got = (call);                                                            \
-        CHECK(got.refusal, want_refusal, #call ": refusal");                               \
-        CHECK(got.place, want_place, #call ": place");                                     \
-        CHECK(got.n, want_n, #call ": n");                                                 \
-        CHECK(got.s, want_s, #call ": s");                                                 \
-        CHECK(got.cells, want_cells, #call ": cells");                                     \
-        CHECK(got.size, want_size, #call ": size");                                        \
+#define VERSION_ANSWER(call, want_refusal, want_place, want_version, want_depth, want_n, want_s, want_cells, want_size) \
+    do {                                                                                                               \
+        jgv_check got = (call);                                                                                        \
+        CHECK(got.refusal, want_refusal, #call ": refusal");                                                           \
+        CHECK(got.place, want_place, #call ": place");                                                                 \
+        CHECK(got.version, want_version, #call ": version");                                                           \
+        CHECK(got.depth, want_depth, #call ": depth");                                                                 \
+        CHECK(got.n, want_n, #call ": n");                                                                             \
+        CHECK(got.s, want_s, #call ": s");                                                                             \
+        CHECK(got.cells, want_cells, #call ": cells");                                                                 \
+        CHECK(got.size, want_size, #call ": size");                                                                    \
     } while (0)
+/* Of version 1, whose depth is 15; or refused. */
+#define TEXT_ANSWER(call, want_refusal, want_place, want_n, want_s, want_cells, want_size) \
+    VERSION_ANSWER(call, want_refusal, want_place, (want_refusal) ? 0 : 1, (want_refusal) ? 0 : 15, want_n, want_s, want_cells, want_size)
 
 static void coverage_check(void) {
     TEXT_ANSWER(checked(TEXT(HEAD)), 0, 0, 0, 0, 0, 0);
@@ -632,10 +638,44 @@ static void coverage_check(void) {
     TEXT_ANSWER(checked(TEXT("CVR\0\1" "40")), 9, 5, 0, 0, 0, 0);
     TEXT_ANSWER(checked(TEXT("CVR\0\1" "04")), 9, 6, 0, 0, 0, 0);
     TEXT_ANSWER(checked(TEXT("CVR\1\1")), 10, 0, 0, 0, 0, 0);
-    TEXT_ANSWER(checked(TEXT("CVR\0\2" "00O()")), 10, 0, 0, 0, 0, 0);
+    TEXT_ANSWER(checked(TEXT("CVR\1\2" "00b")), 10, 0, 0, 0, 0, 0);
+    TEXT_ANSWER(checked(TEXT("CVR\2\0")), 10, 0, 0, 0, 0, 0);
+    TEXT_ANSWER(checked(TEXT("CVR\0\0")), 10, 0, 0, 0, 0, 0);
+    TEXT_ANSWER(checked(TEXT("CVR\0\3" "00O()")), 10, 0, 0, 0, 0, 0);
     TEXT_ANSWER(jgv_coverage_check(NULL, 0), 9, 0, 0, 0, 0, 0);
     TEXT_ANSWER(jgv_coverage_check(long_text, LONGEST), 9, 0, 0, 0, 0, 0); /* zeros */
     TEXT_ANSWER(jgv_coverage_check(long_text, LONGEST + 1), 13, 0, 0, 0, 0, 0);
+}
+
+/* W-208: version 2 has one more heading byte, a letter a to p for the depth; N and S stand whole, and nothing lies deeper. */
+static void handheld_check(void) {
+    static const char letters[] = "abcdefghijklmnop";
+    uint8_t text[] = {'C', 'V', 'R', 0, 2, '1', '3', 0, 'N'};
+    for (unsigned letter = 0; letter < 256; letter++) {
+        const char *at = letter ? strchr(letters, (int)letter) : NULL;
+        text[7] = (uint8_t)letter;
+        if (at)
+            VERSION_ANSWER(checked(text, 9), 0, 0, 2, at - letters, 1, 3, 1, NINE_15);
+        else
+            VERSION_ANSWER(checked(text, 9), 9, 7, 0, 0, 0, 0, 0, 0);
+    }
+    VERSION_ANSWER(checked(TEXT(HEAD_2 "c")), 0, 0, 2, 2, 0, 0, 0, 0);
+    VERSION_ANSWER(checked(TEXT(HEAD_2 "c" "P(34(1))")), 0, 0, 2, 2, 0, 0, 2, UINT64_C(25418658283290));
+    VERSION_ANSWER(checked(TEXT(HEAD_2 "b" "P(34(1))")), 9, 12, 0, 0, 0, 0, 0, 0); /* one digit too deep */
+    VERSION_ANSWER(checked(TEXT(HEAD_2 "a" "NOPQRS")), 0, 0, 2, 0, 0, 0, 6, 6 * NINE_15);
+    VERSION_ANSWER(checked(TEXT(HEAD_2 "a" "O(1)")), 9, 9, 0, 0, 0, 0, 0, 0); /* depth 0 has whole faces only */
+    VERSION_ANSWER(checked(TEXT(HEAD_2 "p" "N(1)")), 9, 9, 0, 0, 0, 0, 0, 0); /* a divided cap */
+    VERSION_ANSWER(checked(TEXT(HEAD_2 "p" "NS(1)")), 9, 10, 0, 0, 0, 0, 0, 0);
+    VERSION_ANSWER(checked(TEXT(HEAD_2 "p" "R" DEEP_14 "(0" ")))))))))))))))")), 0, 0, 2, 15, 0, 0, 1, 1);
+    VERSION_ANSWER(checked(TEXT(HEAD_2 "o" "R" DEEP_14 "(0" ")))))))))))))))")), 9, 37, 0, 0, 0, 0, 0, 0);
+    VERSION_ANSWER(checked(TEXT(HEAD_2 "b" "O(012345678")), 9, 18, 0, 0, 0, 0, 0, 0); /* at the depth the last 8 can't stand */
+    VERSION_ANSWER(checked(TEXT(HEAD_2 "c" "O(012345678")), 9, 19, 0, 0, 0, 0, 0, 0); /* above it a list may follow */
+    VERSION_ANSWER(checked(TEXT("CVR\0\2")), 9, 5, 0, 0, 0, 0, 0, 0);
+    VERSION_ANSWER(checked(TEXT("CVR\0\2" "0")), 9, 6, 0, 0, 0, 0, 0, 0);
+    VERSION_ANSWER(checked(TEXT("CVR\0\2" "04")), 9, 6, 0, 0, 0, 0, 0, 0);
+    VERSION_ANSWER(checked(TEXT("CVR\0\2" "40c")), 9, 5, 0, 0, 0, 0, 0, 0);
+    VERSION_ANSWER(checked(TEXT(HEAD_2)), 9, 7, 0, 0, 0, 0, 0, 0);
+    VERSION_ANSWER(checked(TEXT(HEAD "a" "O")), 9, 7, 0, 0, 0, 0, 0, 0); /* version 1 has no letter */
 }
 
 /* Lists the text into lent codes and checks the answer, the codes, of the heading's arrangement, and their guards. */
@@ -668,12 +708,19 @@ static void coverage_list(void) {
     lists(TEXT("CVR\0\1" "32" "OP"), ROOM, faces, 2);
     lists(TEXT(HEAD "N" DEEP_14 "(0" ")))))))))))))))"), 1, finest, 1);
     lists(TEXT(HEAD), 0, two, 0);
+    lists(TEXT("CVR\0\2" "21c" "P(34(1))"), 2, two, 2);
+    lists(TEXT("CVR\0\2" "33a" "OP"), ROOM, faces, 2);
+    lists(TEXT(HEAD_2 "p"), 0, two, 0);
+    lists_nothing(TEXT(HEAD_2 "c" "P(34(1))"), 1, 8, 0);
+    lists_nothing(TEXT(HEAD_2 "b" "P(34(1))"), ROOM, 9, 12);
+    lists_nothing(TEXT(HEAD_2 "p" "N(8)"), ROOM, 9, 9);
+    lists_nothing(TEXT(HEAD_2 "P(34(1))"), ROOM, 9, 7);
     lists_nothing(TEXT(HEAD "P(34(1))"), 1, 8, 0);
     lists_nothing(TEXT(HEAD "P(34(1))"), 0, 8, 0);
     lists_nothing(TEXT(HEAD "O()"), ROOM, 9, 9);
     lists_nothing(TEXT(HEAD "O(012345678)"), 0, 9, 18); /* the order is 13, 10, 9, 8 */
-    lists_nothing(TEXT("CVR\0\2" "00P(34(1))"), 0, 10, 0);
-    lists_nothing(TEXT("CVR\0\2" "00P(34(1))"), ROOM, 10, 0);
+    lists_nothing(TEXT("CVR\0\3" "00P(34(1))"), 0, 10, 0);
+    lists_nothing(TEXT("CVR\0\3" "00P(34(1))"), ROOM, 10, 0);
     lists_nothing(long_text, LONGEST + 1, 0, 13, 0);
     lists_nothing(long_text, LONGEST + 1, ROOM, 13, 0);
     jgv_list got = jgv_coverage_list(TEXT(HEAD), NULL, 0);
@@ -686,7 +733,7 @@ static void coverage_list(void) {
 
 /* Fills the lent codes with those of the names and writes their text to the lent bytes; the codes have to stay as they are. A name is in
  * the arrangement that is asked, unless two digits stand before it. */
-static jgv_length writing(uint64_t n, uint64_t s, const char *const *names, size_t count, size_t room) {
+static jgv_length writing(uint64_t version, uint64_t depth, uint64_t n, uint64_t s, const char *const *names, size_t count, size_t room) {
     lend_codes();
     for (size_t i = 0; i < count; i++) {
         const char *name = names[i];
@@ -699,14 +746,15 @@ static jgv_length writing(uint64_t n, uint64_t s, const char *const *names, size
     }
     static uint64_t before[GUARD + ROOM + GUARD];
     memcpy(before, lent_codes, sizeof before);
-    jgv_length got = jgv_coverage_write(n, s, lent_codes + GUARD, count, lend(), room);
+    jgv_length got = jgv_coverage_write(version, depth, n, s, lent_codes + GUARD, count, lend(), room);
     CHECK(memcmp(before, lent_codes, sizeof before), 0, "jgv_coverage_write: the codes afterwards");
     return got;
 }
 
-static void writes(uint64_t n, uint64_t s, const char *const *names, size_t count, const uint8_t *text, size_t length) {
+static void writes_as(uint64_t version, uint64_t depth, uint64_t n, uint64_t s, const char *const *names, size_t count, const uint8_t *text,
+                      size_t length) {
     for (size_t spare = 0; spare <= 1; spare++) {
-        jgv_length got = writing(n, s, names, count, spare ? (size_t)ROOM : length);
+        jgv_length got = writing(version, depth, n, s, names, count, spare ? (size_t)ROOM : length);
         CHECK(got.refusal, 0, "jgv_coverage_write: refusal");
         CHECK(got.length, length, "jgv_coverage_write: length");
         CHECK(memcmp(lent + GUARD, text, length), 0, "jgv_coverage_write: the text");
@@ -714,11 +762,60 @@ static void writes(uint64_t n, uint64_t s, const char *const *names, size_t coun
     }
 }
 
-static void writes_nothing(uint64_t n, uint64_t s, const char *const *names, size_t count, size_t room, uint64_t refusal) {
-    jgv_length got = writing(n, s, names, count, room);
+/* Of version 1: every depth to 15 writes the same. */
+static void writes(uint64_t n, uint64_t s, const char *const *names, size_t count, const uint8_t *text, size_t length) {
+    for (uint64_t depth = 0; depth <= 15; depth++)
+        writes_as(1, depth, n, s, names, count, text, length);
+}
+
+static void refuses(uint64_t version, uint64_t depth, uint64_t n, uint64_t s, const char *const *names, size_t count, size_t room,
+                    uint64_t refusal) {
+    jgv_length got = writing(version, depth, n, s, names, count, room);
     CHECK(got.refusal, refusal, "jgv_coverage_write: refusal");
     CHECK(got.length, 0, "jgv_coverage_write: length");
     CHECK(strays(0), 0, "jgv_coverage_write: lent bytes");
+}
+
+static void writes_nothing(uint64_t n, uint64_t s, const char *const *names, size_t count, size_t room, uint64_t refusal) {
+    refuses(1, 15, n, s, names, count, room, refusal);
+}
+
+/* W-208: texts of version 2, lists outside their profile, and what the writer is asked. */
+static void handheld_write(void) {
+    static const char *const two[] = {"P3", "P41"}, *const deeper[] = {"N4", "P41"}, *const falling[] = {"P41", "N4"}, *const bad[] = {"N4", "none"};
+    static const char *const north[] = {"N0", "N1", "N2", "N3", "N4", "N5", "N6", "N7", "N8", "P3"};
+    static const char *const mixed[] = {"N4", "01N3"};
+    writes_as(2, 2, 0, 0, two, 2, TEXT(HEAD_2 "c" "P(34(1))"));
+    writes_as(2, 15, 3, 2, two, 2, TEXT("CVR\0\2" "32p" "P(34(1))"));
+    writes_as(2, 0, 1, 0, two, 0, TEXT("CVR\0\2" "10a"));
+    refuses(2, 1, 0, 0, two, 2, ROOM, 15); /* one digit too deep */
+    refuses(2, 0, 0, 0, two, 1, ROOM, 15);
+    writes_as(2, 1, 0, 0, north, 10, TEXT(HEAD_2 "b" "NP(3)")); /* N0 to N8 pass as N */
+    for (uint64_t depth = 0; depth <= 15; depth++) {
+        uint8_t whole[] = {'C', 'V', 'R', 0, 2, '0', '0', (uint8_t)("abcdefghijklmnop"[depth]), 'N'};
+        writes_as(2, depth, 0, 0, north, 9, whole, sizeof whole);
+        refuses(2, depth, 0, 0, north + 1, 8, ROOM, 15); /* a divided cap */
+        refuses(2, depth, 0, 0, north, 8, ROOM, 15);
+        refuses(2, depth, 0, 0, deeper, 2, ROOM, 15);
+    }
+    /* the order is 5, 2, 4, 10, 14, 11, 15, 13, 8 */
+    refuses(0, 16, 4, 0, bad, 2, 0, 5);
+    refuses(0, 16, 0, 0, bad, 2, 0, 2);
+    refuses(1, 16, 0, 0, deeper, 2, ROOM, 2);
+    refuses(2, 16, 0, 0, deeper, 2, ROOM, 2);
+    refuses(2, WIDE, 0, 0, deeper, 2, ROOM, 2);
+    refuses(1, WIDE + 15, 0, 0, deeper, 2, ROOM, 2);
+    refuses(0, 15, 0, 0, bad, 2, 0, 4);
+    refuses(0, 15, 0, 0, mixed, 2, 0, 10);
+    refuses(3, 0, 0, 0, deeper, 2, ROOM, 10);
+    refuses(WIDE + 1, 15, 0, 0, two, 2, ROOM, 10);
+    refuses(WIDE + 2, 15, 0, 0, two, 2, ROOM, 10);
+    refuses(3, 15, 0, 0, two, 0, ROOM, 10);
+    refuses(2, 0, 0, 0, mixed, 2, 0, 14);
+    refuses(2, 0, 0, 0, falling, 2, 0, 11);
+    refuses(2, 0, 0, 0, deeper, 2, 0, 15);
+    refuses(2, 2, 0, 0, two, 2, 15, 8);
+    refuses(2, 2, 0, 0, two, 0, 7, 8);
 }
 
 static void coverage_write(void) {
@@ -734,7 +831,7 @@ static void coverage_write(void) {
     writes_nothing(0, 0, two, 0, 6, 8);
     writes_nothing(0, 0, falling, 2, ROOM, 11);
     writes_nothing(0, 0, twice, 2, ROOM, 11);
-    writes_nothing(0, 0, inside, 2, 0, 11); /* the order is 5, 4, 14, 11, 13, 8 */
+    writes_nothing(0, 0, inside, 2, 0, 11); /* the order is 5, 2, 4, 10, 14, 11, 15, 13, 8; handheld_write tries 2, 10 and 15 */
     writes_nothing(0, 0, bad, 2, 0, 4);
     writes_nothing(0, 0, bad_falling, 3, ROOM, 4);
     writes_nothing(4, 0, bad, 2, ROOM, 5);
@@ -751,11 +848,12 @@ static void coverage_write(void) {
     writes_nothing(0, 0, mixed_bad, 3, ROOM, 4);
     writes_nothing(0, 4, mixed, 2, ROOM, 5);
     const uint64_t wide = code("O") + WIDE;
-    CHECK_ONE(jgv_length, length, jgv_coverage_write(WIDE, 0, &wide, 1, lend(), ROOM), 5, 0);
-    CHECK_ONE(jgv_length, length, jgv_coverage_write(0, WIDE, &wide, 1, lend(), ROOM), 5, 0);
-    CHECK_ONE(jgv_length, length, jgv_coverage_write(0, 0, &wide, 1, lend(), ROOM), 4, 0);
-    CHECK_ONE(jgv_length, length, jgv_coverage_write(0, 0, NULL, 0, lend(), ROOM), 0, 7);
-    CHECK_ONE(jgv_length, length, jgv_coverage_write(0, 0, &many[0], 1, NULL, 0), 8, 0);
+    CHECK_ONE(jgv_length, length, jgv_coverage_write(1, 15, WIDE, 0, &wide, 1, lend(), ROOM), 5, 0);
+    CHECK_ONE(jgv_length, length, jgv_coverage_write(1, 15, 0, WIDE, &wide, 1, lend(), ROOM), 5, 0);
+    CHECK_ONE(jgv_length, length, jgv_coverage_write(1, 15, 0, 0, &wide, 1, lend(), ROOM), 4, 0);
+    CHECK_ONE(jgv_length, length, jgv_coverage_write(1, 15, 0, 0, NULL, 0, lend(), ROOM), 0, 7);
+    CHECK_ONE(jgv_length, length, jgv_coverage_write(2, 3, 0, 0, NULL, 0, lend(), ROOM), 0, 8);
+    CHECK_ONE(jgv_length, length, jgv_coverage_write(1, 15, 0, 0, &many[0], 1, NULL, 0), 8, 0);
 }
 
 #define ASK(call, want_refusal, want_place, want_covered)      \
@@ -789,7 +887,13 @@ static void coverage_ask(void) {
     ASK(asked(TEXT(HEAD "P"), code("P") + WIDE), 4, 0, 0);
     ASK(jgv_coverage_ask(long_text, LONGEST + 1, no_code), 4, 0, 0);
     ASK(jgv_coverage_ask(long_text, LONGEST + 1, code_at(1, 0, "P")), 13, 0, 0);
-    ASK(asked(TEXT("CVR\0\2" "00P"), code_at(1, 0, "P")), 10, 0, 0);
+    ASK(asked(TEXT("CVR\0\3" "00P"), code_at(1, 0, "P")), 10, 0, 0);
+    ASK(asked(TEXT("CVR\0\2" "00P"), code_at(1, 0, "P")), 9, 7, 0); /* version 2 without its letter */
+    ASK(asked(TEXT(HEAD_2 "c" "NP(34(1))"), code("P418")), 0, 0, 1);
+    ASK(asked(TEXT(HEAD_2 "c" "NP(34(1))"), code("N8")), 0, 0, 1);
+    ASK(asked(TEXT(HEAD_2 "c" "NP(34(1))"), code("P4")), 0, 0, 0);
+    ASK(asked(TEXT(HEAD_2 "b" "NP(34(1))"), code("P4")), 9, 13, 0);
+    ASK(asked(TEXT("CVR\0\2" "12p" "P"), code_at(2, 1, "P")), 14, 0, 0); /* 14 compares n and s */
     ASK(asked(TEXT(HEAD "O()"), code_at(1, 0, "P")), 9, 9, 0);
     ASK(asked(TEXT(HEAD "O(012345678)"), code("P")), 9, 18, 0);
     ASK(asked(TEXT(HEAD "P"), code_at(1, 0, "P")), 14, 0, 0);
@@ -806,11 +910,12 @@ static void long_lists(void) {
         many[i] = ((i / 8 * 9 + i % 8) * 16 + 15) * 16;
     memset(long_text, FILL, sizeof long_text);
     uint8_t *text = long_text + GUARD;
-    CHECK_ONE(jgv_length, length, jgv_coverage_write(0, 0, many, TOO_MANY, text, LONGEST + 1), 13, 0);
-    CHECK_ONE(jgv_length, length, jgv_coverage_write(0, 0, many, TOO_MANY, text, 0), 13, 0);
+    CHECK_ONE(jgv_length, length, jgv_coverage_write(1, 15, 0, 0, many, TOO_MANY, text, LONGEST + 1), 13, 0);
+    CHECK_ONE(jgv_length, length, jgv_coverage_write(1, 15, 0, 0, many, TOO_MANY, text, 0), 13, 0);
+    CHECK_ONE(jgv_length, length, jgv_coverage_write(2, 15, 0, 0, many, TOO_MANY, text, 0), 15, 0); /* parts of N: 15 comes before 13 */
     CHECK(changes(long_text, long_text + sizeof long_text), 0, "a text too long to write: lent bytes");
 
-    jgv_length written = jgv_coverage_write(0, 0, many, MANY, text, LONGEST);
+    jgv_length written = jgv_coverage_write(1, 15, 0, 0, many, MANY, text, LONGEST);
     CHECK(written.refusal, 0, "a long text: refusal");
     CHECK(written.length > MANY / 8 * 11 && written.length <= LONGEST, 1, "a long text: has a likely length");
     CHECK(changes(long_text, text) + changes(text + written.length, long_text + sizeof long_text), 0, "a long text: bytes about it");
@@ -839,8 +944,10 @@ int main(void) {
     corner_cells();
     neighbour();
     coverage_check();
+    handheld_check();
     coverage_list();
     coverage_write();
+    handheld_write();
     coverage_ask();
     long_lists(); /* last, since it fills `long_text` and `many` */
     if (failed)

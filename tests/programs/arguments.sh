@@ -18,11 +18,17 @@ for program in record name_fixes; do
     done
 done
 
-for words in '' check list ask write 'check a b' 'list a b' 'ask a' 'ask a N b' 'write 0' 'write 0 0 0' 'CHECK a' 'checks a' 'chec a' "'' a" \
+for words in '' check list ask write 'check a b' 'list a b' 'ask a' 'ask a N b' 'write 0' 'write 0 0 0 0' 'CHECK a' 'checks a' 'chec a' "'' a" \
     'reading a' '--help' 'write a 0' 'write 0 b' "write '' 0" "write 0 ''" 'write -1 0' 'write 0 -1' 'write 99999999999999999999 0' \
+    'write 0 0 a' "write 0 0 ''" 'write 0 0 -1' 'write 0 0 +1' 'write 0 0 1.0' "write 0 0 ' 1'" "write 0 0 '1 '" 'write 0 0 99999999999999999999' \
     "$(times 5000 x) a"; do
     try "wrong arguments" "coverage $words </dev/null" '' 'usage coverage'
 done
-for words in '4 0' '0 4' '256 0'; do
+# 5 comes before 2
+for words in '4 0' '0 4' '256 0' '4 0 2' '0 4 16' '4 0 16'; do
     try "n or s above 3" "echo N | coverage write $words" '' '5; usage coverage'
+done
+for words in '0 0 16' '3 3 17' '0 0 256' '0 0 258' '0 0 4294967296' '0 0 4294967298'; do
+    try "depth above 15" "echo N | coverage write $words" '' '2; usage coverage'
+    try "depth above 15 and a bad name" "echo X | coverage write $words" '' '2; usage coverage'
 done

@@ -1,10 +1,11 @@
 # coverage: check, list and ask of a file, write of names.
 
-# BODY PLACE [HEADING]: a text that is refused with 9 at this place. Checking prints `refusal place n s cells size`; listing and asking the number.
+# BODY PLACE [HEADING]: a text that is refused with 9 at this place. Checking prints `refusal place version depth n s cells size`; listing and
+# asking the number.
 # Standard error says the place.
 not_a_text() {
     printf '%b' "${3-$H}$1" >bad.cvr
-    try "no text" "coverage check bad.cvr # $1" "9 $2 0 0 0 0\n" "9 at place $2"
+    try "no text" "coverage check bad.cvr # $1" "9 $2 0 0 0 0 0 0\n" "9 at place $2"
     try "no text to list" "coverage list bad.cvr # $1" '9\n' "9 at place $2"
     try "no text to ask" "coverage ask bad.cvr N # $1" '9\n' "9 at place $2"
 }
@@ -31,14 +32,14 @@ fi
 
 # texts that are accepted
 printf '%b' "$H" >heading.cvr
-try "the heading alone" 'coverage check heading.cvr' '0 0 0 0 0 0\n' ''
+try "the heading alone" 'coverage check heading.cvr' '0 0 1 15 0 0 0 0\n' ''
 try "no cell" 'coverage list heading.cvr' '' ''
 try "nothing is covered" 'coverage ask heading.cvr N' 'no\n' ''
 printf '%b' "${H}P(34(1))" >two.cvr
-try "the paper's text" 'coverage check two.cvr' '0 0 0 0 2 25418658283290\n' ''
+try "the paper's text" 'coverage check two.cvr' '0 0 1 15 0 0 2 25418658283290\n' ''
 try "its cells" 'coverage list two.cvr' 'P3\nP41\n' ''
 printf '%b' "${H}NOPQRS" >all.cvr
-try "six faces" 'coverage check all.cvr' "0 0 0 0 6 $((6 * 9 ** 15))\n" ''
+try "six faces" 'coverage check all.cvr' "0 0 1 15 0 0 6 $((6 * 9 ** 15))\n" ''
 cp two.cvr 'two cells of P.cvr'
 try "a file name with spaces" "coverage list 'two cells of P.cvr'" 'P3\nP41\n' ''
 cp two.cvr "$(printf 'n\xc3\xa9v\xe9.cvr')"
@@ -46,21 +47,21 @@ try "a file name with bytes above 127" "coverage list n*v*.cvr" 'P3\nP41\n' ''
 cp two.cvr -- -two
 try "a file name with a dash" 'coverage list -two' 'P3\nP41\n' ''
 in_parts() { head -c 3 two.cvr; sleep 0.1; tail -c +4 two.cvr | head -c 7; sleep 0.1; tail -c +11 two.cvr; }
-try "a pipe, in parts" 'coverage check <(in_parts)' '0 0 0 0 2 25418658283290\n' ''
+try "a pipe, in parts" 'coverage check <(in_parts)' '0 0 1 15 0 0 2 25418658283290\n' ''
 try "a pipe, in parts, listed" 'coverage list <(in_parts)' 'P3\nP41\n' ''
-try "standard input as the file" 'in_parts | coverage check /dev/stdin' '0 0 0 0 2 25418658283290\n' ''
+try "standard input as the file" 'in_parts | coverage check /dev/stdin' '0 0 1 15 0 0 2 25418658283290\n' ''
 
 # asking
 for name in P3 P30 P38 P388888888888888 P41 P410 P411111111111111; do try "covered" "coverage ask two.cvr $name" 'yes\n' ''; done
 for name in P P4 P40 P42 P2 P400000000000000 N O Q S; do try "not covered, or partly" "coverage ask two.cvr $name" 'no\n' ''; done
 printf '%b' "CVR\x00\x0132P(0123567)" >other.cvr
 try "an arrangement of its own" 'coverage ask other.cvr P0' 'yes\n' ''
-try "its n and s" 'coverage check other.cvr' "0 0 3 2 7 $((7 * 9 ** 14))\n" ''
+try "its n and s" 'coverage check other.cvr' "0 0 1 15 3 2 7 $((7 * 9 ** 14))\n" ''
 try "all but two children" 'coverage ask other.cvr P' 'no\n' ''
 for n in 0 1 2 3; do
     for s in 0 1 2 3; do
         printf '%b' "CVR\x00\x01$n${s}N" >other.cvr
-        try "each arrangement checked" 'coverage check other.cvr' "0 0 $n $s 1 $((9 ** 15))\n" ''
+        try "each arrangement checked" 'coverage check other.cvr' "0 0 1 15 $n $s 1 $((9 ** 15))\n" ''
     done
 done
 # two crews at one place, in two arrangements: each text is read in its own, and names say none
@@ -90,7 +91,7 @@ try "a bad name comes before a bad text" 'coverage ask bad.cvr P9' '3\n' 3
 
 # texts that are refused
 printf '' >bad.cvr
-try "an empty file" 'coverage check bad.cvr' '9 0 0 0 0 0\n' '9 at place 0'
+try "an empty file" 'coverage check bad.cvr' '9 0 0 0 0 0 0 0\n' '9 at place 0'
 try "an empty file, listed" 'coverage list bad.cvr' '9\n' '9 at place 0'
 printf '%b' "${H}O(012345678)" >bad.cvr
 try "what is said of it" 'coverage list bad.cvr 2>&1' '9\ncoverage: refusal 9 at place 18: not a coverage text\n' ''
@@ -124,11 +125,15 @@ not_a_text '' 2 'CVX\x00\x02'
 not_a_text '' 5 'CVR\x00\x0140'
 not_a_text '' 6 'CVR\x00\x0104'
 not_a_text '' 6 'CVR\x00\x010'
+not_a_text '' 5 'CVR\x00\x02'
+not_a_text '' 6 'CVR\x00\x020'
+not_a_text '' 6 'CVR\x00\x0204'
+not_a_text '' 7 'CVR\x00\x0200'
 not_a_text '' 0 '\xef\xbb\xbfCVR\x00\x0100'
 not_a_text '' 0 'cvr\x00\x0100'
-for heading in 'CVR\x01\x01' 'CVR\x00\x0200' 'CVR\x00\x00' 'CVR\xff\xff00NO' 'CVR\x00\x02???'; do
+for heading in 'CVR\x01\x01' 'CVR\x01\x0200c' 'CVR\x02\x00' 'CVR\x00\x0300' 'CVR\x00\x00' 'CVR\xff\xff00NO' 'CVR\x00\x03???'; do
     printf '%b' "$heading" >bad.cvr
-    try "another version" 'coverage check bad.cvr' '10 0 0 0 0 0\n' 10
+    try "another version" 'coverage check bad.cvr' '10 0 0 0 0 0 0 0\n' 10
     try "another version, listed" 'coverage list bad.cvr' '10\n' 10
     try "another version, asked" 'coverage ask bad.cvr N' '10\n' 10
 done
@@ -138,10 +143,10 @@ listed() { local i all=; for ((i = 0; i < $2; i++)); do all+=$i$1; done; printf 
 B="($(listed '(01234567)' 9))" && C="($(listed "$B" 9))" && D="($(listed "$C" 9))"
 printf '%b' "${H}O($(listed "$D" 7)7($(listed "$C" 8)8(0${B}123456)))" >full.cvr
 try "65,536 bytes" 'wc -c <full.cvr' '65536\n' ''
-try "checked" 'coverage check full.cvr' "0 0 0 0 46086 $((46080 * 9 ** 10 + 6 * 9 ** 12))\n" ''
+try "checked" 'coverage check full.cvr' "0 0 1 15 0 0 46086 $((46080 * 9 ** 10 + 6 * 9 ** 12))\n" ''
 try "all its cells listed" 'coverage list full.cvr | wc -l' '46086\n' ''
 try "asked" 'coverage ask full.cvr O783' 'yes\n' ''
-try "from a pipe" 'coverage check <(cat full.cvr)' "0 0 0 0 46086 $((46080 * 9 ** 10 + 6 * 9 ** 12))\n" ''
+try "from a pipe" 'coverage check <(cat full.cvr)' "0 0 1 15 0 0 46086 $((46080 * 9 ** 10 + 6 * 9 ** 12))\n" ''
 try "listed and written again" 'coverage list full.cvr | coverage write 0 0' @full.cvr ''
 coverage list full.cvr >full.names && (cat full.names; echo P) >longer.names
 try "a list whose text has 65,537 bytes" 'coverage write 0 0 <longer.names' '' 13
@@ -149,12 +154,12 @@ try "13 comes after 11" '(cat longer.names; echo P0) | coverage write 0 0' '' 11
 (cat full.cvr; printf P) >long.cvr
 (cat full.cvr full.cvr full.cvr) >longest.cvr
 for file in long.cvr longest.cvr /dev/zero; do
-    try "over 65,536 bytes" "coverage check $file" '13 0 0 0 0 0\n' 13
+    try "over 65,536 bytes" "coverage check $file" '13 0 0 0 0 0 0 0\n' 13
     try "over 65,536 bytes, listed" "coverage list $file" '13\n' 13
     try "over 65,536 bytes, asked" "coverage ask $file O" '13\n' 13
 done
-(printf '%b' 'CVR\x00\x02'; cat full.cvr) >long.cvr
-try "13 comes before 10" 'coverage check long.cvr' '13 0 0 0 0 0\n' 13
+(printf '%b' 'CVR\x00\x03'; cat full.cvr) >long.cvr
+try "13 comes before 10" 'coverage check long.cvr' '13 0 0 0 0 0 0 0\n' 13
 
 # writing
 try "no names" 'coverage write 0 0 </dev/null' "$H" ''
@@ -186,6 +191,58 @@ try "too many names in an input that never ends" "yes N | coverage write 0 0" ''
 try "a folder as input" 'coverage write 0 0 <.' '' 'coverage: standard input: Is a directory'
 try "an input that fails" "failing 'P3\nP4' coverage write 0 0" '' 'coverage: standard input: Resource temporarily unavailable'
 try "no input" 'coverage write 0 0 <&-' '' 'coverage: standard input: Bad file descriptor'
+
+# texts for handhelds: version 2, with a letter a to p for the greatest depth
+H2='CVR\x00\x0200' # version 2 at (0, 0), up to the letter
+depth=0
+for letter in a b c d e f g h i j k l m n o p; do
+    printf '%b' "${H2}${letter}NOS" >hand.cvr
+    try "each depth checked" 'coverage check hand.cvr' "0 0 2 $depth 0 0 3 $((3 * 9 ** 15))\n" ''
+    try "each depth listed" 'coverage list hand.cvr' 'N\nO\nS\n' ''
+    try "each depth asked" 'coverage ask hand.cvr S8' 'yes\n' ''
+    try "each depth written" "printf 'N\nO\nS\n' | coverage write 0 0 $depth" @hand.cvr ''
+    try "no names" "coverage write 3 1 $depth </dev/null" "CVR\x00\x0231$letter" ''
+    try "N0 to N8 pass as N" "printf '%s\n' N{0..8} S{0..8}{0..8} | coverage write 0 0 $depth" "${H2}${letter}NS" ''
+    try "a divided cap" "printf '%s\n' N{0..7} | coverage write 0 0 $depth" '' 15
+    try "the other cap" "printf '%s\n' P S{1..8} | coverage write 0 0 $depth" '' 15
+    zeros=$(times $depth 0) lists=$(times $depth '(0') closed=$(times $depth ')')
+    try "as deep as the depth" "echo P$zeros | coverage write 0 0 $depth" "${H2}${letter}P$lists$closed" ''
+    if [ $depth -lt 15 ]; then
+        try "one digit deeper" "echo P${zeros}0 | coverage write 0 0 $depth" '' 15
+        try "nine that are one digit deeper" "printf '%s\n' P$zeros{0..8} | coverage write 0 0 $depth" "${H2}${letter}P$lists$closed" ''
+        try "eight of them" "printf '%s\n' P$zeros{0..7} | coverage write 0 0 $depth" '' 15
+    fi
+    depth=$((depth + 1))
+done
+printf '%b' "${H2}cP(34(1))" >hand.cvr
+try "the paper's text for handhelds" 'coverage check hand.cvr' '0 0 2 2 0 0 2 25418658283290\n' ''
+try "its cells" 'coverage list hand.cvr' 'P3\nP41\n' ''
+try "listed and written again" 'coverage list hand.cvr | coverage write 0 0 2' @hand.cvr ''
+try "written as version 1" 'coverage list hand.cvr | coverage write 0 0' "${H}P(34(1))" ''
+for name in P3 P38 P41 P418; do try "covered" "coverage ask hand.cvr $name" 'yes\n' ''; done
+for name in P P4 P40 N; do try "not covered, or partly" "coverage ask hand.cvr $name" 'no\n' ''; done
+printf '%b' 'CVR\x00\x0232aPQ' >hand.cvr
+try "an arrangement of its own" 'coverage check hand.cvr' "0 0 2 0 3 2 2 $((2 * 9 ** 15))\n" ''
+try "asked" 'coverage ask hand.cvr Q123' 'yes\n' ''
+not_a_text 'P(34(1))' 12 "${H2}b"
+not_a_text 'O(1)' 9 "${H2}a"
+not_a_text 'N(1)' 9 "${H2}p"
+not_a_text 'NS(1)' 10 "${H2}p"
+not_a_text 'O(012345678' 18 "${H2}b"
+not_a_text 'O(012345678' 19 "${H2}c"
+not_a_text 'NO' 7 "$H2"
+not_a_text 'NO' 7 "${H2}q"
+not_a_text 'NO' 7 "${H2}A"
+not_a_text 'NO' 7 "${H2}\`"
+not_a_text 'NO' 7 "${H}a"
+try "what is said of a list outside the profile" 'echo N4 | coverage write 0 0 2 2>&1 | cut -d : -f 1-2' 'coverage: refusal 15\n' ''
+try "11 comes before 15" "printf 'P41\nN4\n' | coverage write 0 0 1" '' 11
+try "a bad name comes before 15" "printf 'N4\nP9\n' | coverage write 0 0 1" '' 'line 2: 3'
+try "15 comes before 13" '(echo N4; cat longer.names) | coverage write 0 0 15' '' 15
+try "a list whose text of version 2 has 65,537 bytes" 'coverage write 0 0 5 <full.names' '' 13
+head -n -1 full.names >fewer.names
+try "one of 65,536" 'coverage write 0 0 5 <fewer.names | wc -c' '65536\n' ''
+try "outside the profile, however long" 'coverage write 0 0 4 <full.names' '' 15
 
 # there and back
 sample=$root/examples/flight/flight.cvr

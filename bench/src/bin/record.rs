@@ -7,7 +7,7 @@ mod plain;
 
 use plain::coverage::LONGEST;
 use plain::fixes::fix_code;
-use plain::writing::write;
+use plain::writing::{write, FULL};
 use std::collections::BTreeSet;
 use std::io::{Read, Write};
 
@@ -43,7 +43,7 @@ fn main() {
         }
     }
     let cells: Vec<u64> = cells.into_iter().collect();
-    let text = write(n, s, &cells);
+    let text = write(FULL, n, s, &cells);
     if text.len() > LONGEST {
         eprintln!("refusal 13");
         std::process::exit(1);

@@ -5,7 +5,14 @@ use super::NINE;
 use jeguarivo::{Ask, Check, List};
 
 pub const LONGEST: usize = 65_536;
-pub const HEADING: usize = 7;
+
+/// What a text's heading says of its body: its version, the greatest depth, and where it starts. At version 2 N and S stand only whole.
+#[derive(Clone, Copy)]
+struct Heading {
+    version: u64,
+    depth: usize,
+    body: usize,
+}
 
 /// The list that is open at a depth: its last digit and one, the number of its whole nodes, and the number of finest cells before
 /// the cell that it divides.
@@ -26,30 +33,53 @@ impl Level {
     }
 }
 
-/// Refusal 13, 10 or 9 of the heading, with the place.
-fn heading(text: &[u8]) -> Result<(), (u64, u64)> {
+/// The heading, or its refusal 13, 10 or 9, with the place.
+fn heading(text: &[u8]) -> Result<Heading, (u64, u64)> {
     if text.len() > LONGEST {
         return Err((13, 0));
     }
-    if text.len() >= 5 && &text[..3] == b"CVR" && text[3..5] != [0, 1] {
+    if text.len() >= 5 && &text[..3] == b"CVR" && (text[3] != 0 || !(1..=2).contains(&text[4])) {
         return Err((10, 0));
     }
     let right = |at: usize, byte: u8| match at {
         0..=2 => byte == b"CVR"[at],
-        3 | 4 => byte == at as u8 - 3,
-        _ => (b'0'..=b'3').contains(&byte),
+        3 => byte == 0,
+        4 => byte == 1 || byte == 2,
+        5 | 6 => (b'0'..=b'3').contains(&byte),
+        _ => (b'a'..=b'p').contains(&byte),
     };
-    match (0..HEADING).find(|&at| !text.get(at).is_some_and(|&byte| right(at, byte))) {
-        Some(at) => Err((9, at as u64)),
-        None => Ok(()),
+    let body = match text.get(4) {
+        Some(2) => 8,
+        _ => 7,
+    };
+    if let Some(at) = (0..body).find(|&at| !text.get(at).is_some_and(|&byte| right(at, byte))) {
+        return Err((9, at as u64));
+    }
+    Ok(read_heading(text))
+}
+
+/// The heading of a text whose heading is known to be good.
+fn read_heading(text: &[u8]) -> Heading {
+    match text[4] {
+        1 => Heading {
+            version: 1,
+            depth: 15,
+            body: 7,
+        },
+        _ => Heading {
+            version: 2,
+            depth: (text[7] - b'a') as usize,
+            body: 8,
+        },
     }
 }
 
 /// Reads a text and calls `visit(depth, start)` for each whole cell: its resolution, and the finest cells before it.
 #[inline(always)]
-fn read(text: &[u8], mut visit: impl FnMut(usize, u64)) -> Result<(), (u64, u64)> {
-    heading(text)?;
-    let (mut levels, mut depth, mut at) = ([Level::default(); 16], 0, HEADING);
+fn read(text: &[u8], mut visit: impl FnMut(usize, u64)) -> Result<Heading, (u64, u64)> {
+    let heading = heading(text)?;
+    let (deepest, caps) = (heading.depth, heading.version == 1);
+    let (mut levels, mut depth, mut at) = ([Level::default(); 16], 0, heading.body);
     while at < text.len() {
         let level = &mut levels[depth];
         let digit = match text[at] {
@@ -67,21 +97,24 @@ fn read(text: &[u8], mut visit: impl FnMut(usize, u64)) -> Result<(), (u64, u64)
         }
         level.next = digit + 1;
         let start = level.start + digit as u64 * NINE[15 - depth];
-        if depth < 15 && text.get(at + 1) == Some(&b'(') {
+        if depth < deepest
+            && text.get(at + 1) == Some(&b'(')
+            && (depth > 0 || caps || (1..5).contains(&digit))
+        {
             depth += 1;
             levels[depth] = Level::new(start);
             at += 2;
         } else {
             level.whole += 1;
-            if depth > 0 && level.whole == 9 && (depth == 15 || at + 1 < text.len()) {
-                return Err((9, at as u64 + (depth < 15) as u64));
+            if depth > 0 && level.whole == 9 && (depth == deepest || at + 1 < text.len()) {
+                return Err((9, at as u64 + (depth < deepest) as u64));
             }
             visit(depth, start);
             at += 1;
         }
     }
     match depth {
-        0 => Ok(()),
+        0 => Ok(heading),
         _ => Err((9, at as u64)),
     }
 }
@@ -90,7 +123,7 @@ fn read(text: &[u8], mut visit: impl FnMut(usize, u64)) -> Result<(), (u64, u64)
 #[inline(always)]
 fn walk(text: &[u8], mut visit: impl FnMut(usize, u64)) {
     let (mut starts, mut depth) = ([0; 17], 0);
-    let mut bytes = text[HEADING..].iter().peekable();
+    let mut bytes = text[read_heading(text).body..].iter().peekable();
     while let Some(&byte) = bytes.next() {
         if byte == b')' {
             depth -= 1;
@@ -113,9 +146,11 @@ fn checked(text: &[u8]) -> Check {
         cells += 1;
         size += NINE[15 - depth];
     }) {
-        Ok(()) => Check {
+        Ok(heading) => Check {
             refusal: 0,
             place: 0,
+            version: heading.version,
+            depth: heading.depth as u64,
             n: (text[5] - b'0') as u64,
             s: (text[6] - b'0') as u64,
             cells,
@@ -184,8 +219,8 @@ pub extern "C" fn coverage_ask(text: *const u8, length: usize, code: u64) -> Ask
             place,
             ..Ask::refused(refusal)
         },
-        Ok(()) if text[5..HEADING] != [b'0' + n as u8, b'0' + s as u8] => Ask::refused(14),
-        Ok(()) => Ask {
+        Ok(_) if text[5..7] != [b'0' + n as u8, b'0' + s as u8] => Ask::refused(14),
+        Ok(_) => Ask {
             refusal: 0,
             place: 0,
             covered: covered as u64,

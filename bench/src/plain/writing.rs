@@ -5,15 +5,31 @@ use super::coverage::LONGEST;
 use super::NINE;
 use jeguarivo::Length;
 
+/// What text is asked for: its version and its greatest depth.
+#[derive(Clone, Copy)]
+pub struct Profile {
+    pub version: u64,
+    pub depth: u64,
+}
+
+/// Version 1.
+pub const FULL: Profile = Profile {
+    version: 1,
+    depth: 15,
+};
+
 /// The first finest cell and the one after the last.
 fn range(code: u64) -> (u64, u64) {
     let first = code >> 8;
     (first, first + NINE[15 - (code >> 4 & 15) as usize])
 }
 
-fn refusal(n: u64, s: u64, codes: &[u64]) -> u64 {
+fn refusal(version: u64, n: u64, s: u64, codes: &[u64]) -> u64 {
     if codes.iter().any(|&code| parts(code).is_none()) {
         return 4;
+    }
+    if !(1..=2).contains(&version) {
+        return 10;
     }
     if codes.iter().any(|&code| arrangement(code) != (n, s)) {
         return 14;
@@ -85,22 +101,40 @@ fn put<'a>(
     cells
 }
 
+/// Whether merged cells keep to a profile: at version 2 N and S are whole and nothing is deeper.
+fn keeps(profile: Profile, cells: &[u64]) -> bool {
+    let caps = [0, 5 * NINE[15]];
+    profile.version == 1
+        || cells.iter().all(|&cell| {
+            let (first, resolution) = (cell >> 4, cell & 15);
+            let in_cap = caps
+                .iter()
+                .any(|&cap| cap <= first && first < cap + NINE[15]);
+            resolution <= profile.depth && (resolution == 0 || !in_cap)
+        })
+}
+
 /// The text of cells that rise and are merged.
-fn text_of(n: u64, s: u64, cells: &[u64]) -> Vec<u8> {
-    let mut text = Vec::with_capacity(7 + 2 * cells.len());
-    text.extend_from_slice(b"CVR\0\x01");
-    text.extend_from_slice(&[b'0' + n as u8, b'0' + s as u8]);
+fn text_of(profile: Profile, n: u64, s: u64, cells: &[u64]) -> Vec<u8> {
+    let mut text = Vec::with_capacity(8 + 2 * cells.len());
+    text.extend_from_slice(b"CVR\0");
+    text.extend_from_slice(&[profile.version as u8, b'0' + n as u8, b'0' + s as u8]);
+    if profile.version == 2 {
+        text.push(b'a' + profile.depth as u8);
+    }
     put(cells, b'N', 0, 6 * NINE[15], 0, &mut text);
     text
 }
 
-/// The text of rising cells, none inside another.
-pub fn write(n: u64, s: u64, codes: &[u64]) -> Vec<u8> {
-    text_of(n, s, &merged(codes))
+/// The text of rising cells, none inside another, which keep to the profile.
+pub fn write(profile: Profile, n: u64, s: u64, codes: &[u64]) -> Vec<u8> {
+    text_of(profile, n, s, &merged(codes))
 }
 
 #[inline(never)]
 pub extern "C" fn coverage_write(
+    version: u64,
+    depth: u64,
     n: u64,
     s: u64,
     codes: *const u64,
@@ -112,11 +146,18 @@ pub extern "C" fn coverage_write(
     if n > 3 || s > 3 {
         return Length::refused(5);
     }
-    match refusal(n, s, codes) {
+    if depth > 15 {
+        return Length::refused(2);
+    }
+    match refusal(version, n, s, codes) {
         0 => {}
         refusal => return Length::refused(refusal),
     }
-    let written = write(n, s, codes);
+    let (profile, cells) = (Profile { version, depth }, merged(codes));
+    if !keeps(profile, &cells) {
+        return Length::refused(15);
+    }
+    let written = text_of(profile, n, s, &cells);
     if written.len() > LONGEST {
         return Length::refused(13);
     }

@@ -11,6 +11,7 @@ use Rattle.code.specs.Code.{cellOf, isOf, codeRefusal}
 use Rattle.reading.specs.Ground.{wholeCells}
 use Rattle.reading.specs.TextReading.{nodesOf}
 use Rattle.reader.specs.Check.{placeWith}
+use Rattle.reading.specs.declared.Profile.{Profile}
 use Rattle.reader.specs.Laws.Answer.{TextChecked, TextRefused, checked-arrangement}
 use Rattle.asking.specs.declared.Asked.the-variants.{Covered, Refused}
 use Rattle.asking.specs.Ask.{anyWithin, askRefusal, asked}
@@ -32,7 +33,7 @@ module _ (t : List ℕ) (code : ℕ) where
     unfolding askRefusal
     not-read u = refusal t code (passes _ f ∙ stops _ _ (λ y. u .some (sym (u .refusal) ∙ y)) ∙ u .refusal) (u .some) (u .place)
 
-    module _ {n s c y b : ℕ} (r : TextChecked t n s c y b) where
+    module _ {p : Profile} {n s c y b : ℕ} (r : TextChecked t p n s c y b) where
       last : {o : Bool} → isOf (record { north = n; south = s }) code ≡ o → askRefusal t code ≡ refuse (not o) 14
       unfolding askRefusal
       last h =

@@ -63,6 +63,7 @@ pub fn ask(text: &[u8], code: u64) -> Asked
     match reader::check(text) {
         Checked::Refused { refusal, place } => Asked::Refused { refusal, place },
         Checked::Text {
+            profile: _,
             north,
             south,
             cells: _,

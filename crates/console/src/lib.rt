@@ -104,14 +104,15 @@ fn say_whole(x: u64) {
 fn say_meaning(refusal: u64) {
     match refusal {
         1 => say(b": a name starts with a letter N to S\n"),
-        2 => say(b": a resolution is 0 to 15, a name has at most 16 bytes\n"),
+        2 => say(b": a resolution or a depth is 0 to 15, a name has at most 16 bytes\n"),
         3 => say(b": after its letter a name has digits 0 to 8\n"),
         5 => say(b": n and s are 0 to 3\n"),
         6 => say(b": no fix, or a fix or an eccentricity out of range\n"),
         9 => say(b": not a coverage text\n"),
-        10 => say(b": a coverage text of another version\n"),
+        10 => say(b": a coverage text of a version that is neither 1 nor 2\n"),
         11 => say(b": the names do not rise, or one cell lies inside another\n"),
         13 => say(b": the text or the list is too long\n"),
+        15 => say(b": the cells do not keep to the profile: N or S in part, or a cell too deep\n"),
         _ => say(b"\n"),
     }
 }

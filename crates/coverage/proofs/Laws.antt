@@ -41,13 +41,15 @@ use Rattle.listing.specs.declared.Listed.the-variants as listed-by
 use Rattle.listing.specs.List.{codesOf, codesIn, listingRefusal, listed}
 use Rattle.coverage.specs.declared.NamesRead.{NamesRead}
 use Rattle.coverage.specs.declared.Text.{Text}
+use Rattle.coverage.specs.declared.Form.{Form}
+use Rattle.coverage.specs.declared.Text.the-variants as text-as
 use Rattle.coverage.specs.declared.Text.the-variants.{Length}
 use Rattle.coverage.specs.declared.Taken.{Taken}
 use Rattle.coverage.specs.declared.Taken.the-variants as taken-as
 use Rattle.coverage.specs.declared.NamesRead.the-variants as read-as
 use Rattle.coverage.specs.Names.{Names, read, stopped, namedOr, withName, NameTaken, AllTaken}
 use Rattle.coverage.specs.Own.{Own}
-use Rattle.coverage.specs.Printed.{askedName, NamesWritten, ListWritten, TextWritten}
+use Rattle.coverage.specs.Printed.{askedName, NamesWritten, ListWritten, TextWritten, NamesText}
 
 -- ---- one name
 
@@ -286,5 +288,16 @@ module _ (t codes : List ℕ) {r : Listed} (e : r ≡ listed (listingRefusal t (
 pub read-fits : (a : Arrangement) (room : ℕ) (codes : List ℕ) (n : ℕ) {r : NamesRead} → AllTaken a room codes r → r ≡ read-as.Count n → n ≤ length codes
 read-fits a room codes n h e = (subst (AllTaken a room codes) e h) .1
 
-pub text-length : (a : Arrangement) (codes : List ℕ) (room : ℕ) (text : List ℕ) (n : ℕ) {r : Text} → TextWritten a codes room text r → r ≡ Length n → n ≤ length text
-text-length a codes room text n h e = (subst (TextWritten a codes room text) e h) .1
+-- the text of the names read
+pub names-written :
+    (f : Form) (most room : ℕ) (codes text : List ℕ) (n : ℕ) {q : NamesRead} (r : Text) → AllTaken (f .arrangement) most codes q → q ≡ read-as.Count n →
+    TextWritten f (take n codes) room text r → NamesText f most room text r
+names-written f most room codes text n {q} r h e w = go r ((subst (AllTaken (f .arrangement) most codes) e h) .0) w
+  where
+    go : (x : Text) → OfBytes (withName (f .arrangement) most) (read []) (read (take n codes)) → TextWritten f (take n codes) room text x → NamesText f most room text x
+    go (Length m) o v = (take n codes, o, v)
+    go (text-as.Refused m) o v = (take n codes, o, v)
+    go text-as.None o v = absurd v
+
+pub names-text-length : (f : Form) (most room : ℕ) (text : List ℕ) (n : ℕ) {r : Text} → NamesText f most room text r → r ≡ Length n → n ≤ length text
+names-text-length f most room text n h e = (subst (NamesText f most room text) e h) .2 .1

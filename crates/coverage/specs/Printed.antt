@@ -1,21 +1,23 @@
 -- What `coverage ask`, `coverage list` and `coverage write` print. Assumes nothing.
 use mathlib.Core.Path.{_≡_}
-use mathlib.Core.List.{List}
+use mathlib.Core.List.{List, []}
 use Prim.Native.Nat.{ℕ, zero, suc, _*_, _≤_, _<_}
 use lib.ListN.{length, take, drop}
-use Rattle.cell.specs.declared.Arrangement.{Arrangement}
 use Rattle.logic.specs.Refusal.{_otherwise_}
 use Rattle.name.specs.Name.{nameRefusal, nameCode}
 use Rattle.reading.specs.TextReading.{textArrangement}
 use Rattle.reader.specs.Check.{textRefusal}
 use Rattle.asking.specs.declared.Asked.{Asked}
 use Rattle.asking.specs.Ask.{asked}
-use Rattle.writing.specs.Write.{textOf, writeRefusal}
+use Rattle.writing.specs.Write.{asksFor, textOf, writeRefusal}
+use Rattle.lines.specs.Fold.{OfBytes}
 use Rattle.listing.specs.List.{codesOf}
 use Rattle.report.specs.Names.{namesOf}
 use Rattle.report.specs.Lines.{numberLine}
+use Rattle.coverage.specs.declared.Form.{Form}
 use Rattle.coverage.specs.declared.Text.{Text}
-use Rattle.coverage.specs.declared.Text.the-variants.{Length, Refused}
+use Rattle.coverage.specs.declared.Text.the-variants.{Length, Refused, None}
+use Rattle.coverage.specs.Names.{read, withName}
 
 -- the name's refusal, otherwise the text's, otherwise whether the text covers the cell of that name, in the text's own arrangement
 unfoldable pub askedName : (t name : List ℕ) → Asked
@@ -36,7 +38,17 @@ abbrev pub ListWritten : (refusal : ℕ) (t out : List ℕ) (waiting : ℕ) → 
 ListWritten zero t out waiting = NamesWritten (codesOf t) out waiting
 ListWritten (suc r) t out waiting = take waiting out ≡ numberLine (suc r)
 
--- the text of the codes; or writing is refused
-abbrev pub TextWritten : Arrangement → (codes : List ℕ) (room : ℕ) (text : List ℕ) → Text → Type 0
-TextWritten a codes room text (Length n) = (take n text ≡ textOf a codes) × (n ≤ length text)
-TextWritten a codes room text (Refused r) = (writeRefusal a codes room ≡ r) × (r ≡ 0 → ⊥)
+-- the text of the codes, as it is asked for; or writing is refused
+abbrev pub TextWritten : Form → (codes : List ℕ) (room : ℕ) (text : List ℕ) → Text → Type 0
+TextWritten f codes room text (Length n) = (take n text ≡ textOf (asksFor (f .version) (f .depth)) (f .arrangement) codes) × (n ≤ length text)
+TextWritten f codes room text (Refused r) = (writeRefusal (f .version) (f .depth) (f .arrangement) codes room ≡ r) × (r ≡ 0 → ⊥)
+TextWritten f codes room text None = ⊥
+
+-- `coverage write`: the text of the names on the lines of some bytes, read in the arrangement that the text is of; or the list is refused. Where a line
+-- stops the reading, or the input fails, there is no text
+abbrev pub NamesText : Form → (most room : ℕ) (text : List ℕ) → Text → Type 0
+NamesText f most room text (Length n) =
+    (codes : List ℕ) × OfBytes (withName (f .arrangement) most) (read []) (read codes) × TextWritten f codes room text (Length n)
+NamesText f most room text (Refused r) =
+    (codes : List ℕ) × OfBytes (withName (f .arrangement) most) (read []) (read codes) × TextWritten f codes room text (Refused r)
+NamesText f most room text None = Unit {0}

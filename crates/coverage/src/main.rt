@@ -1,4 +1,4 @@
-// coverage check FILE, coverage list FILE, coverage ask FILE NAME, coverage write n s: reads and writes coverage texts.
+// coverage check FILE, coverage list FILE, coverage ask FILE NAME, coverage write n s [depth]: reads and writes coverage texts.
 ghost use mathlib.Core.Path.{_≡_};
 ghost use Prim.Native.Nat.{_≤_};
 ghost use lib.ListN.{length, take};
@@ -10,7 +10,7 @@ ghost use Rattle.report.specs.Put.{Put};
 ghost use Rattle.report.specs.Lines.{checkLine, askedLine};
 ghost use Rattle.coverage.specs.Names.{NameTaken, AllTaken};
 ghost use Rattle.coverage.specs.Own.{Own};
-ghost use Rattle.coverage.specs.Printed.{askedName, NamesWritten, ListWritten, TextWritten};
+ghost use Rattle.coverage.specs.Printed.{askedName, NamesWritten, ListWritten, TextWritten, NamesText};
 use asking::Asked;
 use cell::Arrangement;
 use code::Coded;
@@ -43,10 +43,18 @@ enum NamesRead {
     Failed,
 }
 
-// How many bytes of a text stand in front, or the refusal.
+// How many bytes of a text stand in front; or the list is refused; or no list was read.
 enum Text {
     Length(usize),
     Refused(u64),
+    None,
+}
+
+// What text is asked for: its version, its depth, n and s.
+struct Form {
+    version: u64,
+    depth: u64,
+    arrangement: Arrangement,
 }
 
 // A line that waits in front of its room up to `end`; and the refusal that is to be said with it, 0 for none, with its place.
@@ -58,8 +66,11 @@ struct Shown {
 
 fn usage() {
     console::say(b"usage: coverage check FILE | list FILE | ask FILE NAME\n");
-    console::say(b"       coverage write n s < names > text\n");
-    console::say(b"  n and s are 0 to 3; names stand one a line, rising, none inside another\n");
+    console::say(b"       coverage write n s [depth] < names > text\n");
+    console::say(b"  n and s are 0 to 3; names stand one a line, rising, none inside another;\n");
+    console::say(
+        b"  with a depth, 0 to 15, the text is for handhelds: N and S whole, nothing deeper\n",
+    );
 }
 
 // The line to standard output, then what a refusal means to standard error.
@@ -112,9 +123,9 @@ fn load(path: &mut [u8], text: &mut [u8]) -> BytesRead
 
 // check: the line of what the reader answers, in front.
 fn check_text(text: &[u8], out: &mut [u8]) -> Shown
-    requires { ⌜ 126 ≤ length (now out) ⌝ }
+    requires { ⌜ 168 ≤ length (now out) ⌝ }
     ensures { λ r. ⌜ Put 0 (checkLine (checkedOf (now (text .entry)))) (now (out .entry)) (now (out .exit)) (r .end) ⌝ }
-    ensures { λ r. ⌜ r .end ≤ 126 ⌝ }
+    ensures { λ r. ⌜ r .end ≤ 168 ⌝ }
 {
     let checked = reader::check(text);
     let end = report::put_check(checked, out);
@@ -277,33 +288,78 @@ fn take_all(
     }
 }
 
-// write: the text of the names read, whole or not at all.
-fn put_text(arrangement: Arrangement, codes: &[u64], count: usize, text: &mut [u8]) -> Text
+// The text of the names read, whole or not at all.
+fn put_text(form: Form, codes: &[u64], count: usize, text: &mut [u8]) -> Text
     requires { ⌜ count ≤ length (now codes) ⌝ }
-    ensures { λ r. ⌜ TextWritten arrangement (take count (now (codes .entry))) (length (now (text .entry))) (now (text .exit)) r ⌝ }
+    ensures { λ r. ⌜ TextWritten form (take count (now (codes .entry))) (length (now (text .entry))) (now (text .exit)) r ⌝ }
 {
-    match writing::write(arrangement, &codes[..count], text) {
+    match writing::write(
+        form.version,
+        form.depth,
+        form.arrangement,
+        &codes[..count],
+        text,
+    ) {
         Written::Length(length) => Text::Length(length as usize),
         Written::Refused(refusal) => Text::Refused(refusal),
     }
 }
 
-fn write_text(arrangement: Arrangement)
-    requires { ⌜ IsArrangement arrangement ⌝ }
+// write: the text of the names of the input, in the arrangement that they are read in. The names are read, so their room is the text's.
+fn names_text(form: Form, bytes: &mut [u8], room: &mut [u8], codes: &mut [u64]) -> Text
+    requires { ⌜ IsArrangement (form .arrangement) ⌝ }
+    requires { ⌜ 18 ≤ length (now room) ⌝ }
+    ensures { λ r. ⌜ NamesText form (length (now (codes .entry))) (length (now (bytes .entry))) (now (bytes .exit)) r ⌝ }
+{
+    match take_all(form.arrangement, bytes, room, codes) {
+        NamesRead::Count(count) => put_text(form, codes, count, bytes),
+        NamesRead::Stopped(_) => Text::None,
+        NamesRead::Failed => Text::None,
+    }
+}
+
+fn write_text(form: Form)
+    requires { ⌜ IsArrangement (form .arrangement) ⌝ }
 {
     let mut bytes = [0u8; 65536];
     let mut room = [0u8; 64];
     let mut codes = [0u64; 65536];
-    let NamesRead::Count(count) = take_all(arrangement, &mut bytes, &mut room, &mut codes) else {
-        return;
-    };
-    match put_text(arrangement, &codes, count, &mut bytes) {
-        Text::Length(length) => console::print_first(&bytes, length), // the names are read, so their room is the text's
+    match names_text(form, &mut bytes, &mut room, &mut codes) {
+        Text::Length(length) => console::print_first(&bytes, length),
         Text::Refused(refusal) => console::say_text(b"coverage", refusal, 0),
+        Text::None => {}
     }
 }
 
-// coverage write n s.
+// The depth asked for, behind n and s. A bad one is said.
+fn write_depth(arrangement: Arrangement)
+    requires { ⌜ IsArrangement arrangement ⌝ }
+{
+    if os::arg_count() == 4 {
+        write_text(Form {
+            version: 1,
+            depth: 15,
+            arrangement,
+        });
+        return;
+    }
+    let Whole::Is(depth) = console::whole_argument(4) else {
+        usage();
+        return;
+    };
+    if depth > 15 {
+        console::say_text(b"coverage", 2, 0);
+        usage();
+        return;
+    }
+    write_text(Form {
+        version: 2,
+        depth,
+        arrangement,
+    });
+}
+
+// coverage write n s [depth].
 fn write_names() {
     let Whole::Is(north) = console::whole_argument(2) else {
         usage();
@@ -320,7 +376,7 @@ fn write_names() {
         usage();
         return;
     }
-    write_text(arrangement);
+    write_depth(arrangement);
 }
 
 // coverage ask FILE NAME. A name that the room is too short for is over 16 bytes.
@@ -344,7 +400,7 @@ fn list_file(text: &[u8]) {
 }
 
 fn check_file(text: &[u8]) {
-    let mut out = [0u8; 126];
+    let mut out = [0u8; 168];
     let shown = check_text(text, &mut out);
     show(shown, &out);
 }
@@ -378,7 +434,7 @@ fn command_of(word: &[u8], arguments: usize) -> Command {
     if check::same(word, b"ask") && arguments == 4 {
         return Command::Ask;
     }
-    if check::same(word, b"write") && arguments == 4 {
+    if check::same(word, b"write") && (arguments == 4 || arguments == 5) {
         return Command::Write;
     }
     Command::Unknown

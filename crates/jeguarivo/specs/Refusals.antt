@@ -18,10 +18,11 @@ use Rattle.locate.specs.Fix.{InRange}
 use Rattle.authalic.specs.Authalic.{Geodetic}
 use Rattle.geodetic.specs.GeodeticFix.{GeodeticRange}
 use Rattle.reading.specs.Ground.{Apart}
-use Rattle.reading.specs.Text.{heading, Accepted}
+use Rattle.reading.specs.Text.{Accepted}
+use Rattle.reading.specs.Laws.Written.{TextOf}
 use Rattle.reader.specs.Check.{WrongVersion}
 use Rattle.listing.specs.List.{codesOf}
-use Rattle.writing.specs.Write.{Another, textOf}
+use Rattle.writing.specs.Write.{Another, asksFor, textOf}
 use Rattle.jeguarivo.specs.Entries.{arrangement}
 use Rattle.jeguarivo.specs.Order.{Chain}
 
@@ -62,7 +63,7 @@ arrangementTests n s = (5, (3 < n) ⊎ (3 < s)) ∷ []
 abbrev pub codeTests : ℕ → Chain
 codeTests code = (4, NoCell code) ∷ []
 
--- 13: "text longer than 65,536 bytes, read ..". 10: "five bytes or more, mark right, version not 1". 9: "text not of the grammar"
+-- 13: "text longer than 65,536 bytes, read ..". 10: "five bytes or more, mark right", version "neither 1 nor 2". 9: "text not of the grammar"
 abbrev pub textTests : List ℕ → Chain
 textTests t = (13, 65536 < length t) ∷ (10, WrongVersion t) ∷ (9, Accepted t → ⊥) ∷ []
 
@@ -110,20 +111,26 @@ neighbourTests code direction = (3, 3 < direction) ∷ (4, NoCell code) ∷ []
 abbrev pub listTests : (t : List ℕ) (room : ℕ) → Chain
 listTests t room = (13, 65536 < length t) ∷ (10, WrongVersion t) ∷ (9, Accepted t → ⊥) ∷ (8, room < length (codesOf t)) ∷ []
 
--- 14: "asked arrangement differs from the heading's", the asked one being the code's (02, W-210)
-abbrev pub headingOf : (code : ℕ) → List ℕ
-headingOf code = heading (arrangementOf code .north) (arrangementOf code .south)
+-- 14: "asked arrangement differs from the heading's", the asked one being the code's (02, W-210). In either version "n and s as ASCII digits" stand
+-- behind the mark and the version
+abbrev pub turnsOf : (code : ℕ) → List ℕ
+turnsOf code = (48 + arrangementOf code .north) ∷ (48 + arrangementOf code .south) ∷ []
 
 abbrev pub askTests : (t : List ℕ) (code : ℕ) → Chain
 askTests t code =
-    (4, NoCell code) ∷ (13, 65536 < length t) ∷ (10, WrongVersion t) ∷ (9, Accepted t → ⊥) ∷ (14, take 7 t ≡ headingOf code → ⊥) ∷ []
+    (4, NoCell code) ∷ (13, 65536 < length t) ∷ (10, WrongVersion t) ∷ (9, Accepted t → ⊥) ∷ (14, take 2 (drop 5 t) ≡ turnsOf code → ⊥) ∷ []
 
--- 14: "also for a list .. of another arrangement" (02, W-210). 11: "list not strictly rising, or one cell inside another". 13: "text longer than 65,536 bytes, .. to be written"
-abbrev pub writeTests : (n s : ℕ) (codes : List ℕ) (room : ℕ) → Chain
-writeTests n s codes room =
+-- 2: "also for an asked depth above 15, at version 1 too". 10: "neither 1 nor 2, asked of the writer too" (02, W-208). 14: "also for a list .. of another
+-- arrangement" (02, W-210). 11: "list not strictly rising, or one cell inside another". 15: "list outside the profile": no accepted text of the heading
+-- has its ground. 13: "text longer than 65,536 bytes, .. to be written"
+abbrev pub writeTests : (version depth n s : ℕ) (codes : List ℕ) (room : ℕ) → Chain
+writeTests version depth n s codes room =
     (5, (3 < n) ⊎ (3 < s)) ∷
+    (2, 15 < depth) ∷
     (4, Any NoCell codes) ∷
+    (10, (version ≡ 1) ⊎ (version ≡ 2) → ⊥) ∷
     (14, Another (arrangement n s) codes) ∷
     (11, Rise codes × Apart (map cellOf codes) → ⊥) ∷
-    (13, 65536 < length (textOf (arrangement n s) codes)) ∷
-    (8, room < length (textOf (arrangement n s) codes)) ∷ []
+    (15, TextOf (asksFor version depth) n s (map cellOf codes) → ⊥) ∷
+    (13, 65536 < length (textOf (asksFor version depth) (arrangement n s) codes)) ∷
+    (8, room < length (textOf (asksFor version depth) (arrangement n s) codes)) ∷ []

@@ -1,6 +1,7 @@
 -- The answers of the entries that take or give a coverage text, as numbers: for each case of the library's answer the refusal number and the values,
 -- zeros beside a refusal. Assumes nothing.
 use mathlib.Core.Bool.{cond}
+use Rattle.reading.specs.Text.{versionOf, depthOf}
 use Rattle.reader.specs.declared.Checked.{Checked}
 use Rattle.reader.specs.declared.Checked.the-variants as checked
 use Rattle.listing.specs.declared.Listed.{Listed}
@@ -14,10 +15,12 @@ use Rattle.jeguarivo.specs.declared.CheckAnswer.{CheckAnswer}
 use Rattle.jeguarivo.specs.declared.ListAnswer.{ListAnswer}
 use Rattle.jeguarivo.specs.declared.AskAnswer.{AskAnswer}
 
--- the heading's n and s, "the number of whole cells in the reading and the sum of their sizes"
+-- the heading's version, depth, n and s, "the number of whole cells in the reading and the sum of their sizes"
 abbrev pub checkNumbers : Checked → CheckAnswer
-checkNumbers (checked.Text n s cells size body) = record { refusal = 0; place = 0; n = n; s = s; cells = cells; size = size }
-checkNumbers (checked.Refused refusal place) = record { refusal = refusal; place = place; n = 0; s = 0; cells = 0; size = 0 }
+checkNumbers (checked.Text p n s cells size body) =
+    record { refusal = 0; place = 0; version = versionOf p; depth = depthOf p; n = n; s = s; cells = cells; size = size }
+checkNumbers (checked.Refused refusal place) =
+    record { refusal = refusal; place = place; version = 0; depth = 0; n = 0; s = 0; cells = 0; size = 0 }
 
 -- the number of codes
 abbrev pub listNumbers : Listed → ListAnswer

@@ -12,7 +12,7 @@ ghost use Rattle.reader.specs.Check.{checkedOf};
 ghost use Rattle.listing.specs.List.{listingRefusal, listed, codesIn};
 ghost use Rattle.asking.specs.Ask.{askRefusal, asked};
 ghost use Rattle.jeguarivo.specs.Texts.{checkNumbers, listNumbers, askNumbers, writtenNumbers};
-ghost use Rattle.writing.specs.Write.{writeRefusal, textOf, textIn, written};
+ghost use Rattle.writing.specs.Write.{asksFor, writeRefusal, textOf, textIn, written};
 ghost use Rattle.jeguarivo.specs.Entries.{arrangement, codedAnswer, codeAnswer, codeOfCell, codeCell, nameAnswer, writtenName, parentCode, childCode};
 ghost use Rattle.jeguarivo.specs.Entries.{cellSize, cellShape, cornerCount, cellSquare, cellNucleus, cellVertices, pointCode, neighbourCode, fixCode, groundFix};
 ghost use Rattle.jeguarivo.specs.Entries.{geodeticZ, geodeticCode, cornerCells};
@@ -115,6 +115,8 @@ pub struct VerticesAnswer {
 pub struct CheckAnswer {
     pub refusal: u64,
     pub place: u64,
+    pub version: u64,
+    pub depth: u64,
     pub n: u64,
     pub s: u64,
     pub cells: u64,
@@ -548,6 +550,7 @@ pub extern "C" fn jgv_coverage_check(text: &[u8]) -> CheckAnswer
 {
     match reader::check(text) {
         Checked::Text {
+            profile,
             north,
             south,
             cells,
@@ -556,6 +559,8 @@ pub extern "C" fn jgv_coverage_check(text: &[u8]) -> CheckAnswer
         } => CheckAnswer {
             refusal: 0,
             place: 0,
+            version: reading::version_of(profile),
+            depth: reading::depth_of(profile),
             n: north,
             s: south,
             cells,
@@ -564,7 +569,9 @@ pub extern "C" fn jgv_coverage_check(text: &[u8]) -> CheckAnswer
         Checked::Refused { refusal, place } => CheckAnswer {
             refusal,
             place,
-            n: 0, // of a text that is refused
+            version: 0, // of a text that is refused
+            depth: 0, // and no depth
+            n: 0, // and no n
             s: 0, // and no s
             cells: 0, // and no cells
             size: 0, // and no sum of sizes
@@ -592,15 +599,23 @@ pub extern "C" fn jgv_coverage_list(text: &[u8], codes: &mut [u64]) -> ListAnswe
     }
 }
 
-// 5 where n or s is above 3, 4 where a code is no cell's, 14 where one is of another arrangement, 11 where the list is not rising or nested, 13
-// where the text would be longer than 65,536 bytes, 8 where the room is shorter than the text.
+// 5 where n or s is above 3, 2 where the depth is above 15, 4 where a code is no cell's, 10 where the version is neither 1 nor 2, 14 where a code is of
+// another arrangement, 11 where the list is not rising or nested, 15 where it is outside the profile, 13 where the text would be longer than 65,536
+// bytes, 8 where the room is shorter than the text.
 #[no_mangle]
-pub extern "C" fn jgv_coverage_write(n: u64, s: u64, codes: &[u64], text: &mut [u8]) -> LengthAnswer
-    ensures { λ r. ⌜ r ≡ writtenNumbers (written (writeRefusal (arrangement n s) (now (codes .entry)) (length (now (text .entry)))) (length (textOf (arrangement n s) (now (codes .entry))))) ⌝ }
-    ensures { λ r. ⌜ now (text .exit) ≡ given (writeRefusal (arrangement n s) (now (codes .entry)) (length (now (text .entry)))) (textIn (arrangement n s) (now (codes .entry)) (now (text .entry))) (now (text .entry)) ⌝ }
+pub extern "C" fn jgv_coverage_write(
+    version: u64,
+    depth: u64,
+    n: u64,
+    s: u64,
+    codes: &[u64],
+    text: &mut [u8],
+) -> LengthAnswer
+    ensures { λ r. ⌜ r ≡ writtenNumbers (written (writeRefusal version depth (arrangement n s) (now (codes .entry)) (length (now (text .entry)))) (length (textOf (asksFor version depth) (arrangement n s) (now (codes .entry))))) ⌝ }
+    ensures { λ r. ⌜ now (text .exit) ≡ given (writeRefusal version depth (arrangement n s) (now (codes .entry)) (length (now (text .entry)))) (textIn (asksFor version depth) (arrangement n s) (now (codes .entry)) (now (text .entry))) (now (text .entry)) ⌝ }
 {
     let arrangement = Arrangement { north: n, south: s }; // `write` tests it
-    match writing::write(arrangement, codes, text) {
+    match writing::write(version, depth, arrangement, codes, text) {
         Written::Length(length) => LengthAnswer { refusal: 0, length },
         Written::Refused(refusal) => LengthAnswer {
             refusal,

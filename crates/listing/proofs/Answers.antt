@@ -9,12 +9,13 @@ use borrow.Author.Tests.{lt-ltb, le-ltb}
 use Rattle.logic.specs.Refusal.{refuse, given}
 use Rattle.logic.specs.Laws.Refusal.{stops, passes}
 use Rattle.reader.specs.Check.{placeWith}
+use Rattle.reading.specs.declared.Profile.{Profile}
 use Rattle.reader.specs.Laws.Answer.{TextChecked, TextRefused}
 use Rattle.listing.specs.declared.Listed.the-variants.{Count, Refused}
 use Rattle.listing.specs.List.{codesOf, listingRefusal, listed}
 use Rattle.listing.specs.Laws.List.{listed-count}
 
-module _ {t : List ℕ} {n s c z b : ℕ} (r : TextChecked t n s c z b) where
+module _ {t : List ℕ} {p : Profile} {n s c z b : ℕ} (r : TextChecked t p n s c z b) where
   pub counted : c ≡ length (codesOf t)
   counted = r .count ∙ sym (listed-count t)
 

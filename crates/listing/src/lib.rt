@@ -49,6 +49,7 @@ pub fn list(text: &[u8], codes: &mut [u64]) -> Listed
     match reader::check(text) {
         Checked::Refused { refusal, place } => Listed::Refused { refusal, place },
         Checked::Text {
+            profile: _,
             north,
             south,
             cells,

@@ -15,7 +15,7 @@ drop-byte : (s : List ℕ) (i : ℕ) → i < length s → drop i s ≡ getD s i 
 drop-byte s i h = rw (add-one, drop-cons s i 0)
 
 pub record Inv (t : List ℕ) (i : ℕ) : Type 0 where
-  pub seven : i ≤ 7
+  pub eight : i ≤ 8
   pub within : i ≤ length t
   pub tied : lead least greatest t ≡ i + lead (drop i least) (drop i greatest) (drop i t)
 
@@ -31,13 +31,13 @@ module _ {t : List ℕ} {i : ℕ} (v : Inv t i) where
       let z : lead (drop i least) (drop i greatest) (drop i t) ≡ 0 = rw (drop-of-length-le t {i = i} (omega arith)) (lead-none (drop i least) (drop i greatest)) in
       omega (arith, v .tied)
 
-  pub all : 7 ≤ i → 7 ≡ lead least greatest t
+  pub all : 8 ≤ i → 8 ≡ lead least greatest t
   unfolding lead
   all e =
       let z : lead (drop i least) (drop i greatest) (drop i t) ≡ 0 = rw (drop-of-length-le least {i = i} (omega arith)) in
-      omega (arith, v .tied, v .seven)
+      omega (arith, v .tied, v .eight)
 
-  module _ (h : i < 7) (k : i < length t) where
+  module _ (h : i < 8) (k : i < length t) where
     one : lead (drop i least) (drop i greatest) (drop i t)
         ≡ cond (leb (getD least i 0) (getD t i 0)) (cond (leb (getD t i 0) (getD greatest i 0)) (suc (lead (drop (i + 1) least) (drop (i + 1) greatest) (drop (i + 1) t))) 0) 0
     unfolding lead
@@ -58,4 +58,4 @@ module _ {t : List ℕ} {i : ℕ} (v : Inv t i) where
       more e′ =
           let z : lead (drop i least) (drop i greatest) (drop i t) ≡ suc (lead (drop (i + 1) least) (drop (i + 1) greatest) (drop (i + 1) t)) =
           one ∙ rw (le-leb (getD least i 0) (getD t i 0) e, le-leb (getD t i 0) (getD greatest i 0) e′) in
-          record { seven = omega arith; within = omega arith; tied = omega (arith, v .tied) }
+          record { eight = omega arith; within = omega arith; tied = omega (arith, v .tied) }

@@ -1,5 +1,6 @@
--- What checking a text answers (01 "The coverage text", "Refusal numbers"). Assumes nothing.
+-- What checking a text answers (01 "The coverage text", "Refusal numbers"; 02, W-208). Assumes nothing.
 use mathlib.Core.Path.{_≡_}
+use mathlib.Core.Logic.{_⊎_}
 use mathlib.Core.Bool.{Bool, _&&_, not, cond}
 use mathlib.Core.List.{List, _∷_}
 use Prim.Native.Nat.{ℕ, zero, suc}
@@ -9,13 +10,13 @@ use Rattle.logic.specs.Refusal.{refuse, _otherwise_}
 use Rattle.reading.specs.Ground.{wholeCells, sizeSum}
 use Rattle.reading.specs.Place.{placeOf}
 use Rattle.reading.specs.Heading.{least, greatest, lead}
-use Rattle.reading.specs.TextReading.{nodesOf, northOf, southOf, isText, bodyStart}
+use Rattle.reading.specs.TextReading.{nodesOf, profileOf, northOf, southOf, isText, bodyStart}
 use Rattle.reader.specs.declared.Checked.{Checked}
 use Rattle.reader.specs.declared.Checked.the-variants.{Text, Refused}
 
--- 10: "five bytes or more, mark right, version not 1"
+-- 10: "five bytes or more, mark right", version "neither 1 nor 2"
 abbrev pub WrongVersion : List ℕ → Type 0
-WrongVersion t = (d : ℕ) × (e : ℕ) × (u : List ℕ) × (t ≡ 67 ∷ 86 ∷ 82 ∷ d ∷ e ∷ u) × ((d ≡ 0) × (e ≡ 1) → ⊥)
+WrongVersion t = (d : ℕ) × (e : ℕ) × (u : List ℕ) × (t ≡ 67 ∷ 86 ∷ 82 ∷ d ∷ e ∷ u) × ((d ≡ 0) × ((e ≡ 1) ⊎ (e ≡ 2)) → ⊥)
 
 -- as a test: three bytes at least are as in a heading, and not five (Laws/Check: the same)
 unfoldable pub otherVersion : List ℕ → Bool
@@ -30,9 +31,9 @@ textRefusal t = refuse (ltb 65536 (length t)) 13 otherwise refuse (otherVersion 
 abbrev pub placeWith : ℕ → List ℕ → ℕ
 placeWith r t = cond (eqb r 9) (placeOf t) 0
 
--- the arrangement, "the number of whole cells in the reading and the sum of their sizes", where the body starts; or the refusal and the place
+-- the profile, the arrangement, "the number of whole cells in the reading and the sum of their sizes", where the body starts; or the refusal and the place
 abbrev pub answer : ℕ → List ℕ → Checked
-answer zero t = Text (northOf t) (southOf t) (length (wholeCells (nodesOf t))) (sizeSum (wholeCells (nodesOf t))) (bodyStart t)
+answer zero t = Text (profileOf t) (northOf t) (southOf t) (length (wholeCells (nodesOf t))) (sizeSum (wholeCells (nodesOf t))) (bodyStart t)
 answer (suc r) t = Refused (suc r) (placeWith (suc r) t)
 
 unfoldable pub checkedOf : List ℕ → Checked

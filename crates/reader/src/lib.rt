@@ -1,18 +1,21 @@
 // Checking a coverage text: node reader and list reader call each other.
 use reading::Level;
+use reading::Profile;
 ghost use mathlib.Core.Path.{_≡_};
 ghost use Prim.Native.Nat.{_*_, _^_, _≤_, _<_};
 ghost use lib.Dec.{eqb};
 ghost use lib.ListN.{length, getD};
-ghost use Rattle.reading.specs.Heading.{least, greatest, lead};
+ghost use Rattle.reading.specs.Text.{headingLength};
+ghost use Rattle.reading.specs.Heading.{least, greatest, lead, profileIn};
 ghost use Rattle.reader.specs.Check.{checkedOf};
 ghost use Rattle.reader.specs.Internal.NodesRead.{ReadsNode, ReadsNodes};
 ghost use Rattle.reader.specs.declared.Checked.the-variants.{Refused as RefusedWith};
 
-// What checking answers: the heading's n and s, the number of whole cells and the sum of their sizes, and where the body starts; or the refusal, with
+// What checking answers: the heading's version and depth, n and s, the number of whole cells and the sum of their sizes, and where the body starts; or the refusal, with
 // the place for 9.
 pub enum Checked {
     Text {
+        profile: Profile,
         north: u64,
         south: u64,
         cells: u64,
@@ -114,16 +117,16 @@ fn nodes(text: &[u8], start: usize, level: Level, room: u64, size: u64) -> Nodes
 }
 
 // The least and the greatest byte at each place of the heading.
-const LEAST: [u8; 7] = [b'C', b'V', b'R', 0, 1, b'0', b'0'];
+const LEAST: [u8; 8] = [b'C', b'V', b'R', 0, 1, b'0', b'0', b'a'];
 
-const GREATEST: [u8; 7] = [b'C', b'V', b'R', 0, 1, b'3', b'3'];
+const GREATEST: [u8; 8] = [b'C', b'V', b'R', 0, 2, b'3', b'3', b'p'];
 
 // How many leading bytes are as in a heading.
 fn heading(text: &[u8]) -> usize
     ensures { λ r. ⌜ r ≡ lead least greatest (now (text .entry)) ⌝ }
 {
     let mut i: usize = 0;
-    while i < reading::HEADING {
+    while i < 8 {
         if i == text.len() {
             return i;
         }
@@ -135,7 +138,31 @@ fn heading(text: &[u8]) -> usize
         }
         i += 1;
     }
-    reading::HEADING
+    8
+}
+
+// The byte at a place, or 0 where there is none.
+fn byte_at(text: &[u8], at: usize) -> u8
+    ensures { λ r. ⌜ r ≡ getD (now (text .entry)) at 0 ⌝ }
+{
+    if at >= text.len() {
+        return 0;
+    }
+    text[at]
+}
+
+// The profile that the version and the letter behind s tell.
+fn profile_in(text: &[u8]) -> Profile
+    ensures { λ r. ⌜ r ≡ profileIn (now (text .entry)) ⌝ }
+{
+    if byte_at(text, 4) == 1 {
+        return Profile::Full;
+    }
+    let letter = byte_at(text, 7);
+    if letter < b'a' {
+        return Profile::Handheld(0);
+    }
+    Profile::Handheld((letter - b'a') as u64)
 }
 
 fn refused(refusal: u64, place: u64) -> Checked
@@ -144,9 +171,9 @@ fn refused(refusal: u64, place: u64) -> Checked
     Checked::Refused { refusal, place }
 }
 
-// The answer where only `right` bytes of the heading are right: 10 "five bytes or more, mark right, version not 1", else 9.
+// The answer where only `right` bytes of the heading are right: 10 "five bytes or more, mark right", version "neither 1 nor 2", else 9.
 fn check_heading(text: &[u8], right: usize) -> Checked
-    requires { ⌜ (length (now text) ≤ 65536) × (right ≡ lead least greatest (now text)) × (right < 7) ⌝ }
+    requires { ⌜ (length (now text) ≤ 65536) × (right ≡ lead least greatest (now text)) × (right < headingLength (profileIn (now text))) ⌝ }
     ensures { λ r. ⌜ r ≡ checkedOf (now (text .entry)) ⌝ }
 {
     if text.len() < 5 {
@@ -162,21 +189,24 @@ fn check_heading(text: &[u8], right: usize) -> Checked
 }
 
 // The answer where the heading is right.
-fn check_body(text: &[u8]) -> Checked
-    requires { ⌜ (length (now text) ≤ 65536) × (7 ≤ lead least greatest (now text)) ⌝ }
+fn check_body(text: &[u8], profile: Profile) -> Checked
+    requires { ⌜ (length (now text) ≤ 65536) × (profile ≡ profileIn (now text)) × (headingLength (profileIn (now text)) ≤ lead least greatest (now text)) ⌝ }
     ensures { λ r. ⌜ r ≡ checkedOf (now (text .entry)) ⌝ }
 {
-    let body = reading::HEADING;
-    let NodesRead::Read(next, cells, size, _) = nodes(text, body, Level::Faces, 15, code::FACE_SIZE)
+    let level = reading::level_of(profile);
+    let depth = reading::depth_of(profile);
+    let body = reading::heading_length(profile);
+    let NodesRead::Read(next, cells, size, _) = nodes(text, body, level, depth, code::FACE_SIZE)
     else {
-        return refused(9, place::place(text, body, Level::Faces, 15) as u64);
+        return refused(9, place::place(text, body, level, depth) as u64);
     };
     if next < text.len() {
-        return refused(9, place::place(text, body, Level::Faces, 15) as u64);
+        return refused(9, place::place(text, body, level, depth) as u64);
     }
     let north = (text[5] - b'0') as u64;
     let south = (text[6] - b'0') as u64;
     Checked::Text {
+        profile,
         north,
         south,
         cells,
@@ -193,8 +223,9 @@ pub fn check(text: &[u8]) -> Checked
         return refused(13, 0);
     }
     let right = heading(text);
-    if right < reading::HEADING {
+    let profile = profile_in(text);
+    if right < reading::heading_length(profile) {
         return check_heading(text, right);
     }
-    check_body(text)
+    check_body(text, profile)
 }

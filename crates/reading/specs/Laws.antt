@@ -1,7 +1,9 @@
+pub mod Allowed
 pub mod Built
 pub mod Demand
 pub mod Fewest
 pub mod FewestOf
+pub mod Fits
 pub mod Ground
 pub mod Heading
 pub mod Loose

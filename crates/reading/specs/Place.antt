@@ -4,9 +4,9 @@ use mathlib.Core.Bool.{cond}
 use Prim.Native.Nat.{ℕ, _+_, _≤_}
 use lib.ListN.{length, take, drop}
 use lib.Dec.{ltb}
-use Rattle.reading.specs.declared.Level.the-variants.{Faces}
-use Rattle.reading.specs.Text.{Accepted}
-use Rattle.reading.specs.Heading.{least, greatest, lead}
+use Rattle.reading.specs.declared.Profile.{Profile}
+use Rattle.reading.specs.Text.{levelOf, depthOf, headingLength, Accepted}
+use Rattle.reading.specs.Heading.{least, greatest, lead, profileIn}
 use Rattle.reading.specs.Scan.{scan, start}
 
 -- a string that is so begins with p
@@ -19,7 +19,7 @@ pub record LongestOf (P : List ℕ → Type 0) (t : List ℕ) (k : ℕ) : Type 0
   pub begun : BeginsOne P (take k t)
   pub longest : (j : ℕ) → j ≤ length t → BeginsOne P (take j t) → j ≤ k
 
--- "some accepted text begins with" p, "length limit aside"
+-- "some accepted text" of either version "begins with" p, "length limit aside"
 abbrev pub Begins : List ℕ → Type 0
 Begins p = BeginsOne Accepted p
 
@@ -29,5 +29,11 @@ Longest t k = LongestOf Accepted t k
 
 -- ---- computed: by the test of the heading and the scan of the body (Laws/Place shows that it is the longest)
 
+unfoldable pub placeBy : Profile → List ℕ → ℕ
+placeBy p t =
+    cond (ltb (lead least greatest t) (headingLength p)) (lead least greatest t)
+    (headingLength p + scan (levelOf p) (depthOf p) start (drop (headingLength p) t))
+
 unfoldable pub placeOf : List ℕ → ℕ
-placeOf t = cond (ltb (lead least greatest t) 7) (lead least greatest t) (7 + scan Faces 15 start (drop 7 t))
+unfolding placeBy
+placeOf t = placeBy (profileIn t) t

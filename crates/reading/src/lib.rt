@@ -1,9 +1,7 @@
 // What the parts of a coverage text are: the letters of faces and the digits of nodes.
 ghost use mathlib.Core.Path.{_≡_};
 ghost use Rattle.reading.specs.Reading.{first, many, room as roomOf};
-
-// "Seven bytes of heading"
-pub const HEADING: usize = 7;
+ghost use Rattle.reading.specs.Text.{versionOf, levelOf, depthOf, headingLength};
 
 // "text longer than 65,536 bytes, read or to be written"
 pub const LONGEST: usize = 65_536;
@@ -13,6 +11,52 @@ pub enum Level {
     Faces,
     Belt,
     Digits,
+}
+
+// What a text may hold: version 1, or version 2, the handheld profile, with its greatest depth.
+pub enum Profile {
+    Full,
+    Handheld(u64),
+}
+
+// The version of its texts.
+pub fn version_of(profile: Profile) -> u64
+    ensures { λ r. ⌜ r ≡ versionOf profile ⌝ }
+{
+    match profile {
+        Profile::Full => 1,
+        Profile::Handheld(_) => 2,
+    }
+}
+
+// What its faces are.
+pub fn level_of(profile: Profile) -> Level
+    ensures { λ r. ⌜ r ≡ levelOf profile ⌝ }
+{
+    match profile {
+        Profile::Full => Level::Faces,
+        Profile::Handheld(_) => Level::Belt,
+    }
+}
+
+// How many digits may lie below a face.
+pub fn depth_of(profile: Profile) -> u64
+    ensures { λ r. ⌜ r ≡ depthOf profile ⌝ }
+{
+    match profile {
+        Profile::Full => 15,
+        Profile::Handheld(depth) => depth,
+    }
+}
+
+// The number of bytes of its heading.
+pub fn heading_length(profile: Profile) -> usize
+    ensures { λ r. ⌜ r ≡ headingLength profile ⌝ }
+{
+    match profile {
+        Profile::Full => 7,
+        Profile::Handheld(_) => 8,
+    }
 }
 
 // The byte of number 0.

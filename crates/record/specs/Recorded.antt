@@ -9,6 +9,7 @@ use Rattle.track.specs.Track.{Held}
 use Rattle.lines.specs.Fold.{OfBytes}
 use Rattle.flight.specs.declared.Setting.{Setting}
 use Rattle.flight.specs.Memory.{withLine}
+use Rattle.reading.specs.declared.Profile.the-variants.{Full}
 use Rattle.writing.specs.Write.{textOf, writeRefusal}
 use Rattle.record.specs.declared.Memory.{Memory}
 use Rattle.record.specs.declared.Recorded.{Recorded}
@@ -21,7 +22,7 @@ abbrev pub AllRecorded : Setting → (room : ℕ) (codes : List ℕ) → Recorde
 AllRecorded s room codes (recorded-as.Whole m) = Held codes (m .count) × OfBytes (withLine s room) ([], false) (take (m .count) codes, m .full)
 AllRecorded s room codes recorded-as.Failed = Unit {0}
 
--- the text of the codes held; none where a cell had no room, or where writing is refused
+-- the text of the codes held, of version 1; none where a cell had no room, or where writing is refused
 abbrev pub FlightText : Setting → (codes : List ℕ) → Memory → (room : ℕ) (text : List ℕ) → Text → Type 0
-FlightText s codes m room text (text-as.Length n) = (m .full ≡ false) × (take n text ≡ textOf (s .arrangement) (take (m .count) codes)) × (n ≤ length text)
-FlightText s codes m room text text-as.None = (m .full ≡ true) ⊎ (writeRefusal (s .arrangement) (take (m .count) codes) room ≡ 0 → ⊥)
+FlightText s codes m room text (text-as.Length n) = (m .full ≡ false) × (take n text ≡ textOf Full (s .arrangement) (take (m .count) codes)) × (n ≤ length text)
+FlightText s codes m room text text-as.None = (m .full ≡ true) ⊎ (writeRefusal 1 15 (s .arrangement) (take (m .count) codes) room ≡ 0 → ⊥)

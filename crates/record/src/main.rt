@@ -105,7 +105,7 @@ fn put_text(setting: Setting, codes: &[u64], memory: Memory, text: &mut [u8]) ->
         console::say_refusal(13);
         return Text::None;
     }
-    match writing::write(setting.arrangement, &codes[..count], text) {
+    match writing::write(1, 15, setting.arrangement, &codes[..count], text) {
         Written::Length(length) => Text::Length(length as usize),
         Written::Refused(refusal) => {
             console::say(b"record: nothing is written: ");

@@ -7,7 +7,7 @@ ghost use Rattle.decimal.specs.Decimal.{printed};
 ghost use Rattle.report.specs.Put.{Put};
 ghost use Rattle.report.specs.Answer.{answerLine};
 ghost use Rattle.report.specs.Names.{nameBytes, nameLine, NamesPut};
-ghost use Rattle.report.specs.Lines.{numberLine, numbersLine, checkLine, askedLine};
+ghost use Rattle.report.specs.Lines.{numberLine, fourNumbers, checkLine, askedLine};
 use asking::Asked;
 use code::Coded;
 use flight::Setting;
@@ -70,18 +70,16 @@ pub fn put_answer(setting: Setting, line: &[u8], out: &mut [u8], at: usize) -> u
     }
 }
 
-// Puts six numbers in one line in front: where it ends.
-fn put_numbers(a: u64, b: u64, c: u64, d: u64, e: u64, f: u64, out: &mut [u8]) -> usize
-    requires { ⌜ 126 ≤ length (now out) ⌝ }
-    ensures { λ r. ⌜ Put 0 (numbersLine (a ∷ b ∷ c ∷ d ∷ e ∷ f ∷ [])) (now (out .entry)) (now (out .exit)) r ⌝ }
-    ensures { λ r. ⌜ r ≤ 126 ⌝ }
+// Puts four numbers from `at` on, a space between them and a byte at the end: where they end.
+fn put_four(a: u64, b: u64, c: u64, d: u64, byte: u8, out: &mut [u8], at: usize) -> usize
+    requires { ⌜ at + 84 ≤ length (now out) ⌝ }
+    ensures { λ r. ⌜ Put at (fourNumbers a b c d byte) (now (out .entry)) (now (out .exit)) r ⌝ }
+    ensures { λ r. ⌜ r ≤ at + 84 ⌝ }
 {
-    let second = put_number(a, b' ', out, 0);
+    let second = put_number(a, b' ', out, at);
     let third = put_number(b, b' ', out, second);
     let fourth = put_number(c, b' ', out, third);
-    let fifth = put_number(d, b' ', out, fourth);
-    let sixth = put_number(e, b' ', out, fifth);
-    put_number(f, b'\n', out, sixth)
+    put_number(d, byte, out, fourth)
 }
 
 // How many names were put, and where they end.
@@ -106,21 +104,30 @@ pub fn put_names(codes: &[u64], out: &mut [u8]) -> Names
     Names { count, end }
 }
 
-// Puts what checking answers in one line, `refusal place n s cells size`: where it ends.
+// Puts what checking answers in one line, `refusal place version depth n s cells size`: where it ends.
 pub fn put_check(checked: Checked, out: &mut [u8]) -> usize
-    requires { ⌜ 126 ≤ length (now out) ⌝ }
+    requires { ⌜ 168 ≤ length (now out) ⌝ }
     ensures { λ r. ⌜ Put 0 (checkLine checked) (now (out .entry)) (now (out .exit)) r ⌝ }
-    ensures { λ r. ⌜ r ≤ 126 ⌝ }
+    ensures { λ r. ⌜ r ≤ 168 ⌝ }
 {
     match checked {
         Checked::Text {
+            profile,
             north,
             south,
             cells,
             size,
             ..
-        } => put_numbers(0, 0, north, south, cells, size, out),
-        Checked::Refused { refusal, place } => put_numbers(refusal, place, 0, 0, 0, 0, out),
+        } => {
+            let version = reading::version_of(profile);
+            let depth = reading::depth_of(profile);
+            let middle = put_four(0, 0, version, depth, b' ', out, 0);
+            put_four(north, south, cells, size, b'\n', out, middle)
+        }
+        Checked::Refused { refusal, place } => {
+            let middle = put_four(refusal, place, 0, 0, b' ', out, 0);
+            put_four(0, 0, 0, 0, b'\n', out, middle)
+        }
     }
 }
 

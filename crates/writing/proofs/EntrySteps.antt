@@ -2,7 +2,7 @@
 use mathlib.Core.Path.{_≡_, refl, sym, ap, ap₂, _∙_}
 use mathlib.Core.Bool.{Bool, true, false, _&&_, not}
 use mathlib.Core.Logic.{_↔_, _⊎_, inl, inr, ⊎-elim}
-use mathlib.Core.List.{List, [], _∷_}
+use mathlib.Core.List.{List, [], _∷_, map}
 use Prim.Native.Nat.{ℕ, zero, suc, _+_, _-_, _*_, _^_, _≤_, _<_}
 use native.Mathlib.Numerals.{add-one}
 use native.Mathlib.Omega.{arith}
@@ -14,14 +14,20 @@ use Rattle.logic.specs.Laws.Order.{lt-or}
 use Rattle.logic.specs.Refusal.{refuse, _otherwise_, given}
 use Rattle.logic.specs.Laws.Refusal.{stops, passes}
 use Rattle.cell.specs.declared.Arrangement.{Arrangement}
-use Rattle.cell.specs.Cell.{arrangementRefusal}
 use Rattle.code.specs.Code.{cellOf, cellCode, isCode, isOf, sizeOf}
 use Rattle.code.specs.Laws.Code.{code-is-cell, of-arrangement, codes-order}
 use Rattle.code.specs.Inside.{startOf, endOf, liesWithin}
 use Rattle.code.specs.Laws.Inside.{code-start, end-small, size-pos}
-use Rattle.reading.specs.Text.{heading}
+use Rattle.reading.specs.declared.Profile.{Profile}
+use Rattle.reading.specs.declared.Profile.the-variants.{Full, Handheld}
+use Rattle.reading.specs.Text.{IsProfile, versionOf, heading}
+use Rattle.reading.specs.Written.{keeps}
+use Rattle.writing.specs.declared.Written.{Written}
 use Rattle.writing.specs.declared.Written.the-variants.{Length, Refused}
-use Rattle.writing.specs.Write.{allCodes, allOf, ordered, codesRefusal, textOf, writeRefusal, written}
+use Rattle.writing.specs.Write.{allCodes, allOf, ordered, codesRefusal, asksFor, textOf, fitRefusal, writeRefusal, textIn, written}
+use Rattle.writing.specs.Internal.Put.{front}
+use Rattle.writing.specs.Internal.Asked.{askedRefusal}
+use Rattle.writing.specs.Internal.AskedLaws.{asked-first}
 use Rattle.writing.specs.Laws.List.{not-lies, tested}
 
 -- ---- the tests of the list
@@ -46,7 +52,7 @@ module _ (a : Arrangement) where
   unfolding allOf
   own-end codes i h = ap (allOf a) (drop-of-length-le codes h)
 
-and-three : (a b c : Bool) → (a && (b && c)) ≡ ((a && b) && c)
+pub and-three : (a b c : Bool) → (a && (b && c)) ≡ ((a && b) && c)
 and-three true b c = refl
 and-three false b c = refl
 
@@ -206,12 +212,26 @@ module _ {a : Arrangement} {codes : List ℕ} {i refusal end : ℕ} (v : Judged 
 
 -- ---- the heading
 
-pub heading-put :
-    (n s : ℕ) (a : List ℕ) {b c d e f g h : List ℕ} → b ≡ set a 0 67 → c ≡ set b 1 86 → d ≡ set c 2 82 → e ≡ set d 3 0 → f ≡ set e 4 1 → g ≡ set f 5 (48 + n) →
-    h ≡ set g 6 (48 + s) → h ≡ sets a 0 (heading n s)
-heading-put n s a i j k l m o p =
+pub front-put :
+    (v n s : ℕ) (a : List ℕ) {b c d e f g h : List ℕ} → b ≡ set a 0 67 → c ≡ set b 1 86 → d ≡ set c 2 82 → e ≡ set d 3 0 → f ≡ set e 4 v → g ≡ set f 5 (48 + n) →
+    h ≡ set g 6 (48 + s) → h ≡ sets a 0 (front v n s)
+front-put v n s a i j k l m o p =
     p ∙ ap (λ t. set t 6 (48 + s))
-    (o ∙ ap (λ t. set t 5 (48 + n)) (m ∙ ap (λ t. set t 4 1) (l ∙ ap (λ t. set t 3 0) (k ∙ ap (λ t. set t 2 82) (j ∙ ap (λ t. set t 1 86) i)))))
+    (o ∙ ap (λ t. set t 5 (48 + n)) (m ∙ ap (λ t. set t 4 v) (l ∙ ap (λ t. set t 3 0) (k ∙ ap (λ t. set t 2 82) (j ∙ ap (λ t. set t 1 86) i)))))
+
+-- what more version 2 has
+module _ (p : Profile) (v n s : ℕ) (a : List ℕ) {h : List ℕ} (e : v ≡ versionOf p) (f : h ≡ sets a 0 (front v n s)) where
+  seven : h ≡ sets a 0 (front (versionOf p) n s)
+  seven = f ∙ ap (λ (x : ℕ). sets a 0 (front x n s)) e
+
+  pub heading-full : p ≡ Full → h ≡ sets a 0 (heading p n s)
+  heading-full q = rw q (rw q at seven)
+
+  pub heading-handheld : {d : ℕ} {t : List ℕ} → p ≡ Handheld d → t ≡ set h 7 (97 + d) → t ≡ sets a 0 (heading p n s)
+  heading-handheld {d} q g = rw q (g ∙ ap (λ (x : List ℕ). set x 7 (97 + d)) (rw q at seven))
+
+pub depth-small : {p : Profile} {d : ℕ} → p ≡ Handheld d → IsProfile p → d ≤ 15
+depth-small q h = rw q at h
 
 -- ---- the answers
 
@@ -227,31 +247,32 @@ pub answered : (w m n : ℕ) (x text later : List ℕ) → w ≡ 0 → m ≡ n �
 unfolding written given
 answered w m n x text later e f g = rw e (ap Length f, g)
 
-module _ (a : Arrangement) (codes : List ℕ) (room : ℕ) where
-  rest : ℕ
-  rest = refuse (ltb 65536 (length (textOf a codes))) 13 otherwise refuse (ltb room (length (textOf a codes))) 8
+-- ---- what is written
 
-  pub first : (arrangementRefusal a ≡ 0 → ⊥) → writeRefusal a codes room ≡ arrangementRefusal a
-  unfolding writeRefusal
-  first h = stops (arrangementRefusal a) _ h
+module _ (p : Profile) (a : Arrangement) (codes : List ℕ) (room : ℕ) where
+  module _ (e : not (keeps p (map cellOf codes)) ≡ false) where
+    pub fit-thirteen : 65536 < length (textOf p a codes) → fitRefusal p a codes room ≡ 13
+    unfolding fitRefusal _otherwise_
+    fit-thirteen h = rw (e, lt-ltb 65536 (length (textOf p a codes)) h) refl
 
-  module _ (e : arrangementRefusal a ≡ 0) where
-    pub second : (codesRefusal a codes ≡ 0 → ⊥) → writeRefusal a codes room ≡ codesRefusal a codes
-    unfolding writeRefusal rest
-    second h = passes (codesRefusal a codes otherwise rest) e ∙ stops (codesRefusal a codes) rest h
+    pub fit-eight : length (textOf p a codes) ≤ 65536 → room < length (textOf p a codes) → fitRefusal p a codes room ≡ 8
+    unfolding fitRefusal _otherwise_
+    fit-eight g h = rw (e, le-ltb 65536 (length (textOf p a codes)) g, lt-ltb room (length (textOf p a codes)) h) refl
 
-    last : codesRefusal a codes ≡ 0 → writeRefusal a codes room ≡ rest
-    unfolding writeRefusal rest
-    last f = passes (codesRefusal a codes otherwise rest) e ∙ passes rest f
+    pub fit-none : length (textOf p a codes) ≤ 65536 → length (textOf p a codes) ≤ room → fitRefusal p a codes room ≡ 0
+    unfolding fitRefusal _otherwise_
+    fit-none g h = rw (e, le-ltb 65536 (length (textOf p a codes)) g, le-ltb room (length (textOf p a codes)) h) refl
 
-    pub third : codesRefusal a codes ≡ 0 → 65536 < length (textOf a codes) → writeRefusal a codes room ≡ 13
-    unfolding rest _otherwise_
-    third f h = last f ∙ rw (lt-ltb 65536 (length (textOf a codes)) h) refl
+-- what is asked comes first, then whether it fits
+module _ (version depth : ℕ) (a : Arrangement) (codes text : List ℕ) where
+  abbrev whole : ℕ
+  whole = writeRefusal version depth a codes (length text)
 
-    pub fourth : codesRefusal a codes ≡ 0 → length (textOf a codes) ≤ 65536 → room < length (textOf a codes) → writeRefusal a codes room ≡ 8
-    unfolding rest _otherwise_
-    fourth f g h = last f ∙ rw (le-ltb 65536 (length (textOf a codes)) g, lt-ltb room (length (textOf a codes)) h) refl
+  pub asked-refused : (askedRefusal version depth a codes ≡ 0 → ⊥) → whole ≡ askedRefusal version depth a codes
+  asked-refused h = asked-first version depth a codes (length text) ∙ stops (askedRefusal version depth a codes) _ h
 
-    pub nothing : codesRefusal a codes ≡ 0 → length (textOf a codes) ≤ 65536 → length (textOf a codes) ≤ room → writeRefusal a codes room ≡ 0
-    unfolding rest _otherwise_
-    nothing f g h = last f ∙ rw (le-ltb 65536 (length (textOf a codes)) g, le-ltb room (length (textOf a codes)) h) refl
+  pub fit-answered :
+      (p : Profile) {r : Written} {later : List ℕ} → asksFor version depth ≡ p → askedRefusal version depth a codes ≡ 0 →
+      (r ≡ written (fitRefusal p a codes (length text)) (length (textOf p a codes))) × (later ≡ given (fitRefusal p a codes (length text)) (textIn p a codes text) text) →
+      (r ≡ written whole (length (textOf (asksFor version depth) a codes))) × (later ≡ given whole (textIn (asksFor version depth) a codes text) text)
+  fit-answered p e z h = rw (asked-first version depth a codes (length text) ∙ passes _ z, e) h

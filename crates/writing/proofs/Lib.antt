@@ -1,3 +1,4 @@
+pub mod DepthLaws
 pub mod EntrySteps
 pub mod MeasureSteps
 pub mod PutLaws

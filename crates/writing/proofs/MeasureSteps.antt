@@ -10,51 +10,94 @@ use Rattle.code.specs.Code.{sizeOf}
 use Rattle.code.specs.Inside.{startOf}
 use Rattle.logic.specs.Laws.Order.{lt-or}
 use Rattle.writing.specs.declared.Measure.{Measure}
-use Rattle.writing.specs.Internal.Measure.{nextCell, StartAtPlace, NodeAt, NodeTakes, NodeMeasured, ListMeasured}
+use Rattle.writing.specs.Internal.Measure.{nextCell, StartAtPlace, NodeAt, NodeTakes, NodeDepth, NodeMeasured, ListMeasured}
+use Rattle.writing.specs.Internal.Depth.{greater, depthAbove}
 use Rattle.writing.specs.Internal.MeasureLaws.{node-finest, node-same, node-list, node-nine, node-held, list-none, list-node, list-rest, list-in, all-later, list-skip, list-out}
+use Rattle.writing.proofs.DepthLaws.{greater-none, greater-zero, greater-most, greater-assoc, whole-depth, held-depth, above-most, none-depth, in-depth, out-depth}
 
 -- ---- a node
 
-pub n-finest : {codes : List ℕ} {at start size : ℕ} → at < length codes → 0 < size → size < 9 → NodeMeasured codes at start size (record { next = at + 1; bytes = 1; wholes = 1 })
+pub n-finest :
+    {codes : List ℕ} {at start size : ℕ} → at < length codes → 0 < size → size < 9 →
+    NodeMeasured codes at start size (record { next = at + 1; bytes = 1; wholes = 1; depth = 0 })
 n-finest {codes} {at} {start} {size} h z l =
-    record { is = λ w k s. node-finest codes at w start size k s h l; inside = omega arith; short = omega arith; few = omega arith }
+    record {
+      is = λ w k s. node-finest codes at w start size k s h l;
+      inside = omega arith;
+      short = omega arith;
+      few = omega arith;
+      deep = λ w k s. whole-depth (node-finest codes at w start size k s h l);
+      shallow = omega arith;
+    }
 
 pub n-same :
     {codes : List ℕ} {at start size : ℕ} → at < length codes → 0 < size → sizeOf (nextCell codes at) ≡ size →
-    NodeMeasured codes at start size (record { next = at + 1; bytes = 1; wholes = 1 })
+    NodeMeasured codes at start size (record { next = at + 1; bytes = 1; wholes = 1; depth = 0 })
 n-same {codes} {at} {start} {size} h z e =
-    record { is = λ w k s. node-same codes at w start size k s h e; inside = omega arith; short = omega arith; few = omega arith }
+    record {
+      is = λ w k s. node-same codes at w start size k s h e;
+      inside = omega arith;
+      short = omega arith;
+      few = omega arith;
+      deep = λ w k s. whole-depth (node-same codes at w start size k s h e);
+      shallow = omega arith;
+    }
 
 module _ {codes : List ℕ} {at start size : ℕ} {r : Measure} (h : at < length codes) (z : 9 ≤ size) (n : sizeOf (nextCell codes at) ≡ size → ⊥)
     (m : ListMeasured codes at 9 start (size / 9) r) where
-  pub n-nine : r .wholes ≡ 9 → NodeMeasured codes at start size (record { next = r .next; bytes = 1; wholes = 1 })
-  n-nine e = record { is = go; inside = m .inside; short = omega arith; few = omega arith }
+  pub n-nine : r .wholes ≡ 9 → NodeMeasured codes at start size (record { next = r .next; bytes = 1; wholes = 1; depth = 0 })
+  n-nine e = record { is = go; inside = m .inside; short = omega arith; few = omega arith; deep = λ w k s. whole-depth (go w k s); shallow = omega arith }
     where
       go : (w : List ℕ) (k : ℕ) → NodeAt codes at w start size k → NodeTakes codes at w k (r .next) 1 1
       go w zero s = absurd (omega (arith, s .sized))
       go w (suc k) s = node-nine codes at w start size k s h n (r .next) (r .bytes) (r .wholes) (m .is w 0 k (node-list codes at w start size k s h n)) e
 
-  pub n-held : (r .wholes ≡ 9 → ⊥) → NodeMeasured codes at start size (record { next = r .next; bytes = 3 + r .bytes; wholes = 0 })
-  n-held e = record { is = go; inside = m .inside; short = omega (arith, m .short); few = omega arith }
+  pub n-held :
+      {depth : ℕ} → (r .wholes ≡ 9 → ⊥) → depth ≡ depthAbove start size (r .depth) →
+      NodeMeasured codes at start size (record { next = r .next; bytes = 3 + r .bytes; wholes = 0; depth = depth })
+  n-held {depth} e d =
+      record {
+        is = go;
+        inside = m .inside;
+        short = omega (arith, m .short);
+        few = omega arith;
+        deep = λ w k s. rw d (deeper w k s);
+        shallow = omega (arith, above-most start size (r .depth) z (m .shallow));
+      }
     where
       go : (w : List ℕ) (k : ℕ) → NodeAt codes at w start size k → NodeTakes codes at w k (r .next) (3 + r .bytes) 0
       go w zero s = absurd (omega (arith, s .sized))
       go w (suc k) s = node-held codes at w start size k s h n (r .next) (r .bytes) (r .wholes) (m .is w 0 k (node-list codes at w start size k s h n)) e
 
+      deeper : (w : List ℕ) (k : ℕ) → NodeAt codes at w start size k → NodeDepth codes at w k (depthAbove start size (r .depth))
+      deeper w zero s = absurd (omega (arith, s .sized))
+      deeper w (suc k) s = held-depth codes at w start size k s h (go w (suc k) s) (λ q. omega arith) (m .deep w 0 k (node-list codes at w start size k s h n))
+
 -- ---- a list
 
-pub l-none : {codes : List ℕ} {at left start size : ℕ} → at ≤ length codes → left ≡ 0 → ListMeasured codes at left start size (record { next = at; bytes = 0; wholes = 0 })
+pub l-none : {codes : List ℕ} {at left start size : ℕ} → at ≤ length codes → left ≡ 0 → ListMeasured codes at left start size (record { next = at; bytes = 0; wholes = 0; depth = 0 })
 l-none {codes} {at} {left} {start} {size} h e =
     rw e
-    (record { is = λ w c k s. list-none codes at w c start size k s; inside = h; short = omega arith; few = omega arith })
+    (record {
+      is = λ w c k s. list-none codes at w c start size k s;
+      inside = h;
+      short = omega arith;
+      few = omega arith;
+      deep = λ w c k s. none-depth codes at w c k;
+      shallow = omega arith;
+    })
 
 pub less : (n : ℕ) → suc n - 1 ≡ n
 less n = omega arith
 
+-- a node and those behind it
+abbrev together : Measure → Measure → Measure
+together n r = record { next = r .next; bytes = n .bytes + r .bytes; wholes = n .wholes + r .wholes; depth = greater (n .depth) (r .depth) }
+
 l-in-suc :
     (codes : List ℕ) (at left start size : ℕ) (n r : Measure) → at < length codes → startOf (nextCell codes at) < start + size →
     NodeMeasured codes at start size n → ListMeasured codes (n .next) left (start + size) size r →
-    ListMeasured codes at (suc left) start size (record { next = r .next; bytes = n .bytes + r .bytes; wholes = n .wholes + r .wholes })
+    ListMeasured codes at (suc left) start size (together n r)
 l-in-suc codes at left start size n r h l m u =
     record {
       is =
@@ -64,12 +107,18 @@ l-in-suc codes at left start size n r h l m u =
       inside = u .inside;
       short = omega (arith, m .short, u .short, suc-mul left (2 * size));
       few = omega (arith, m .few, u .few);
+      deep =
+          λ w c k s.
+          let a = list-node codes at w c left start size k s h l in
+          let t = m .is _ k a in
+          in-depth (t .took) (m .deep _ k a) (u .deep w (suc c) k (list-rest codes at w c left start size k s t));
+      shallow = greater-most (n .depth) (r .depth) (size + 16) (m .shallow) (u .shallow);
     }
 
 pub l-in :
     {codes : List ℕ} {at : ℕ} (left : ℕ) {start size : ℕ} {n r : Measure} → at < length codes → (left ≡ 0 → ⊥) → startOf (nextCell codes at) < start + size →
     NodeMeasured codes at start size n → ListMeasured codes (n .next) (left - 1) (start + size) size r →
-    ListMeasured codes at left start size (record { next = r .next; bytes = n .bytes + r .bytes; wholes = n .wholes + r .wholes })
+    ListMeasured codes at left start size (together n r)
 l-in zero h z l m u = absurd (z refl)
 l-in {codes} {at} (suc left) {start} {size} {n} {r} h z l m u = l-in-suc codes at left start size n r h l m (rw (less left) at u)
 
@@ -85,6 +134,11 @@ l-out-suc codes at left start size r z n u =
       inside = u .inside;
       short = omega (arith, u .short, suc-mul left (2 * size));
       few = omega (arith, u .few);
+      deep =
+          λ w c k s.
+          let p = all-later codes at w c left start size k s n in
+          out-depth p (u .deep w (suc c) k (list-skip codes at w c left start size k s p));
+      shallow = u .shallow;
     }
 
 pub l-out :
@@ -115,10 +169,10 @@ hand-outside start size a n h l = n (omega (arith, a .some h))
 -- ---- a list, cell by cell
 
 -- what is measured of the cells that are left completes what is to be measured
-pub record Measuring (codes : List ℕ) (at left start size next first child bytes count more : ℕ) : Type 0 where
+pub record Measuring (codes : List ℕ) (at left start size next first child bytes count depth more : ℕ) : Type 0 where
   pub rest :
       (r : Measure) → ListMeasured codes next more child size r →
-      ListMeasured codes at left start size (record { next = r .next; bytes = bytes + r .bytes; wholes = count + r .wholes })
+      ListMeasured codes at left start size (record { next = r .next; bytes = bytes + r .bytes; wholes = count + r .wholes; depth = greater depth (r .depth) })
   pub inside : next ≤ length codes
   pub few : more ≤ left
   pub cells : child + more * size ≤ 9 ^ 16
@@ -128,14 +182,14 @@ pub record Measuring (codes : List ℕ) (at left start size next first child byt
 
 pub l-starts :
     {codes : List ℕ} {at left start size first : ℕ} → at ≤ length codes → start + left * size ≤ 9 ^ 16 → StartAtPlace codes at first →
-    Measuring codes at left start size at first start 0 0 left
+    Measuring codes at left start size at first start 0 0 0 left
 l-starts h i a =
     record {
       rest =
           λ r u.
           let i : 0 + r .bytes ≡ r .bytes = omega arith in
           let j : 0 + r .wholes ≡ r .wholes = omega arith in
-          rw (i, j) u;
+          rw (i, j, greater-none (r .depth)) u;
       inside = h;
       few = omega arith;
       cells = i;
@@ -145,26 +199,31 @@ l-starts h i a =
     }
 
 pub l-ends :
-    {codes : List ℕ} {at left start size next first child bytes count more : ℕ} → Measuring codes at left start size next first child bytes count more → more ≡ 0 →
-    ListMeasured codes at left start size (record { next = next; bytes = bytes; wholes = count })
-l-ends {codes} {at} {left} {start} {size} {next} {first} {child} {bytes} {count} v e =
+    {codes : List ℕ} {at left start size next first child bytes count depth more : ℕ} →
+    Measuring codes at left start size next first child bytes count depth more → more ≡ 0 →
+    ListMeasured codes at left start size (record { next = next; bytes = bytes; wholes = count; depth = depth })
+l-ends {codes} {at} {left} {start} {size} {next} {first} {child} {bytes} {count} {depth} v e =
     let i : bytes + 0 ≡ bytes = omega arith in
     let j : count + 0 ≡ count = omega arith in
-    rw (i, j) at (v .rest _ (l-none (v .inside) e))
+    rw (i, j, greater-zero depth) at (v .rest _ (l-none (v .inside) e))
 
 module _
-    {codes : List ℕ} {at left start size next first child bytes count more : ℕ} (y : 0 < size)
-    (v : Measuring codes at left start size next first child bytes count more) (z : more ≡ 0 → ⊥)
+    {codes : List ℕ} {at left start size next first child bytes count depth more : ℕ} (y : 0 < size)
+    (v : Measuring codes at left start size next first child bytes count depth more) (z : more ≡ 0 → ⊥)
   where
     -- the cell has the code at hand inside
     pub l-takes :
-        {n : Measure} {f last from long sum : ℕ} → first < child + size → NodeMeasured codes next child size n → StartAtPlace codes (n .next) f → last ≡ n .next →
-        from ≡ f → long ≡ bytes + n .bytes → sum ≡ count + n .wholes → Measuring codes at left start size last from (child + size) long sum (more - 1)
-    l-takes {n} l m a e₁ e₂ e₃ e₄ =
+        {n : Measure} {f last from long sum most : ℕ} → first < child + size → NodeMeasured codes next child size n → StartAtPlace codes (n .next) f → last ≡ n .next →
+        from ≡ f → long ≡ bytes + n .bytes → sum ≡ count + n .wholes → most ≡ greater depth (n .depth) →
+        Measuring codes at left start size last from (child + size) long sum most (more - 1)
+    l-takes {n} l m a e₁ e₂ e₃ e₄ e₅ =
         let h = hand-inside child size (v .hand) (omega (arith, v .cells, one-less more size z)) l in
-        rw (e₁, e₂, e₃, e₄)
+        rw (e₁, e₂, e₃, e₄, e₅)
         (record {
-          rest = λ r u. rw (add-assoc bytes (n .bytes) (r .bytes), add-assoc count (n .wholes) (r .wholes)) (v .rest _ (l-in more (h .0) z (h .1) m u));
+          rest =
+              λ r u.
+              rw (add-assoc bytes (n .bytes) (r .bytes), add-assoc count (n .wholes) (r .wholes), greater-assoc depth (n .depth) (r .depth))
+              (v .rest _ (l-in more (h .0) z (h .1) m u));
           inside = m .inside;
           few = omega (arith, v .few);
           cells = omega (arith, v .cells, one-less more size z);
@@ -175,10 +234,10 @@ module _
 
     -- or it has not
     pub l-skips :
-        {last from long sum : ℕ} → (first < child + size → ⊥) → last ≡ next → from ≡ first → long ≡ bytes → sum ≡ count →
-        Measuring codes at left start size last from (child + size) long sum (more - 1)
-    l-skips l e₁ e₂ e₃ e₄ =
-        rw (e₁, e₂, e₃, e₄)
+        {last from long sum most : ℕ} → (first < child + size → ⊥) → last ≡ next → from ≡ first → long ≡ bytes → sum ≡ count → most ≡ depth →
+        Measuring codes at left start size last from (child + size) long sum most (more - 1)
+    l-skips l e₁ e₂ e₃ e₄ e₅ =
+        rw (e₁, e₂, e₃, e₄, e₅)
         (record {
           rest = λ r u. v .rest r (l-out more y z (hand-outside child size (v .hand) l) u);
           inside = v .inside;

@@ -7,7 +7,6 @@ use native.Mathlib.Omega.{arith}
 use lib.Dec.{eqb}
 use lib.ListN.{length, set, length-append}
 use lib.Seq.{sets}
-use Rattle.logic.specs.Laws.Bools.{by-cond}
 use Rattle.logic.specs.Laws.Stores.{sets-append}
 use Rattle.reading.specs.declared.Level.{Level}
 use Rattle.reading.specs.declared.Level.the-variants.{Digits}
@@ -50,18 +49,28 @@ node-render below l c (t ∷ ts) rest = go (anyEnds (t ∷ ts) || eqb (wholes (b
     go true = refl
     go false = ap (λ (x : List ℕ). (first l + c) ∷ 40 ∷ x) (sym (append-assoc (render Digits (below (t ∷ ts))) (41 ∷ []) (render l rest)))
 
-node-whole : (below : List Name → Nodes) (c : ℕ) (ts : List Name) → wholes (nodeOf below c ts end) ≡ 1 → nodeOf below c ts end ≡ whole c end
+-- a node is whole, or holds what is built below it, whatever follows
+pub node-whole :
+    (below : List Name → Nodes) (c : ℕ) (ts : List Name) (rest : Nodes) → wholes (nodeOf below c ts end) ≡ 1 → nodeOf below c ts rest ≡ whole c rest
 unfolding nodeOf
-node-whole below c [] h = absurd (omega arith)
-node-whole below c (t ∷ ts) h =
-    by-cond (λ (ns : Nodes). wholes ns ≡ 1 → ns ≡ whole c end) (anyEnds (t ∷ ts) || eqb (wholes (below (t ∷ ts))) 9) (λ e k. refl) (λ e k. absurd (omega arith)) h
+node-whole below c [] rest h = absurd (omega arith)
+node-whole below c (t ∷ ts) rest h = go (anyEnds (t ∷ ts) || eqb (wholes (below (t ∷ ts))) 9) h
+  where
+    go : (b : Bool) → wholes (cond b (whole c end) (listed c (below (t ∷ ts)) end)) ≡ 1 → cond b (whole c rest) (listed c (below (t ∷ ts)) rest) ≡ whole c rest
+    go true k = refl
+    go false k = absurd (omega arith)
 
-node-listed : (below : List Name → Nodes) (c : ℕ) (t : Name) (ts : List Name) → (wholes (nodeOf below c (t ∷ ts) end) ≡ 1 → ⊥) → nodeOf below c (t ∷ ts) end ≡ listed c
-    (below (t ∷ ts)) end
+node-listed :
+    (below : List Name → Nodes) (c : ℕ) (t : Name) (ts : List Name) (rest : Nodes) → (wholes (nodeOf below c (t ∷ ts) end) ≡ 1 → ⊥) →
+    nodeOf below c (t ∷ ts) rest ≡ listed c (below (t ∷ ts)) rest
 unfolding nodeOf
-node-listed below c t ts h =
-    by-cond (λ (ns : Nodes). (wholes ns ≡ 1 → ⊥) → ns ≡ listed c (below (t ∷ ts)) end) (anyEnds (t ∷ ts) || eqb (wholes (below (t ∷ ts))) 9)
-    (λ e k. absurd (k refl)) (λ e k. refl) h
+node-listed below c t ts rest h = go (anyEnds (t ∷ ts) || eqb (wholes (below (t ∷ ts))) 9) h
+  where
+    go :
+        (b : Bool) → (wholes (cond b (whole c end) (listed c (below (t ∷ ts)) end)) ≡ 1 → ⊥) →
+        cond b (whole c rest) (listed c (below (t ∷ ts)) rest) ≡ listed c (below (t ∷ ts)) rest
+    go true k = absurd (k refl)
+    go false k = refl
 
 -- ---- a node
 
@@ -70,7 +79,7 @@ pub whole-wrote :
     count ≡ 1 → later ≡ set text place (first l + c) → NodeWrote codes at w k place l c text later (record { next = next; place = place + 1 })
 whole-wrote codes at w k place l c text later next bytes count t e f =
     let n : nodeOf (under k) c (restsOf w (namesFrom codes at)) end ≡ whole c end =
-    node-whole (under k) c (restsOf w (namesFrom codes at)) (t .whole c end ∙ omega arith) in
+    node-whole (under k) c (restsOf w (namesFrom codes at)) end (t .whole c end ∙ omega arith) in
     record { took = t .took; past = t .past; wrote = rw n (wrote-one f) }
 
 module _
@@ -83,13 +92,15 @@ module _
         let u = node-same codes at w start size (suc k) s h e in
         n (omega (arith, t .whole 0 end, u .whole 0 end))
 
-    held : (c : ℕ) → nodeOf (under (suc k)) c (restsOf w (namesFrom codes at)) end ≡ listed c (side (under k) 9 0 (restsOf w (namesFrom codes at))) end
-    held c =
+    pub held :
+        (c : ℕ) (rest : Nodes) →
+        nodeOf (under (suc k)) c (restsOf w (namesFrom codes at)) rest ≡ listed c (side (under k) 9 0 (restsOf w (namesFrom codes at))) rest
+    held c rest =
         let f = rests-first w (namesFrom codes at) (numbersOf (nextCell codes at)) (namesFrom codes (at + 1)) (names-at codes at h) (s .inside) in
         let i : (wholes (nodeOf (under (suc k)) c (restsOf w (namesFrom codes at)) end) ≡ 1 → ⊥) = λ e. n (omega (arith, t .whole c end)) in
-        let j : nodeOf (under (suc k)) c (restsOf w (namesFrom codes at)) end ≡ listed c (under (suc k) (restsOf w (namesFrom codes at))) end =
-        rw (f .2) (node-listed (under (suc k)) c (f .0) (f .1) (rw (f .2) at i)) in
-        j ∙ ap (λ (ns : Nodes). listed c ns end) (built-side k 9 (restsOf w (namesFrom codes at)))
+        let j : nodeOf (under (suc k)) c (restsOf w (namesFrom codes at)) rest ≡ listed c (under (suc k) (restsOf w (namesFrom codes at))) rest =
+        rw (f .2) (node-listed (under (suc k)) c (f .0) (f .1) rest (rw (f .2) at i)) in
+        j ∙ ap (λ (ns : Nodes). listed c ns rest) (built-side k 9 (restsOf w (namesFrom codes at)))
 
     pub held-wrote :
         (place : ℕ) (l : Level) (c : ℕ) (text first-text second-text third-text later : List ℕ) (last ends : ℕ) → first-text ≡ set text place (first l + c) →
@@ -105,7 +116,7 @@ module _
         record {
           took = u .took;
           past = nine-past w (namesFrom codes last) (u .past .named) (u .past .since);
-          wrote = rw (held c) (wrote-join (rw e at o) (wrote-join (u .wrote) m));
+          wrote = rw (held c end) (wrote-join (rw e at o) (wrote-join (u .wrote) m));
         }
 
 -- ---- a list

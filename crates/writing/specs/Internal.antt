@@ -1,3 +1,6 @@
+pub mod Asked
+pub mod AskedLaws
+pub mod Depth
 pub mod EntryLaws
 pub mod Length
 pub mod Measure

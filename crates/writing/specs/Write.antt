@@ -1,10 +1,10 @@
--- What writing answers (01 "The coverage text", "Refusal numbers"). Assumes nothing.
+-- What writing answers (01 "The coverage text", "Refusal numbers"; 02, W-208 and W-210). Assumes nothing.
 use mathlib.Core.Path.{_≡_}
 use mathlib.Core.Logic.{_⊎_}
-use mathlib.Core.Bool.{Bool, true, false, _&&_, not}
+use mathlib.Core.Bool.{Bool, true, false, _&&_, _||_, not, cond}
 use mathlib.Core.List.{List, [], _∷_, _++_, map}
 use Prim.Native.Nat.{ℕ, zero, suc, _≤_}
-use lib.Dec.{ltb}
+use lib.Dec.{ltb, eqb}
 use lib.ListN.{length, drop}
 use Rattle.logic.specs.Refusal.{refuse, _otherwise_}
 use Rattle.cell.specs.declared.Cell.{Cell}
@@ -16,7 +16,9 @@ use Rattle.writing.specs.declared.Written.{Written}
 use Rattle.writing.specs.declared.Written.the-variants.{Length, Refused}
 use Rattle.logic.specs.Lists.{Any}
 use Rattle.reading.specs.Ground.{All, Rising, Apart}
-use Rattle.reading.specs.Written.{writtenText}
+use Rattle.reading.specs.declared.Profile.{Profile}
+use Rattle.reading.specs.declared.Profile.the-variants.{Full, Handheld}
+use Rattle.reading.specs.Written.{writtenText, keeps}
 
 -- ---- "rising codes, none inside another"
 
@@ -67,24 +69,44 @@ unfoldable pub codesRefusal : Arrangement → List ℕ → ℕ
 unfolding allCodes allOf ordered
 codesRefusal a codes = refuse (not (allCodes codes)) 4 otherwise refuse (not (allOf a codes)) 14 otherwise refuse (not (ordered codes)) 11
 
+-- ---- the profile that is asked for, by a version and a depth
+
+-- "version 1 .., which makes no other use of" the depth
+abbrev pub asksFor : (version depth : ℕ) → Profile
+asksFor version depth = cond (eqb version 1) Full (Handheld depth)
+
+unfoldable pub isVersion : ℕ → Bool
+isVersion version = eqb version 1 || eqb version 2
+
 -- ---- the text and what is refused
 
-unfoldable pub textOf : Arrangement → List ℕ → List ℕ
-textOf a codes = writtenText (a .north) (a .south) (map cellOf codes)
+unfoldable pub textOf : Profile → Arrangement → List ℕ → List ℕ
+textOf p a codes = writtenText p (a .north) (a .south) (map cellOf codes)
 
--- 5, 4, 14, 11; "13 is judged on the text of a good list"; 8: "lent buffer shorter than the answer"
-unfoldable pub writeRefusal : Arrangement → List ℕ → (room : ℕ) → ℕ
-unfolding codesRefusal textOf
-writeRefusal a codes room =
+-- 15: "list outside the profile, after 11": "the fewest cells of its ground break it"; "13 is judged on the text of a good list"; 8: "lent buffer shorter
+-- than the answer"
+unfoldable pub fitRefusal : Profile → Arrangement → List ℕ → (room : ℕ) → ℕ
+unfolding textOf
+fitRefusal p a codes room =
+    refuse (not (keeps p (map cellOf codes))) 15 otherwise
+    refuse (ltb 65536 (length (textOf p a codes))) 13 otherwise
+    refuse (ltb room (length (textOf p a codes))) 8
+
+-- 5; 2: "an asked depth above 15, at version 1 too"; 4; 10: "neither 1 nor 2, asked of the writer too"; 14; 11; 15; 13; 8
+unfoldable pub writeRefusal : (version depth : ℕ) → Arrangement → List ℕ → (room : ℕ) → ℕ
+unfolding allCodes codesRefusal fitRefusal
+writeRefusal version depth a codes room =
     arrangementRefusal a otherwise
+    refuse (ltb 15 depth) 2 otherwise
+    refuse (not (allCodes codes)) 4 otherwise
+    refuse (not (isVersion version)) 10 otherwise
     codesRefusal a codes otherwise
-    refuse (ltb 65536 (length (textOf a codes))) 13 otherwise
-    refuse (ltb room (length (textOf a codes))) 8
+    fitRefusal (asksFor version depth) a codes room
 
 -- the lent bytes with the text in front: "an answer changes only its own length"
-unfoldable pub textIn : Arrangement → List ℕ → List ℕ → List ℕ
+unfoldable pub textIn : Profile → Arrangement → List ℕ → List ℕ → List ℕ
 unfolding textOf
-textIn a codes bytes = textOf a codes ++ drop (length (textOf a codes)) bytes
+textIn p a codes bytes = textOf p a codes ++ drop (length (textOf p a codes)) bytes
 
 -- ---- the answer: a length, or the number of the refusal
 

@@ -1,21 +1,23 @@
 // The accepted text of a list of cells.
 ghost use mathlib.Core.Path.{_≡_};
-ghost use mathlib.Core.Bool.{true, _&&_, not};
+ghost use mathlib.Core.Bool.{true, not};
 ghost use mathlib.Core.List.{map};
 ghost use Prim.Native.Nat.{_+_, _-_, _*_, _^_, _≤_, _<_};
 ghost use lib.ListN.{length, set};
 ghost use lib.Seq.{sets};
 ghost use Rattle.writing.specs.Internal.Measure.{StartAtPlace, NodeMeasured, ListMeasured};
 ghost use Rattle.writing.specs.Internal.Whole.{WholeUntil};
-ghost use Rattle.writing.specs.Internal.Put.{NodePut, ListPut};
-ghost use lib.Dec.{ltb};
+ghost use Rattle.writing.specs.Internal.Put.{NodePut, ListPut, front};
 ghost use Rattle.logic.specs.Refusal.{refuse, _otherwise_, given};
 ghost use Rattle.cell.specs.Cell.{IsArrangement};
-ghost use Rattle.code.specs.Code.{isCode, cellOf};
-ghost use Rattle.reading.specs.Text.{heading};
-ghost use Rattle.writing.specs.Write.{allCodes, InTurn, codesRefusal, textOf, writeRefusal, textIn, written};
+ghost use Rattle.code.specs.Code.{cellOf};
+ghost use Rattle.reading.specs.Text.{IsProfile, versionOf, heading};
+ghost use Rattle.writing.specs.Write.{allCodes, InTurn, codesRefusal, asksFor, isVersion, textOf, fitRefusal, writeRefusal, textIn, written};
+ghost use Rattle.writing.specs.Internal.Depth.{greater as greaterOf, depthAbove, breaks as breaksIt};
 ghost use Rattle.writing.specs.Internal.Length.{LengthIs};
+ghost use Rattle.writing.specs.Internal.Asked.{askedRefusal};
 use cell::Arrangement;
+use reading::Profile;
 
 // The length of a text that was written, or the number of the refusal.
 pub enum Written {
@@ -23,11 +25,12 @@ pub enum Written {
     Refused(u64),
 }
 
-// What was measured: the place of the next code, the bytes that the nodes make, and how many of them are whole.
+// What was measured: the place of the next code, the bytes that the nodes make, how many of them are whole, and the least depth of version 2 that they keep to.
 struct Measure {
     next: usize,
     bytes: u64,
     wholes: u64,
+    depth: u64,
 }
 
 // The first finest cell of the code at a place, or a number above all of them where there is no such place.
@@ -41,6 +44,32 @@ fn start_at(codes: &[u64], at: usize) -> u64
     0x1000_0000_0000_0000
 }
 
+fn greater(a: u64, b: u64) -> u64
+    ensures { λ r. ⌜ r ≡ greaterOf a b ⌝ }
+{
+    if a < b {
+        return b;
+    }
+    a
+}
+
+// The least depth that the node of a cell keeps to where it holds a list that keeps to `below`: 16, more than any, for N and S, which stand only whole.
+fn depth_above(start: u64, size: u64, below: u64) -> u64
+    requires { ⌜ below < 2 ^ 63 ⌝ }
+    ensures { λ r. ⌜ r ≡ depthAbove start size below ⌝ }
+{
+    if size != code::FACE_SIZE {
+        return below + 1;
+    }
+    if start == 0 {
+        return 16; // N
+    }
+    if start == 5 * code::FACE_SIZE {
+        return 16; // S
+    }
+    below + 1
+}
+
 // The node of a cell, given by its first finest cell and its size, that has the code at hand inside: a code of the same size is the cell's.
 fn measure_node(codes: &[u64], at: usize, start: u64, size: u64) -> Measure
     requires { ⌜ (allCodes (now codes) ≡ true) × (at < length (now codes)) × (0 < size) × (start + size ≤ 9 ^ 16) ⌝ }
@@ -51,6 +80,7 @@ fn measure_node(codes: &[u64], at: usize, start: u64, size: u64) -> Measure
             next: at + 1,
             bytes: 1,
             wholes: 1,
+            depth: 0,
         };
     }
     if code::size_in(codes[at]) == size {
@@ -58,6 +88,7 @@ fn measure_node(codes: &[u64], at: usize, start: u64, size: u64) -> Measure
             next: at + 1,
             bytes: 1,
             wholes: 1,
+            depth: 0,
         };
     }
     let list = measure_list(codes, at, 9, start, size / 9);
@@ -66,12 +97,14 @@ fn measure_node(codes: &[u64], at: usize, start: u64, size: u64) -> Measure
             next: list.next,
             bytes: 1,
             wholes: 1,
+            depth: 0, // whatever its codes are
         };
     }
     Measure {
         next: list.next,
         bytes: 3 + list.bytes,
         wholes: 0,
+        depth: depth_above(start, size, list.depth),
     }
 }
 
@@ -85,6 +118,7 @@ fn measure_list(codes: &[u64], at: usize, left: u64, start: u64, size: u64) -> M
     let mut child = start;
     let mut bytes: u64 = 0;
     let mut wholes: u64 = 0;
+    let mut depth: u64 = 0;
     let mut more = left;
     while more > 0 {
         let end = child + size;
@@ -93,6 +127,7 @@ fn measure_list(codes: &[u64], at: usize, left: u64, start: u64, size: u64) -> M
             next = node.next;
             bytes = bytes + node.bytes;
             wholes = wholes + node.wholes;
+            depth = greater(depth, node.depth);
             first = start_at(codes, next);
         }
         child = end;
@@ -102,6 +137,7 @@ fn measure_list(codes: &[u64], at: usize, left: u64, start: u64, size: u64) -> M
         next,
         bytes,
         wholes,
+        depth,
     }
 }
 
@@ -253,53 +289,141 @@ fn list_refusal(arrangement: Arrangement, codes: &[u64]) -> u64
     refusal
 }
 
-// The length of the text of a good list.
-fn length_of(codes: &[u64]) -> u64
-    requires { ⌜ (allCodes (now codes) ≡ true) × InTurn (map cellOf (now codes)) ⌝ }
-    ensures { λ r. ⌜ LengthIs (now (codes .entry)) r ⌝ }
-{
-    let faces = measure_list(codes, 0, 6, 0, code::FACE_SIZE);
-    faces.bytes + reading::HEADING as u64
+// The length of the text of a list, and the least depth of version 2 that its nodes keep to.
+struct Extent {
+    length: u64,
+    depth: u64,
 }
 
-// The seven bytes of heading.
-fn put_heading(text: &mut [u8], north: u64, south: u64)
+// The text of a good list, measured.
+fn length_of(profile: Profile, codes: &[u64]) -> Extent
+    requires { ⌜ (allCodes (now codes) ≡ true) × InTurn (map cellOf (now codes)) ⌝ }
+    ensures { λ r. ⌜ LengthIs profile (now (codes .entry)) r ⌝ }
+{
+    let faces = measure_list(codes, 0, 6, 0, code::FACE_SIZE);
+    Extent {
+        length: faces.bytes + reading::heading_length(profile) as u64,
+        depth: faces.depth,
+    }
+}
+
+// Whether nodes that keep to this depth and to no lesser one are outside the profile.
+fn breaks(profile: Profile, depth: u64) -> bool
+    ensures { λ r. ⌜ r ≡ breaksIt profile depth ⌝ }
+{
+    match profile {
+        Profile::Full => false,
+        Profile::Handheld(most) => most < depth,
+    }
+}
+
+fn version_of(profile: Profile) -> u8
+    ensures { λ r. ⌜ r ≡ versionOf profile ⌝ }
+{
+    match profile {
+        Profile::Full => 1,
+        Profile::Handheld(_) => 2,
+    }
+}
+
+// The seven bytes of heading that both versions have.
+fn put_front(text: &mut [u8], version: u8, north: u64, south: u64)
     requires { ⌜ (north ≤ 3) × (south ≤ 3) ⌝ }
-    ensures { λ r. ⌜ now (text .exit) ≡ sets (now (text .entry)) 0 (heading north south) ⌝ }
+    ensures { λ r. ⌜ now (text .exit) ≡ sets (now (text .entry)) 0 (front version north south) ⌝ }
 {
     put(text, 0, b'C');
     put(text, 1, b'V');
     put(text, 2, b'R');
     put(text, 3, 0);
-    put(text, 4, 1);
+    put(text, 4, version);
     put(text, 5, b'0' + north as u8);
     put(text, 6, b'0' + south as u8);
 }
 
-// The text of a list of codes, into `text`: 5, 4, 14, 11, 13 or 8 where there is none.
-pub fn write(arrangement: Arrangement, codes: &[u64], text: &mut [u8]) -> Written
-    ensures { λ r. ⌜ r ≡ written (writeRefusal arrangement (now (codes .entry)) (length (now (text .entry)))) (length (textOf arrangement (now (codes .entry)))) ⌝ }
-    ensures { λ r. ⌜ now (text .exit) ≡ given (writeRefusal arrangement (now (codes .entry)) (length (now (text .entry)))) (textIn arrangement (now (codes .entry)) (now (text .entry))) (now (text .entry)) ⌝ }
+// The bytes of heading: in version 2 there is one more, the letter of the depth.
+fn put_heading(profile: Profile, text: &mut [u8], north: u64, south: u64)
+    requires { ⌜ IsProfile profile × (north ≤ 3) × (south ≤ 3) ⌝ }
+    ensures { λ r. ⌜ now (text .exit) ≡ sets (now (text .entry)) 0 (heading profile north south) ⌝ }
+{
+    put_front(text, version_of(profile), north, south);
+    match profile {
+        Profile::Full => {}
+        Profile::Handheld(depth) => put(text, 7, b'a' + depth as u8),
+    }
+}
+
+fn is_version(version: u64) -> bool
+    ensures { λ r. ⌜ r ≡ isVersion version ⌝ }
+{
+    if version == 1 {
+        return true;
+    }
+    version == 2
+}
+
+// 5, 2, 4, 10, 14 or 11, or 0 where a good list and a profile are asked for.
+fn asked_refusal(version: u64, depth: u64, arrangement: Arrangement, codes: &[u64]) -> u64
+    ensures { λ r. ⌜ r ≡ askedRefusal version depth arrangement (now (codes .entry)) ⌝ }
+{
+    let wrong = arrangement.refusal();
+    if wrong != 0 {
+        return wrong;
+    }
+    if depth > 15 {
+        return 2;
+    }
+    let refused = list_refusal(arrangement, codes);
+    if refused == 4 {
+        return 4; // before the version
+    }
+    if !is_version(version) {
+        return 10;
+    }
+    refused
+}
+
+// The text of a good list, into `text`: 15, 13 or 8 where there is none.
+fn write_good(profile: Profile, arrangement: Arrangement, codes: &[u64], text: &mut [u8]) -> Written
+    requires { ⌜ IsProfile profile × IsArrangement arrangement × (codesRefusal arrangement (now codes) ≡ 0) ⌝ }
+    ensures { λ r. ⌜ r ≡ written (fitRefusal profile arrangement (now (codes .entry)) (length (now (text .entry)))) (length (textOf profile arrangement (now (codes .entry)))) ⌝ }
+    ensures { λ r. ⌜ now (text .exit) ≡ given (fitRefusal profile arrangement (now (codes .entry)) (length (now (text .entry)))) (textIn profile arrangement (now (codes .entry)) (now (text .entry))) (now (text .entry)) ⌝ }
 {
     let north = arrangement.north;
     let south = arrangement.south;
-    let wrong = arrangement.refusal();
-    if wrong != 0 {
-        return Written::Refused(wrong);
+    let extent = length_of(profile, codes);
+    let length = extent.length;
+    if breaks(profile, extent.depth) {
+        return Written::Refused(15);
     }
-    let refused = list_refusal(arrangement, codes);
-    if refused != 0 {
-        return Written::Refused(refused);
-    }
-    let length = length_of(codes);
     if length > reading::LONGEST as u64 {
         return Written::Refused(13);
     }
     if (text.len() as u64) < length {
         return Written::Refused(8);
     }
-    put_heading(text, north, south);
-    let body = reading::HEADING;
+    put_heading(profile, text, north, south);
+    let body = reading::heading_length(profile);
     put_list(codes, 0, 6, 0, code::FACE_SIZE, text, body, b'N');
     Written::Length(length)
+}
+
+// The text of a list of codes, of this version and, in version 2, of this depth, into `text`: 5, 2, 4, 10, 14, 11, 15, 13 or 8 where there is none.
+pub fn write(
+    version: u64,
+    depth: u64,
+    arrangement: Arrangement,
+    codes: &[u64],
+    text: &mut [u8],
+) -> Written
+    ensures { λ r. ⌜ r ≡ written (writeRefusal version depth arrangement (now (codes .entry)) (length (now (text .entry)))) (length (textOf (asksFor version depth) arrangement (now (codes .entry)))) ⌝ }
+    ensures { λ r. ⌜ now (text .exit) ≡ given (writeRefusal version depth arrangement (now (codes .entry)) (length (now (text .entry)))) (textIn (asksFor version depth) arrangement (now (codes .entry)) (now (text .entry))) (now (text .entry)) ⌝ }
+{
+    let refused = asked_refusal(version, depth, arrangement, codes);
+    if refused != 0 {
+        return Written::Refused(refused);
+    }
+    if version == 1 {
+        return write_good(Profile::Full, arrangement, codes, text);
+    }
+    write_good(Profile::Handheld(depth), arrangement, codes, text)
 }

@@ -50,7 +50,7 @@ answers! {
     Vertices { x: [i64; 4], y: [i64; 4] }
     Fix { longitude: i64, z: i64 }
     Z { z: i64 }
-    Check at place { n: u64, s: u64, cells: u64, size: u64 }
+    Check at place { version: u64, depth: u64, n: u64, s: u64, cells: u64, size: u64 }
     List at place { count: u64 }
     Ask at place { covered: u64 }
 }
@@ -78,7 +78,9 @@ unsafe extern "C" {
     pub safe fn jgv_neighbour(code: u64, direction: u64) -> Code;
     pub fn jgv_coverage_check(text: *const u8, length: usize) -> Check;
     pub fn jgv_coverage_list(text: *const u8, length: usize, codes: *mut u64, room: usize) -> List;
-    pub fn jgv_coverage_write(n: u64, s: u64, codes: *const u64, count: usize, text: *mut u8, room: usize) -> Length;
+    pub fn jgv_coverage_write(
+        version: u64, depth: u64, n: u64, s: u64, codes: *const u64, count: usize, text: *mut u8, room: usize,
+    ) -> Length;
     pub fn jgv_coverage_ask(text: *const u8, length: usize, code: u64) -> Ask;
 }
 
@@ -106,8 +108,8 @@ pub mod lent {
         unsafe { jgv_coverage_list(text.as_ptr(), text.len(), codes.as_mut_ptr(), codes.len()) }
     }
 
-    pub fn coverage_write(n: u64, s: u64, codes: &[u64], text: &mut [u8]) -> Length {
-        unsafe { jgv_coverage_write(n, s, codes.as_ptr(), codes.len(), text.as_mut_ptr(), text.len()) }
+    pub fn coverage_write(version: u64, depth: u64, n: u64, s: u64, codes: &[u64], text: &mut [u8]) -> Length {
+        unsafe { jgv_coverage_write(version, depth, n, s, codes.as_ptr(), codes.len(), text.as_mut_ptr(), text.len()) }
     }
 
     pub fn coverage_ask(text: &[u8], code: u64) -> Ask {
@@ -200,7 +202,7 @@ pub fn neighbour(code: u64, direction: u64) -> Answer<u64> {
     Ok(jgv_neighbour(code, direction).read()?.code)
 }
 
-/// A text's n and s, the number of its whole cells and the sum of their sizes.
+/// A text's version, depth, n and s, the number of its whole cells and the sum of their sizes. Version 1 has depth 15.
 pub fn coverage_check(text: &[u8]) -> Answer<Check> {
     lent::coverage_check(text).read()
 }
@@ -210,8 +212,15 @@ pub fn coverage_list<'a>(text: &[u8], codes: &'a mut [u64]) -> Answer<&'a [u64]>
     Ok(&codes[..listed.count as usize])
 }
 
+/// A text of version 1.
 pub fn coverage_write<'a>(n: u64, s: u64, codes: &[u64], text: &'a mut [u8]) -> Answer<&'a [u8]> {
-    let written = lent::coverage_write(n, s, codes, text).read()?;
+    let written = lent::coverage_write(1, 15, n, s, codes, text).read()?;
+    Ok(&text[..written.length as usize])
+}
+
+/// A text of version 2, for handhelds: N and S whole, and nothing deeper than `depth`. Refused with 15 where the cells are not so.
+pub fn coverage_write_handheld<'a>(depth: u64, n: u64, s: u64, codes: &[u64], text: &'a mut [u8]) -> Answer<&'a [u8]> {
+    let written = lent::coverage_write(2, depth, n, s, codes, text).read()?;
     Ok(&text[..written.length as usize])
 }
 

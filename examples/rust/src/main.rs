@@ -170,15 +170,21 @@ fn write_text<'a>(names: &[&str], room: &'a mut [u8]) -> Answer<&'a [u8]> {
     Ok(text)
 }
 
-/// A coverage text is a heading of seven bytes, with the version and n and s, and the whole cells as a tree of digits.
+/// What the heading says and what the reading comes to.
+fn print_check(text: &[u8]) -> Answer<()> {
+    let Check { version, depth, n, s, cells, size, .. } = coverage_check(text)?;
+    println!("coverage_check: P(34(1)) -> version {version}, depth {depth}, n {n}, s {s}, {cells} whole cells, size {size}");
+    Ok(())
+}
+
+/// A coverage text of version 1 is a heading of seven bytes, with the version and n and s, and the whole cells as a tree of digits.
 fn coverage() -> Answer<()> {
     let mut room = [0; 32];
     // Nine whole siblings become their parent.
     write_text(&["O", "P0", "P1", "P2", "P3", "P4", "P5", "P6", "P7", "P8"], &mut room)?;
     let text = write_text(&["P3", "P41"], &mut room)?;
 
-    let Check { n, s, cells, size, .. } = coverage_check(text)?;
-    println!("coverage_check: P(34(1)) -> n {n}, s {s}, {cells} whole cells, size {size}");
+    print_check(text)?;
     let mut codes = [0; 32]; // a text has fewer whole cells than bytes
     let listed = coverage_list(text, &mut codes)?;
     let names = listed.iter().map(|&code| name_of(code)).collect::<Answer<Vec<String>>>()?;
@@ -213,6 +219,36 @@ fn two_arrangements() -> Answer<()> {
     Ok(())
 }
 
+/// Writes the text of version 2 of rising cells to `room` and shows its bytes, or the refusal; answers the part that was written.
+fn write_handheld<'a>(depth: u64, names: &[&str], room: &'a mut [u8]) -> Answer<&'a [u8]> {
+    let codes = names.iter().map(|name| code_of(name)).collect::<Answer<Vec<u64>>>()?;
+    let names = names.join(" ");
+    match coverage_write_handheld(depth, 0, 0, &codes, room) {
+        Ok(text) => {
+            let bytes: Vec<String> = text.iter().map(|byte| format!("{byte:02X}")).collect();
+            println!("coverage_write: version 2, depth {depth}, {names} -> {}", bytes.join(" "));
+            Ok(text)
+        }
+        Err(refused) => {
+            println!("coverage_write: version 2, depth {depth}, {names} -> refused with {}", refused.number);
+            Ok(&[])
+        }
+    }
+}
+
+/// Handhelds take no cap detail and a limited depth: texts of version 2 say it in an eighth byte, a letter a to p for depth 0 to 15.
+fn handhelds() -> Answer<()> {
+    let mut room = [0; 32];
+    let two = ["P3", "P41"];
+    let text = write_handheld(2, &two, &mut room)?;
+    print_check(text)?;
+    write_handheld(1, &two, &mut room)?; // P41 lies deeper
+    let north = ["N0", "N1", "N2", "N3", "N4", "N5", "N6", "N7", "N8", "P3"];
+    write_handheld(1, &north, &mut room)?; // the fewest cells are judged: N0 to N8 are N
+    write_handheld(1, &north[1..], &mut room)?; // N is not whole
+    Ok(())
+}
+
 fn main() -> Answer<()> {
     codes_and_names()?;
     families()?;
@@ -222,5 +258,6 @@ fn main() -> Answer<()> {
     neighbours()?;
     corners()?;
     coverage()?;
-    two_arrangements()
+    two_arrangements()?;
+    handhelds()
 }

@@ -1,5 +1,6 @@
 //! Runs the second program and the proved one on the same inputs, and counts what was met.
 
+use crate::coverage::Profile;
 use crate::grid::{arrangement_of, resolution_of};
 use crate::random::{Kind, Random, KINDS};
 use std::collections::BTreeMap;
@@ -17,11 +18,13 @@ pub const INPUTS: u64 = 1_050_000;
 /// The least number of times that each refusal has to be met, so that it was really tried.
 const LEAST: u64 = 1000;
 
-/// What an input holds of the sixteen arrangements and the sixteen resolutions.
+/// What an input holds of the sixteen arrangements and the sixteen resolutions, and of the versions
+/// and depths of coverage texts.
 #[derive(Clone, Copy)]
 pub struct About {
     pub arrangement: Option<(u64, u64)>,
     pub resolution: u64,
+    pub profile: Option<Profile>,
 }
 
 impl About {
@@ -30,6 +33,7 @@ impl About {
         About {
             arrangement: Some((n, s)),
             resolution,
+            profile: None,
         }
     }
 
@@ -46,7 +50,7 @@ pub fn say(line: &str) {
 }
 
 /// Counts of inputs: by kind, by refusal (0 for accepted), and of the accepted ones by
-/// arrangement and resolution.
+/// arrangement, resolution and profile; and of those refused with 15 by profile.
 #[derive(Default)]
 pub struct Tally {
     least: u64,
@@ -54,6 +58,8 @@ pub struct Tally {
     refusals: BTreeMap<u64, u64>,
     arrangements: BTreeMap<(u64, u64), u64>,
     resolutions: BTreeMap<u64, u64>,
+    profiles: BTreeMap<Profile, u64>,
+    outside: BTreeMap<Profile, u64>,
 }
 
 impl Tally {
@@ -73,6 +79,14 @@ impl Tally {
                 *self.arrangements.entry(arrangement).or_default() += 1;
             }
             *self.resolutions.entry(about.resolution).or_default() += 1;
+        }
+        let profiles = match refusal {
+            0 => &mut self.profiles,
+            15 => &mut self.outside,
+            _ => return,
+        };
+        if let Some(profile) = about.profile {
+            *profiles.entry(profile).or_default() += 1;
         }
     }
 
@@ -99,6 +113,27 @@ impl Tally {
             assert!(*count >= least, "{entry}: {refusal} only {count} times");
         }
         self.check_spread(entry, if refusals.contains(&12) { 15 } else { 16 });
+        self.check_profiles(entry, refusals.contains(&15));
+    }
+
+    /// Both versions and all depths, each often, where the entry has them; and 15 at every depth.
+    fn check_profiles(&self, entry: &str, has_15: bool) {
+        assert!([0, 17].contains(&self.profiles.len()), "{entry}: profiles");
+        let outside = if has_15 { 16 } else { 0 };
+        assert!(self.outside.len() == outside, "{entry}: 15 by depth");
+        for (profile, count) in self.profiles.iter().chain(&self.outside) {
+            assert!(*count >= self.least, "{entry}: {profile:?} {count} times");
+        }
+        if let (Some(least), Some(most)) =
+            (self.profiles.values().min(), self.profiles.values().max())
+        {
+            let least_15 = self.outside.values().min();
+            let line =
+                format!("{entry}: accepted from {least} to {most} times by version and depth");
+            say(&least_15.map_or(line.clone(), |least| {
+                format!("{line}, 15 at each depth {least} times or more")
+            }));
+        }
     }
 
     /// All arrangements and all resolutions, each often, where the entry has them. Refusal 12

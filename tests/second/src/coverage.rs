@@ -1,5 +1,6 @@
 //! Document 01's "The coverage text": checking, listing, asking and writing. Codes are those of
-//! document 02's W-210: a list or a question of another arrangement is refused with 14.
+//! document 02's W-210: a list or a question of another arrangement is refused with 14. Texts are
+//! those of W-208 too, the handheld profile: a version 2 with a greatest depth.
 //!
 //! A text is taken byte by byte by an automaton with a stack of what is open. The place of a bad
 //! text is found by its definition: a leading part counts where it can be completed to a text
@@ -17,13 +18,35 @@ pub const LONGEST: usize = 65_536;
 /// "Seven bytes of heading", here of the arrangement (0, 0).
 pub const HEADING: &[u8; 7] = b"CVR\0\x0100";
 
+/// "Version 2 has one more heading byte after s, a letter a to p", here for depth 0.
+pub const HEADING_2: &[u8; 8] = b"CVR\0\x0200a";
+
 /// The numbers of the grammar, so that the tests can try every text of a smaller one.
 #[derive(Clone, Copy, Debug)]
 pub struct Rules {
     /// Digits go from 0 to one less, and "a list never consists of nine whole nodes".
     pub digits: u8,
-    /// "Nothing lies deeper than 15 digits."
+    /// "Nothing lies deeper than 15 digits", and version 2's letters are of the depths up to it.
     pub deepest: usize,
+}
+
+/// What a heading says but for n and s. At version 2 "N and S may appear only whole, and nothing
+/// lies deeper than that depth"; version 1 is "depth 15 with caps allowed".
+#[derive(Clone, Copy, Debug, PartialEq, Eq, PartialOrd, Ord)]
+pub struct Profile {
+    pub version: u64,
+    pub depth: u64,
+}
+
+/// Version 1.
+pub const FIRST: Profile = Profile {
+    version: 1,
+    depth: 15,
+};
+
+/// Version 2 with a greatest depth.
+pub fn handheld(depth: u64) -> Profile {
+    Profile { version: 2, depth }
 }
 
 /// 01's own.
@@ -48,9 +71,10 @@ impl From<u64> for Refused {
 /// What an entry that reads a text answers.
 pub type TextAnswer<T> = Result<T, Refused>;
 
-/// The heading's n and s, "the number of whole cells in the reading and the sum of their sizes".
+/// What the heading says, "the number of whole cells in the reading and the sum of their sizes".
 #[derive(Clone, Copy, Debug, PartialEq, Eq)]
 pub struct Checked {
+    pub profile: Profile,
     pub n: u64,
     pub s: u64,
     pub cells: u64,
@@ -70,7 +94,7 @@ struct Open {
 /// What has been taken of a text.
 struct Automaton {
     rules: Rules,
-    heading: usize,
+    heading: Vec<u8>,
     /// The body, then the lists that are open, the outermost first.
     open: Vec<Open>,
     /// Was the last byte a letter or a digit? Only then may a list follow.
@@ -85,7 +109,7 @@ impl Automaton {
         };
         Automaton {
             rules,
-            heading: 0,
+            heading: Vec::new(),
             open: vec![body],
             fresh: false,
         }
@@ -94,22 +118,20 @@ impl Automaton {
     /// Takes one byte more, and tells whether it may stand there. No further byte is to be taken
     /// after one that may not.
     fn take(&mut self, byte: u8) -> bool {
-        if self.heading < HEADING.len() {
-            let at = self.heading;
-            self.heading += 1;
-            return match at {
-                5 | 6 => (b'0'..=b'3').contains(&byte),
-                _ => byte == HEADING[at],
-            };
+        if self.heading.len() < heading_length(&self.heading) {
+            return self.take_heading(byte);
         }
         let lists = self.open.len() - 1;
-        let digits = self.rules.digits;
+        let (digits, deepest) = (self.rules.digits, self.deepest());
+        let caps_whole = self.heading.len() == HEADING_2.len();
         let Some(here) = self.open.last_mut() else {
             return false;
         };
         let fresh = std::mem::replace(&mut self.fresh, false);
+        // "N and S may appear only whole"
+        let whole_cap = caps_whole && lists == 0 && [b'N', b'S'].contains(&(here.least - 1));
         match byte {
-            b'(' if fresh && lists < self.rules.deepest => {
+            b'(' if fresh && lists < deepest && !whole_cap => {
                 here.whole -= 1;
                 self.open.push(Open {
                     least: b'0',
@@ -139,9 +161,38 @@ impl Automaton {
         }
     }
 
+    /// The same for a byte of the heading.
+    fn take_heading(&mut self, byte: u8) -> bool {
+        let at = self.heading.len();
+        self.heading.push(byte);
+        match at {
+            4 => byte == 1 || byte == 2,
+            5 | 6 => (b'0'..=b'3').contains(&byte),
+            7 => (b'a'..=b'a' + self.rules.deepest as u8).contains(&byte),
+            _ => byte == HEADING[at],
+        }
+    }
+
+    /// The greatest depth: the letter's, or that of version 1.
+    fn deepest(&self) -> usize {
+        match self.heading.get(HEADING.len()) {
+            Some(letter) => usize::from(letter - b'a'),
+            None => self.rules.deepest,
+        }
+    }
+
     /// May the text end here?
     fn may_end(&self) -> bool {
-        self.heading == HEADING.len() && self.open.len() == 1
+        self.heading.len() == heading_length(&self.heading) && self.open.len() == 1
+    }
+}
+
+/// The bytes that a text's heading has, or is to have: its version tells, and where there is none
+/// yet, no fewer than seven.
+pub fn heading_length(text: &[u8]) -> usize {
+    match text.get(4) {
+        Some(2) => HEADING_2.len(),
+        _ => HEADING.len(),
     }
 }
 
@@ -151,18 +202,25 @@ pub fn accepts(rules: Rules, text: &[u8]) -> bool {
     text.iter().all(|&byte| automaton.take(byte)) && automaton.may_end()
 }
 
-/// Does some accepted text, whatever its length, begin with this part? If any does, so does the
-/// part with the rest of a heading, or with all its lists closed: at once, after a `0` where the
-/// last list is empty, or after a `(0)` where it has nine whole nodes. The lists around the last
-/// one hold a node that isn't whole, so nothing keeps them from closing.
+/// Does some accepted text of either version, whatever its length, begin with this part? If any
+/// does, so does the part with the rest of a heading, of either version, or with all its lists
+/// closed: at once, after a `0` where the last list is empty, or after a `(0)` where it has nine
+/// whole nodes. The lists around the last one hold a node that isn't whole, so nothing keeps them
+/// from closing.
 pub fn begins_some(rules: Rules, part: &[u8]) -> bool {
-    let rest = HEADING.get(part.len()..).unwrap_or(&[]);
-    let count = |bracket: u8| part.iter().skip(7).filter(|&&byte| byte == bracket).count();
+    if part.len() < heading_length(part) {
+        let headings = [&HEADING[..], HEADING_2];
+        return headings
+            .iter()
+            .any(|heading| accepts(rules, &[part, &heading[part.len()..]].concat()));
+    }
+    let body = &part[heading_length(part)..];
+    let count = |bracket: u8| body.iter().filter(|&&byte| byte == bracket).count();
     let closing = vec![b')'; count(b'(').saturating_sub(count(b')'))];
     let fills: [&[u8]; 3] = [b"", b"0", b"(0)"];
     fills
         .iter()
-        .any(|fill| accepts(rules, &[part, rest, fill, &closing].concat()))
+        .any(|fill| accepts(rules, &[part, fill, &closing].concat()))
 }
 
 /// "The length of the longest leading part that some accepted text begins with, length limit
@@ -185,7 +243,10 @@ fn checked_text(text: &[u8]) -> TextAnswer<()> {
     if text.len() > LONGEST {
         return Err(13.into());
     }
-    if text.len() >= 5 && text.starts_with(b"CVR") && text[3..5] != [0, 1] {
+    // "10 now means neither 1 nor 2"
+    let version = text.get(3..5).map(|two| [two[0], two[1]]);
+    let other = version.is_some_and(|version| ![[0, 1], [0, 2]].contains(&version));
+    if text.starts_with(b"CVR") && other {
         return Err(10.into());
     }
     if accepts(RULES, text) {
@@ -204,7 +265,7 @@ fn checked_text(text: &[u8]) -> TextAnswer<()> {
 pub fn whole_cells(text: &[u8]) -> Vec<Name> {
     let mut lists = Name::new();
     let mut cells = Vec::new();
-    for (at, &byte) in text.iter().enumerate().skip(HEADING.len()) {
+    for (at, &byte) in text.iter().enumerate().skip(heading_length(text)) {
         match byte {
             b'(' => (),
             b')' => {
@@ -294,19 +355,25 @@ pub fn name_of_span(span: &Span) -> Name {
 
 // ---------------------------------------------------------------- writing
 
-/// The heading of an arrangement.
-pub fn heading(n: u64, s: u64) -> Vec<u8> {
-    let mut heading = HEADING.to_vec();
+/// The heading of a profile and an arrangement.
+pub fn heading(profile: Profile, n: u64, s: u64) -> Vec<u8> {
+    let mut heading = match profile.version {
+        1 => HEADING.to_vec(),
+        _ => HEADING_2.to_vec(),
+    };
     heading[5] += n as u8;
     heading[6] += s as u8;
+    if let Some(letter) = heading.get_mut(7) {
+        *letter += profile.depth as u8;
+    }
     heading
 }
 
 /// The text whose whole cells have these names, in byte order and none the beginning of another.
 /// A name of so many bytes stands in one list less. What it shares with the name before is open
 /// already, and what that one had more has to be closed.
-pub fn text_of(n: u64, s: u64, names: &[Name]) -> Vec<u8> {
-    let mut text = heading(n, s);
+pub fn text_of(profile: Profile, n: u64, s: u64, names: &[Name]) -> Vec<u8> {
+    let mut text = heading(profile, n, s);
     let mut before: &[u8] = &[];
     for name in names {
         let same = |(one, other): &(&u8, &u8)| one == other;
@@ -322,17 +389,47 @@ pub fn text_of(n: u64, s: u64, names: &[Name]) -> Vec<u8> {
     text
 }
 
-/// The text that some codes give; refuses 5, 4, 14, 11, 13. "14 also for a list or a question of
-/// another arrangement, still before 11."
-pub fn written(n: u64, s: u64, codes: &[u64]) -> Answer<Vec<u8>> {
+/// Does a cell break the profile? At version 2 N and S stand only whole, and nothing is deeper.
+fn breaks(profile: Profile, name: &Name) -> bool {
+    let resolution = name.len() as u64 - 1;
+    let in_cap = [b'N', b'S'].contains(&name[0]);
+    profile.version == 2 && (resolution > profile.depth || in_cap && resolution > 0)
+}
+
+/// The text that some codes give; refuses 5, 2, 4, 10, 14, 11, 15, 13. The asked version and depth
+/// may be any numbers: "10 now means neither 1 nor 2, asked of the writer too", "2 also for an
+/// asked depth above 15, at version 1 too, which makes no other use of it". "14 also for a list or
+/// a question of another arrangement, still before 11"; 15 is "after 11".
+pub fn written(asked: Profile, n: u64, s: u64, codes: &[u64]) -> Answer<Vec<u8>> {
     if n > 3 || s > 3 {
         return Err(5);
     }
+    if asked.depth > FINEST {
+        return Err(2);
+    }
     let spans: Option<Vec<Span>> = codes.iter().map(|&code| span_of(code)).collect();
     let spans = spans.ok_or(4u64)?;
+    if asked.version != 1 && asked.version != 2 {
+        return Err(10);
+    }
     if codes.iter().any(|&code| arrangement_of(code) != (n, s)) {
         return Err(14);
     }
+    let ground = ground_of_list(codes, spans)?;
+    let names: Vec<Name> = fewest(&ground).iter().map(name_of_span).collect();
+    // "exactly when the fewest cells of its ground break it"
+    if names.iter().any(|name| breaks(asked, name)) {
+        return Err(15);
+    }
+    let text = text_of(asked, n, s, &names);
+    if text.len() > LONGEST {
+        return Err(13);
+    }
+    Ok(text)
+}
+
+/// The ground of a list of codes, with their finest cells; refuses 11.
+fn ground_of_list(codes: &[u64], spans: Vec<Span>) -> Answer<Ground> {
     let mut rising = codes.to_vec();
     rising.sort();
     rising.dedup();
@@ -342,15 +439,10 @@ pub fn written(n: u64, s: u64, codes: &[u64]) -> Answer<Vec<u8>> {
     // two cells have no finest cell in common, or one lies inside the other
     let sizes: u64 = spans.iter().map(|span| span.end - span.start).sum();
     let ground = ground_of(spans);
-    if sizes != ground_size(&ground) {
-        return Err(11);
+    match sizes == ground_size(&ground) {
+        true => Ok(ground),
+        false => Err(11),
     }
-    let names: Vec<Name> = fewest(&ground).iter().map(name_of_span).collect();
-    let text = text_of(n, s, &names);
-    if text.len() > LONGEST {
-        return Err(13);
-    }
-    Ok(text)
 }
 
 /// Puts an answer at the front of lent memory, and answers its length; refuses 8.
@@ -361,6 +453,14 @@ fn lend<T: Copy>(answer: &[T], lent: &mut [T]) -> Answer<u64> {
 }
 
 // ---------------------------------------------------------------- the entries
+
+/// The version of an accepted text's heading, and its greatest depth.
+pub fn profile_of_text(text: &[u8]) -> Profile {
+    match text[4] {
+        1 => FIRST,
+        _ => handheld(u64::from(text[7] - b'a')),
+    }
+}
 
 /// The n and s of an accepted text's heading.
 pub fn arrangement_of_text(text: &[u8]) -> (u64, u64) {
@@ -374,13 +474,14 @@ pub fn whole_codes(text: &[u8]) -> Vec<u64> {
     whole_cells(text).iter().map(code).collect()
 }
 
-/// The heading's n and s, the number of whole cells and the sum of their sizes; refuses 13, 10, 9.
+/// What the heading says, the number of whole cells and the sum of their sizes; refuses 13, 10, 9.
 pub fn check(text: &[u8]) -> TextAnswer<Checked> {
     checked_text(text)?;
     let cells = whole_cells(text);
     let sizes = cells.iter().map(|name| finest_cells(name.len() as u64 - 1));
     let (n, s) = arrangement_of_text(text);
     Ok(Checked {
+        profile: profile_of_text(text),
         n,
         s,
         cells: cells.len() as u64,
@@ -398,9 +499,9 @@ pub fn list(text: &[u8], lent: &mut [u64]) -> TextAnswer<u64> {
 }
 
 /// "Takes rising codes, none inside another, and gives the accepted text of the same ground", to
-/// the front of lent memory, and its length; refuses 5, 4, 14, 11, 13, 8.
-pub fn write(n: u64, s: u64, codes: &[u64], lent: &mut [u8]) -> Answer<u64> {
-    lend(&written(n, s, codes)?, lent)
+/// the front of lent memory, and its length; refuses 5, 2, 4, 10, 14, 11, 15, 13, 8.
+pub fn write(asked: Profile, n: u64, s: u64, codes: &[u64], lent: &mut [u8]) -> Answer<u64> {
+    lend(&written(asked, n, s, codes)?, lent)
 }
 
 /// "Whether all of one cell's finest cells are covered"; refuses 4, 13, 10, 9, 14.

@@ -1,7 +1,7 @@
 //! The programs `record` and `name_fixes` once more: the lines of a flight, the names of their
 //! cells, and the coverage text of the cells flown.
 
-use crate::coverage::written;
+use crate::coverage::{written, FIRST};
 use crate::ellipsoid::geodetic_code;
 use crate::grid::{cell_of, Answer};
 use crate::ground::fix_code;
@@ -85,7 +85,7 @@ pub fn named_by(input: &[u8], code: impl Fn(&[u8]) -> Answer<u64>) -> Vec<u8> {
     output
 }
 
-/// "The coverage text of the cells flown", which "skips a fix that is refused, and a line that is
+/// "The coverage text of the cells flown", of version 1, which "skips a fix that is refused, and a line that is
 /// no fix".
 pub fn recorded(n: u64, s: u64, resolution: u64, input: &[u8]) -> Flown {
     recorded_by(n, s, input, |line| line_code(n, s, resolution, line))
@@ -106,7 +106,7 @@ pub fn recorded_by(n: u64, s: u64, input: &[u8], code: impl Fn(&[u8]) -> Answer<
     let codes: Vec<u64> = cells.into_iter().collect();
     let text = match codes.len() > MOST_CELLS {
         true => Err(13),
-        false => written(n, s, &codes),
+        false => written(FIRST, n, s, &codes),
     };
     Flown { text, left_out }
 }

@@ -65,8 +65,10 @@ like! {
     Vertices, Answer<([i64; 4], [i64; 4])>, (x, y) => { x: x, y: y };
     Fix, Answer<(i64, i64)>, (longitude, z) => { longitude: longitude, z: z };
     Z, Answer<i64>, z => { z: z };
-    Check at place, TextAnswer<Checked>, of =>
-        { n: of.n, s: of.s, cells: of.cells, size: of.size };
+    Check at place, TextAnswer<Checked>, of => {
+        version: of.profile.version, depth: of.profile.depth,
+        n: of.n, s: of.s, cells: of.cells, size: of.size
+    };
     List at place, TextAnswer<u64>, count => { count: count };
     Ask at place, TextAnswer<bool>, covered => { covered: u64::from(covered) };
 }

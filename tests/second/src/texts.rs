@@ -1,8 +1,10 @@
-//! Coverage texts and lists of codes for the comparisons: good, at the grammar's borders, and
-//! damaged. How they are found is no part of 01; a bad guess here only makes a dull input.
+//! Coverage texts and lists of codes for the comparisons, for both versions and every depth: good,
+//! at the grammar's borders, and damaged. How they are found is no part of 01 or 02; a bad guess
+//! here only makes a dull input.
 
 use crate::coverage::{
-    accepts, heading, name_of_span, span_of, whole_cells, HEADING, LONGEST, RULES,
+    accepts, handheld, heading, heading_length, name_of_span, span_of, whole_cells, Profile, FIRST,
+    LONGEST, RULES,
 };
 use crate::grid::{arrangement_of, code_of, resolution_of, Name, LETTERS};
 use crate::random::{Kind, Random, GUARD};
@@ -26,13 +28,27 @@ const LISTS: [&[u8]; 8] = [
 
 /// What an entry is given: numbers, bytes and codes. Of the bytes and of the codes only what is
 /// between the guards is lent.
-#[derive(Clone, PartialEq, Eq, Default)]
+#[derive(Clone, PartialEq, Eq)]
 pub struct Given {
+    pub asked: Profile,
     pub n: u64,
     pub s: u64,
     pub code: u64,
     pub bytes: Vec<u8>,
     pub codes: Vec<u64>,
+}
+
+impl Default for Given {
+    fn default() -> Given {
+        Given {
+            asked: FIRST,
+            n: 0,
+            s: 0,
+            code: 0,
+            bytes: vec![],
+            codes: vec![],
+        }
+    }
 }
 
 /// What is between the guards.
@@ -50,9 +66,16 @@ impl fmt::Debug for Given {
     /// Long memory is cut; the seed makes it again.
     fn fmt(&self, f: &mut fmt::Formatter) -> fmt::Result {
         let Given {
-            n, s, code, bytes, ..
+            asked,
+            n,
+            s,
+            code,
+            bytes,
+            ..
         } = self;
-        write!(f, "n {n} s {s} code {code}; {} bytes", bytes.len())?;
+        let Profile { version, depth } = asked;
+        write!(f, "version {version} depth {depth} n {n} s {s} code {code}")?;
+        write!(f, "; {} bytes", bytes.len())?;
         write!(f, " \"{}\"", bytes[..bytes.len().min(600)].escape_ascii())?;
         let codes = &self.codes[..self.codes.len().min(100)];
         write!(f, "; {} codes {codes:?}", self.codes.len())
@@ -67,9 +90,26 @@ enum Style {
     Mixed,
 }
 
-/// The most bytes that the nodes of a list may have at a depth, if not above a million.
-fn most_bytes(depth: usize) -> usize {
-    (depth..15).fold(8, |most, _| (9 * (3 + most)).min(1_000_000))
+/// The most bytes that a node may have at a depth, if not above a million: its mark, two brackets
+/// and a list. At the deepest there is no list.
+fn most_of_node(depth: usize, deepest: usize) -> usize {
+    let list = |most: usize| (9 * most).min(1_000_000);
+    match depth < deepest {
+        true => (depth + 1..deepest).fold(3 + 8, |most, _| 3 + list(most)),
+        false => 0,
+    }
+}
+
+/// The most bytes that a text may have, if not above a million.
+fn most_bytes(profile: Profile) -> usize {
+    let (faces, caps) = if profile.version == 1 { (6, 0) } else { (4, 2) };
+    let face = most_of_node(0, profile.depth as usize).max(1);
+    heading(profile, 0, 0).len() + faces * face + caps
+}
+
+/// May so many parts, of 0, 1 or 4 to `most` bytes each, have so many bytes together?
+fn parts_fit(parts: usize, most: usize, length: usize) -> bool {
+    length <= parts || (4..=parts * most).contains(&length)
 }
 
 /// The codes of names in an arrangement; of numbers above 3 what is over a multiple of 4 counts,
@@ -89,9 +129,7 @@ impl Random {
     /// So many parts that add up to a length: each is 0 (no node), 1 (a whole one), or from 4 to
     /// `most` (a digit, two brackets and what is in them).
     fn parts(&mut self, style: Style, parts: usize, most: usize, length: usize) -> Vec<usize> {
-        let fits = |parts: usize, length: usize| {
-            length <= parts || parts > 0 && (4..=parts * most).contains(&length)
-        };
+        let fits = |parts: usize, length: usize| parts_fit(parts, most, length);
         assert!(fits(parts, length), "no {parts} parts make {length}");
         let mut all = Vec::new();
         let mut rest = length;
@@ -117,62 +155,148 @@ impl Random {
         all
     }
 
-    /// Faces (at depth 0) or a list's nodes of exactly so many bytes.
-    fn nodes(&mut self, style: Style, depth: usize, length: usize, text: &mut Vec<u8>) {
-        let marks: &[u8] = if depth == 0 { &LETTERS } else { b"012345678" };
-        let most = match depth {
-            15 => 0,
-            _ => 3 + most_bytes(depth + 1),
-        };
-        let mut parts = self.parts(style, marks.len(), most, length);
-        if depth > 0 && parts.iter().all(|&part| part == 1) {
-            parts = vec![0; 9];
-            parts[self.below(9) as usize] = 9;
-        }
-        for (&mark, part) in marks.iter().zip(parts) {
+    /// Faces or nodes with these marks, at a depth, in parts of these bytes.
+    fn marked(
+        &mut self,
+        style: Style,
+        depth: usize,
+        deepest: usize,
+        parts: &[(u8, usize)],
+        text: &mut Vec<u8>,
+    ) {
+        for &(mark, part) in parts {
             if part > 0 {
                 text.push(mark);
             }
             if part > 1 {
                 text.push(b'(');
-                self.nodes(style, depth + 1, part - 3, text);
+                self.nodes(style, depth + 1, deepest, part - 3, text);
                 text.push(b')');
             }
         }
     }
 
-    /// A good text of exactly so many bytes.
-    pub fn text_of_length(&mut self, length: usize) -> Vec<u8> {
+    /// A list's nodes of exactly so many bytes.
+    fn nodes(
+        &mut self,
+        style: Style,
+        depth: usize,
+        deepest: usize,
+        length: usize,
+        text: &mut Vec<u8>,
+    ) {
+        let mut parts = self.parts(style, 9, most_of_node(depth, deepest), length);
+        if parts.iter().all(|&part| part == 1) {
+            parts = vec![0; 9];
+            parts[self.below(9) as usize] = 9;
+        }
+        let marked: Vec<(u8, usize)> = (b'0'..).zip(parts).collect();
+        self.marked(style, depth, deepest, &marked, text);
+    }
+
+    /// Faces of exactly so many bytes. At version 2 the caps are whole, or not there.
+    fn faces(&mut self, style: Style, profile: Profile, length: usize, text: &mut Vec<u8>) {
+        let deepest = profile.depth as usize;
+        let most = most_of_node(0, deepest);
+        let marked: Vec<(u8, usize)> = match profile.version {
+            1 => {
+                let parts = self.parts(style, 6, most, length);
+                LETTERS.into_iter().zip(parts).collect()
+            }
+            _ => {
+                let fits = |caps: &usize| *caps <= length && parts_fit(4, most, length - caps);
+                let caps: Vec<usize> = (0..3).filter(fits).collect();
+                let caps = self.pick(&caps);
+                let north = match caps {
+                    1 => self.below(2) as usize,
+                    _ => caps / 2,
+                };
+                let parts = self.parts(style, 4, most, length - caps);
+                let belt = (b'O'..=b'R').zip(parts);
+                let (north, south) = ([(b'N', north)], [(b'S', caps - north)]);
+                north.into_iter().chain(belt).chain(south).collect()
+            }
+        };
+        self.marked(style, 0, deepest, &marked, text);
+    }
+
+    /// A good text of a profile, of exactly so many bytes.
+    pub fn text_of_length(&mut self, profile: Profile, length: usize) -> Vec<u8> {
         let style = self.pick(&[Style::Deep, Style::Broad, Style::Mixed, Style::Mixed]);
-        let mut text = heading(self.below(4), self.below(4));
-        self.nodes(style, 0, length - HEADING.len(), &mut text);
+        let mut text = heading(profile, self.below(4), self.below(4));
+        self.faces(style, profile, length - text.len(), &mut text);
         assert!(accepts(RULES, &text) && text.len() == length);
         text
     }
 
-    /// A good text, most often short.
-    fn good_text(&mut self) -> Vec<u8> {
+    /// A good text of a profile, most often short.
+    pub fn good_text(&mut self, profile: Profile) -> Vec<u8> {
         let most = self.pick(&[3, 10, 30, 60, 60, 120, 120, 500]);
-        let length = 7 + self.below(most) as usize;
-        self.text_of_length(length)
+        let least = heading(profile, 0, 0).len();
+        let length = (least + self.below(most) as usize).min(most_bytes(profile));
+        self.text_of_length(profile, length)
     }
 
-    /// A good text of one chain of lists down to a depth, not closed.
-    fn chain(&mut self, depth: usize) -> Vec<u8> {
-        let mut text = heading(self.below(4), self.below(4));
-        text.push(self.pick(&LETTERS));
+    /// Version 1, or version 2 with any depth: two of them in three.
+    pub fn profile(&mut self) -> Profile {
+        match self.below(3) {
+            0 => FIRST,
+            _ => handheld(self.below(16)),
+        }
+    }
+
+    /// One with texts as long as a text may be, and longer.
+    pub fn long_profile(&mut self) -> Profile {
+        loop {
+            let profile = self.profile();
+            if most_bytes(profile) > LONGEST + 5000 {
+                return profile;
+            }
+        }
+    }
+
+    /// What the writer is asked: a profile, and at version 1 any depth, which is not used. A bad
+    /// one is of a version that there is not, or has a depth above 15, or both.
+    pub fn asked_profile(&mut self, kind: Kind) -> Profile {
+        let mut asked = self.profile();
+        if asked.version == 1 {
+            asked.depth = self.below(16);
+        }
+        if kind == Kind::Bad && self.chance(8) {
+            let wide = 1u64 << self.pick(&[8, 16, 31, 32, 63]);
+            asked.version = self.pick(&[0, 3, 4, 10, 255, wide, wide + 1, wide + 2, u64::MAX]);
+        }
+        if kind == Kind::Bad && self.chance(8) {
+            asked.depth = self.past(16);
+        }
+        asked
+    }
+
+    /// A text of one chain of lists down to a depth, not closed.
+    fn chain(&mut self, profile: Profile, depth: usize) -> Vec<u8> {
+        let mut text = heading(profile, self.below(4), self.below(4));
+        text.push(match self.chance(2) {
+            true => self.pick(b"OPQR"),
+            false => self.pick(&LETTERS),
+        });
         for _ in 0..depth {
             text.extend([b'(', self.pick(b"0123456788")]);
         }
         text
     }
 
-    /// Any bytes of the grammar after a chain: near the deepest, or after eight whole nodes.
-    fn tail_text(&mut self) -> Vec<u8> {
-        let depth = self.pick(&[0, 0, 1, 2, 13, 14, 14, 15, 15]);
-        let mut text = self.chain(depth);
+    /// Any bytes of the grammar after a chain: near the deepest, or after eight whole nodes. One
+    /// in twenty lies one deeper than it may.
+    fn tail_text(&mut self, profile: Profile) -> Vec<u8> {
+        let deepest = profile.depth as usize;
+        let depth = match self.below(20) {
+            0 => deepest + 1,
+            1..=9 => self.below(3) as usize,
+            _ => deepest.saturating_sub(self.pick(&[0, 0, 0, 1, 1, 2])),
+        };
+        let mut text = self.chain(profile, depth);
         match self.below(4) {
-            0 if depth < 15 => text.extend_from_slice(b"(01234567"),
+            0 if depth < deepest => text.extend_from_slice(b"(01234567"),
             1 if depth > 0 => {
                 text.pop();
                 text.extend_from_slice(b"01234567");
@@ -199,22 +323,35 @@ impl Random {
         }
     }
 
-    /// A text whose heading is cut, alone, or has a byte that is not good there.
-    fn heading_text(&mut self) -> Vec<u8> {
+    /// A text whose heading is cut, alone, or has a byte that is not good there; or the version or
+    /// the letter of another heading.
+    fn heading_text(&mut self, profile: Profile) -> Vec<u8> {
         let mut text = match self.below(3) {
-            0 => heading(self.below(4), self.below(4)),
-            _ => self.good_text(),
+            0 => heading(profile, self.below(4), self.below(4)),
+            _ => self.good_text(profile),
         };
-        match self.below(4) {
-            0 => text.truncate(self.below(9) as usize),
+        match self.below(6) {
+            0 => text.truncate(self.below(10) as usize),
             1 => {
-                text[self.below(7) as usize] = self.pick(b"CVR\0\x01\x02\xFF0123456/:cv\x80");
-                text.truncate(self.pick(&[3, 4, 5, 6, 7, 8, 1000]));
+                let at = self.below(heading_length(&text) as u64) as usize;
+                text[at] = self.pick(b"CVR\0\x01\x02\x03\xFF0123456/:cv`aopqAP\x80");
+                text.truncate(self.pick(&[3, 4, 5, 6, 7, 8, 9, 1000]));
             }
             2 => {
-                let version = [self.pick(&[0, 1, 255]), self.pick(&[0, 1, 2, 129, 255])];
+                let version = [
+                    self.pick(&[0, 0, 1, 255]),
+                    self.pick(&[0, 1, 2, 3, 129, 255]),
+                ];
                 text[3..5].copy_from_slice(&version);
-                text.truncate(self.pick(&[4, 5, 6, 1000]));
+                text.truncate(self.pick(&[4, 5, 6, 7, 8, 1000]));
+            }
+            3 => text[4] = 3 - text[4], // the other version: a letter too many, or one too few
+            4 => {
+                let letter = self.pick(b"`qAPa\0\xE1(0NOS");
+                text.splice(
+                    7..7 + self.below(2).min(text.len() as u64 - 7) as usize,
+                    [letter],
+                );
             }
             _ => {
                 let arrangement = [self.pick(b"03/4\0\xB0"), self.pick(b"03/4\x03\xB3")];
@@ -225,8 +362,8 @@ impl Random {
     }
 
     /// Bytes of the grammar in any order, after a heading.
-    fn jumble(&mut self) -> Vec<u8> {
-        let mut text = heading(self.below(4), self.below(4));
+    fn jumble(&mut self, profile: Profile) -> Vec<u8> {
+        let mut text = heading(profile, self.below(4), self.below(4));
         for _ in 0..self.below(12) {
             text.push(self.pick(GRAMMAR));
         }
@@ -247,7 +384,7 @@ impl Random {
     fn place_in(&mut self, text: &[u8]) -> usize {
         let from = match self.below(3) {
             0 => 0,
-            _ => 7.min(text.len()),
+            _ => heading_length(text).min(text.len()),
         };
         from + self.below((text.len() - from) as u64 + 1) as usize
     }
@@ -281,14 +418,15 @@ impl Random {
         }
     }
 
-    /// A text.
+    /// A text of either version, with any depth.
     pub fn text(&mut self, kind: Kind) -> Vec<u8> {
+        let profile = self.profile();
         match kind {
-            Kind::Random => self.good_text(),
+            Kind::Random => self.good_text(profile),
             Kind::Border => match self.below(6) {
-                0 => self.heading_text(),
-                1 => self.jumble(),
-                _ => self.tail_text(),
+                0 => self.heading_text(profile),
+                1 => self.jumble(profile),
+                _ => self.tail_text(profile),
             },
             Kind::Bad => {
                 let from = self.pick(&[Kind::Random, Kind::Random, Kind::Border]);
@@ -308,17 +446,18 @@ impl Random {
             false => [0, 0, -1, -100],
         };
         let length = LONGEST as i64 + self.pick(&lengths);
-        let mut text = self.text_of_length(length as usize);
+        let profile = self.long_profile();
+        let mut text = self.text_of_length(profile, length as usize);
         if self.chance(2) {
             let at = self.place_in(&text).min(text.len() - 1);
             text[at] = self.odd_byte();
         } else if self.chance(4) {
             // cut at the length limit, or one byte from it
-            text = self.text_of_length(70_000);
+            text = self.text_of_length(profile, 70_000);
             text.truncate(length as usize);
         }
         if longer && self.chance(8) {
-            text.splice(3..5, [0, 2]);
+            text.splice(3..5, [0, 3]);
         }
         text
     }
@@ -410,29 +549,78 @@ impl Random {
         split
     }
 
-    /// The names of a good list of codes: the whole cells of a text, some of them split; at a
-    /// border, with one left out, or a whole family of some generations.
-    fn good_names(&mut self, kind: Kind) -> Vec<Name> {
-        if kind == Kind::Border && self.chance(40) {
-            // all cells of a resolution in a cell
-            let mut names = vec![self.name(Kind::Border)];
-            for _ in 0..(16 - names[0].len() as u64).min(self.below(4)) {
-                names = names.iter().flat_map(children).collect();
-            }
-            return self.without_one(names);
+    /// All cells of a resolution in a cell, whose own resolution is about a depth.
+    fn family(&mut self, depth: u64) -> Vec<Name> {
+        let mut name = self.name(Kind::Border);
+        let length = match self.below(4) {
+            0 => 1,
+            1 => (depth + self.below(3)) as usize,
+            _ => depth as usize + 1,
+        };
+        name.resize(length.clamp(1, 16), b'4');
+        let mut names = vec![name];
+        for _ in 0..(16 - names[0].len() as u64).min(self.below(4)) {
+            names = names.iter().flat_map(children).collect();
         }
+        self.without_one(names)
+    }
+
+    /// The names with one of the deepest cells, or a cap, replaced by some of its children: one
+    /// digit deeper, or a divided cap, unless all nine are there.
+    fn divided(&mut self, names: Vec<Name>) -> Vec<Name> {
+        let deepest = names.iter().map(Vec::len).max().unwrap_or(0);
+        let cap = |name: &Name| name == b"N" || name == b"S";
+        let may = |name: &&Name| name.len() < 16 && (name.len() == deepest || cap(name));
+        let from: Vec<Name> = names.iter().filter(may).cloned().collect();
+        if from.is_empty() {
+            return names;
+        }
+        let nth = self.below(from.len() as u64) as usize;
+        let (first, end) = (self.below(9), 1 + self.pick(&[1, 5, 8, 9, 9]));
+        let mut divided = Vec::new();
+        for name in names {
+            match name == from[nth] {
+                true => divided.extend(
+                    (0..)
+                        .zip(children(&name))
+                        .filter(|(digit, _)| (first..end).contains(digit))
+                        .map(|(_, child)| child),
+                ),
+                false => divided.push(name),
+            }
+        }
+        divided
+    }
+
+    /// The names of a good list of codes, to be written in a profile: the whole cells of a text,
+    /// most often of that profile, some of them split, so that they lie deeper, or divide a cap,
+    /// and merge again; at a border, with one left out, or one divided, or a whole family of some
+    /// generations.
+    fn good_names(&mut self, kind: Kind, asked: Profile) -> Vec<Name> {
+        let of = match asked {
+            Profile { version: 1, .. } => FIRST,
+            Profile { depth, .. } => handheld(depth.min(15)),
+        };
+        if kind == Kind::Border && self.chance(40) {
+            return self.family(of.depth);
+        }
+        let profile = if self.chance(10) { self.profile() } else { of };
         let text = match kind {
             Kind::Border => {
-                let text = self.tail_text();
+                let text = self.tail_text(profile);
                 match accepts(RULES, &text) {
                     true => text,
-                    false => heading(0, 0),
+                    false => self.good_text(profile),
                 }
             }
-            _ => self.good_text(),
+            _ => self.good_text(profile),
         };
         let split = self.pick(&[2, 5, 20, 1000]);
-        let names = self.split(whole_cells(&text), split);
+        let mut names = whole_cells(&text);
+        if kind == Kind::Border && self.chance(3) {
+            names = self.divided(names);
+        }
+        let names = self.split(names, split);
         match kind {
             Kind::Border => self.without_one(names),
             _ => names,
@@ -447,15 +635,15 @@ impl Random {
         names
     }
 
-    /// A list of codes of an arrangement; a bad one has a code that is no cell's, one twice, two
-    /// exchanged, one inside another, or the wrong order, or codes of two arrangements, or it is
-    /// of another arrangement all together.
-    pub fn codes(&mut self, kind: Kind, n: u64, s: u64) -> Vec<u64> {
+    /// A list of codes of an arrangement, to be written in a profile; a bad one has a code that is
+    /// no cell's, one twice, two exchanged, one inside another, or the wrong order, or codes of two
+    /// arrangements, or it is of another arrangement all together.
+    pub fn codes(&mut self, kind: Kind, asked: Profile, n: u64, s: u64) -> Vec<u64> {
         let from = match kind {
             Kind::Bad => Kind::Random,
             _ => kind,
         };
-        let names = self.good_names(from);
+        let names = self.good_names(from, asked);
         let mut codes = codes_of(n, s, &names);
         if kind == Kind::Bad {
             for _ in 0..self.pick(&[0, 1, 1, 1, 2, 3]) {
@@ -525,13 +713,13 @@ impl Random {
 
     /// A list whose text is about as long as a text may be: not longer, or longer. Some of the
     /// cells are split, so that the text gets shorter by merging.
-    pub fn long_codes(&mut self, longer: bool, n: u64, s: u64) -> Vec<u64> {
+    pub fn long_codes(&mut self, longer: bool, profile: Profile, n: u64, s: u64) -> Vec<u64> {
         let lengths = match longer {
             true => [1, 1, 2, 5000],
             false => [0, 0, -1, -100],
         };
         let length = LONGEST as i64 + self.pick(&lengths);
-        let text = self.text_of_length(length as usize);
+        let text = self.text_of_length(profile, length as usize);
         let split = self.pick(&[50, 1000, 1_000_000]);
         let names = self.split(whole_cells(&text), split);
         codes_of(n, s, &names)

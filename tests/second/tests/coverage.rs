@@ -1,5 +1,6 @@
-//! The proved coverage entries against the second program: each on more than a hundred thousand
-//! texts or lists, all short texts, and the values that 01 prints.
+//! The proved coverage entries against the second program: each on more than a million texts or
+//! lists of both versions and every depth, all short texts, damaged headings, and the values that
+//! 01 and 02 print.
 
 #[cfg(not(proved))]
 #[test]
@@ -12,22 +13,24 @@ fn the_proved_library_is_linked() {
 mod entries {
     use jeguarivo::Length;
     use second::compare::{About, Refusing, Tally};
-    use second::coverage::{self, accepts, arrangement_of_text, whole_cells, written, RULES};
+    use second::coverage::{self, accepts, arrangement_of_text, profile_of_text, whole_cells};
+    use second::coverage::{written, Profile, FIRST, RULES};
     use second::grid::{resolution_of, Answer};
     use second::proved::{coverage as proved, Like};
     use second::random::{Kind, Random, KINDS};
     use second::texts::{lent, lent_mut, Given};
 
-    const INPUTS: u64 = 120_000;
+    const INPUTS: u64 = 1_050_000;
 
-    /// The least number of times that each refusal, arrangement and resolution has to be met.
+    /// The least number of times that each refusal, arrangement, resolution and profile has to be
+    /// met.
     const LEAST: u64 = 100;
 
     /// Is this input a long one: past the length limit, or at it?
     fn long(nth: u64) -> Option<bool> {
-        match nth % 800 {
+        match nth % 7000 {
             0 => Some(true),
-            400 => Some(false),
+            3500 => Some(false),
             _ => None,
         }
     }
@@ -67,7 +70,7 @@ mod entries {
         tally.finish(entry, refusals);
     }
 
-    /// The arrangement and the deepest cell of a text, if it is accepted.
+    /// The arrangement, the deepest cell and the profile of a text, if it is accepted.
     fn about_text(given: &Given) -> About {
         let text = lent(&given.bytes);
         let accepted = accepts(RULES, text);
@@ -76,6 +79,15 @@ mod entries {
         About {
             arrangement: accepted.then(|| arrangement_of_text(text)),
             resolution: deepest.unwrap_or(0),
+            profile: accepted.then(|| profile_of_text(text)),
+        }
+    }
+
+    /// What a text is to be: at version 1 the asked depth makes no difference.
+    fn profile_of(asked: Profile) -> Profile {
+        match asked.version {
+            1 => FIRST,
+            _ => asked,
         }
     }
 
@@ -131,17 +143,22 @@ mod entries {
     fn write() {
         compare(
             "jgv_coverage_write",
-            &[5, 4, 14, 11, 13, 8],
+            &[5, 2, 4, 10, 14, 11, 15, 13, 8],
             |random, kind, nth| {
                 let (n, s) = random.arrangement(kind);
+                let mut asked = random.asked_profile(kind);
                 let codes = match long(nth) {
-                    Some(longer) => random.long_codes(longer, n, s),
-                    None => random.codes(kind, n, s),
+                    Some(longer) => {
+                        asked = random.long_profile();
+                        random.long_codes(longer, asked, n, s)
+                    }
+                    None => random.codes(kind, asked, n, s),
                 };
-                let length = written(n, s, &codes).map_or(20, |text| text.len());
+                let length = written(asked, n, s, &codes).map_or(20, |text| text.len());
                 let room = random.room(length);
                 let bytes: Vec<u8> = (0..room).map(|_| random.any() as u8).collect();
                 Given {
+                    asked,
                     n,
                     s,
                     code: 0,
@@ -151,16 +168,22 @@ mod entries {
             },
             |given| {
                 let resolutions = lent(&given.codes).iter().map(|&code| resolution_of(code));
-                About::arranged(given.n, given.s, resolutions.max().unwrap_or(0))
+                let deepest = resolutions.max().unwrap_or(0);
+                About {
+                    profile: Some(profile_of(given.asked)),
+                    ..About::arranged(given.n, given.s, deepest)
+                }
             },
             |given| {
                 let (codes, bytes) = (lent(&given.codes), lent_mut(&mut given.bytes));
-                let answer: Answer<u64> = coverage::write(given.n, given.s, codes, bytes);
+                let answer: Answer<u64> =
+                    coverage::write(given.asked, given.n, given.s, codes, bytes);
                 Length::like(answer)
             },
             |given| {
                 let (codes, bytes) = (lent(&given.codes), lent_mut(&mut given.bytes));
-                proved::write(given.n, given.s, codes, bytes)
+                let Profile { version, depth } = given.asked;
+                proved::write(version, depth, given.n, given.s, codes, bytes)
             },
         );
     }
@@ -178,7 +201,10 @@ mod entries {
                     ..Given::default()
                 }
             },
-            |given| About::code(given.code),
+            |given| About {
+                profile: about_text(given).profile,
+                ..About::code(given.code)
+            },
             |given| Like::like(coverage::ask(lent(&given.bytes), given.code)),
             |given| proved::ask(lent(&given.bytes), given.code),
         );
@@ -190,13 +216,19 @@ mod entries {
 mod all_short_texts {
     use jeguarivo::{Check, List};
     use second::compare::say;
-    use second::coverage::{self, HEADING};
+    use second::coverage::{self, handheld, heading, Profile, FIRST};
     use second::proved::{coverage as proved, Like};
 
     /// Compares each text, and each with so many closing brackets behind it.
-    fn same_after(beginning: &[u8], alphabet: &[u8], length: usize, closing: usize) -> [u64; 2] {
+    fn same_after(
+        profile: Profile,
+        beginning: &[u8],
+        alphabet: &[u8],
+        length: usize,
+        closing: usize,
+    ) -> [u64; 2] {
         let mut counts = [0, 0];
-        let mut level = vec![[HEADING, beginning].concat()];
+        let mut level = vec![[&heading(profile, 0, 0)[..], beginning].concat()];
         for longer in 0..=length {
             for text in &level {
                 same(text, &mut counts);
@@ -228,13 +260,25 @@ mod all_short_texts {
 
     #[test]
     fn after_a_heading() {
-        let counts = same_after(b"", b"NOS018()", 6, 0);
+        let counts = same_after(FIRST, b"", b"NOS018()", 6, 0);
         say(&format!("all short bodies (all, accepted): {counts:?}"));
+    }
+
+    /// W-208: every short body at depths 0 to 3, and at 15.
+    #[test]
+    fn after_a_heading_for_handhelds() {
+        for depth in [0, 1, 2, 3, 15] {
+            let counts = same_after(handheld(depth), b"", b"NOS018()", 6, 0);
+            let more = same_after(handheld(depth), b"", b"O08()", 8, 0);
+            say(&format!(
+                "all short bodies at depth {depth}: {counts:?}, of five bytes {more:?}"
+            ));
+        }
     }
 
     #[test]
     fn after_a_heading_up_to_eight_bytes() {
-        let counts = same_after(b"", b"O08()", 8, 0);
+        let counts = same_after(FIRST, b"", b"O08()", 8, 0);
         say(&format!(
             "all bodies of five bytes (all, accepted): {counts:?}"
         ));
@@ -242,24 +286,43 @@ mod all_short_texts {
 
     #[test]
     fn after_eight_whole_nodes_and_near_the_deepest() {
-        let mut counts = Vec::new();
+        let mut counts = [0, 0];
         for depth in [0, 1, 13, 14, 15] {
-            let chain = [&b"P"[..], &b"(3".repeat(depth)].concat();
-            counts.push(same_after(&chain, b"048()S", 4, depth));
-            if depth < 15 {
-                let eight = [&chain[..], b"(01234567"].concat();
-                counts.push(same_after(&eight, b"08()S", 5, depth + 1));
+            same_tails(FIRST, depth, &mut counts);
+        }
+        for deepest in 0..=15 {
+            let least = if deepest > 3 { deepest - 1 } else { 0 };
+            for depth in least..=deepest {
+                same_tails(handheld(deepest), depth as usize, &mut counts);
             }
         }
         say(&format!("all short tails (all, accepted): {counts:?}"));
     }
 
+    fn same_tails(profile: Profile, depth: usize, counts: &mut [u64; 2]) {
+        let chain = [&b"P"[..], &b"(3".repeat(depth)].concat();
+        let mut all = vec![same_after(profile, &chain, b"048()S", 4, depth)];
+        if depth < profile.depth as usize {
+            let eight = [&chain[..], b"(01234567"].concat();
+            all.push(same_after(profile, &eight, b"08()S", 5, depth + 1));
+        }
+        for more in all {
+            counts[0] += more[0];
+            counts[1] += more[1];
+        }
+    }
+
     /// Each byte of a heading and of a short text as any byte, and each length of it.
     #[test]
     fn one_byte_of_a_text_as_any_byte() {
-        let text = b"CVR\0\x0123N(1(08)4)PR(8)";
-        for length in 0..=text.len() {
-            for at in 0..length {
+        let texts: [&[u8]; 4] = [
+            b"CVR\0\x0123N(1(08)4)PR(8)",
+            b"CVR\0\x0223cNP(1(08)4)R(8)S",
+            b"CVR\0\x0200a",
+            b"CVR\0\x0231pO(012345678(0))S",
+        ];
+        for text in texts {
+            for (length, at) in (1..=text.len()).flat_map(|end| (0..end).map(move |at| (end, at))) {
                 for byte in 0..=255 {
                     let mut text = text[..length].to_vec();
                     text[at] = byte;
@@ -269,25 +332,65 @@ mod all_short_texts {
             }
         }
     }
+
+    /// Two bytes of a heading as any two: the version with each other, with n, with the letter, and
+    /// s with the letter.
+    #[test]
+    fn two_bytes_of_a_heading_as_any_two() {
+        let texts: [&[u8]; 4] = [
+            b"CVR\0\x0100OP",
+            b"CVR\0\x0200bO(3)",
+            b"CVR\0\x0200",
+            b"CVR\0\x01",
+        ];
+        let pairs = [(3, 4), (4, 5), (4, 7), (6, 7), (2, 4)];
+        let mut counts = [0, 0];
+        for (text, (one, other)) in texts.into_iter().flat_map(|t| pairs.map(|p| (t, p))) {
+            let mut text = text.to_vec();
+            for bytes in 0..=u16::MAX {
+                for (at, byte) in [one, other].into_iter().zip(bytes.to_be_bytes()) {
+                    if let Some(place) = text.get_mut(at) {
+                        *place = byte;
+                    }
+                }
+                same(&text, &mut counts);
+            }
+        }
+        say(&format!(
+            "two bytes of a heading (all, accepted): {counts:?}"
+        ));
+    }
 }
 
-/// The values that 01 and the readings print, from both programs.
+/// The values that 01, 02 and the readings print, from both programs.
 #[cfg(proved)]
 mod printed {
     use jeguarivo::{Ask, Check, Length, List};
-    use second::coverage::{self, heading, HEADING, LONGEST};
+    use second::coverage::{self, handheld, heading, Profile, FIRST, HEADING, LONGEST};
     use second::grid::{arrangements, code_of, finest_cells};
     use second::proved::{coverage as proved, Like};
 
     /// Both programs check a text of the arrangement (0, 0) to this refusal, place, number of cells
-    /// and sum of sizes.
+    /// and sum of sizes; it is of version 1.
     fn is(text: &[u8], refusal: u64, place: u64, cells: u64, size: u64) {
+        is_in(FIRST, text, refusal, place, cells, size);
+    }
+
+    /// The same with a profile.
+    fn is_in(profile: Profile, text: &[u8], refusal: u64, place: u64, cells: u64, size: u64) {
+        let (version, depth) = match refusal {
+            0 => (profile.version, profile.depth),
+            _ => (0, 0),
+        };
         let wanted = Check {
             refusal,
             place,
+            version,
+            depth,
+            n: 0,
+            s: 0,
             cells,
             size,
-            ..Check::default()
         };
         assert_eq!(Check::like(coverage::check(text)), wanted);
         assert_eq!(proved::check(text), wanted, "{}", text.escape_ascii());
@@ -305,14 +408,24 @@ mod printed {
 
     /// Both programs write these cells as this body.
     fn writes(names: &[&str], wanted: &[u8]) {
+        writes_in(FIRST, names, Ok(wanted));
+    }
+
+    /// The same in a profile; or both refuse.
+    fn writes_in(asked: Profile, names: &[&str], wanted: Result<&[u8], u64>) {
         let codes = codes(names);
-        let wanted = body(wanted);
-        assert_eq!(coverage::written(0, 0, &codes).as_ref(), Ok(&wanted));
-        let mut lent = vec![0xEE; wanted.len() + 1];
-        let length = wanted.len() as u64;
-        let answer = proved::write(0, 0, &codes, &mut lent);
-        assert_eq!(answer, Length { refusal: 0, length });
-        assert_eq!(lent, [&wanted[..], &[0xEE]].concat());
+        let wanted = wanted.map(|body| [&heading(asked, 0, 0)[..], body].concat());
+        assert_eq!(
+            coverage::written(asked, 0, 0, &codes),
+            wanted,
+            "{asked:?} {names:?}"
+        );
+        let text = wanted.clone().unwrap_or_default();
+        let mut lent = vec![0xEE; text.len() + 1];
+        let answer = proved::write(asked.version, asked.depth, 0, 0, &codes, &mut lent);
+        let length = wanted.map(|text| text.len() as u64);
+        assert_eq!(answer, Length::like(length), "{asked:?} {names:?}");
+        assert_eq!(lent, [&text[..], &[0xEE]].concat());
     }
 
     /// Both programs list these whole cells of a body, rising.
@@ -389,6 +502,130 @@ mod printed {
         is(b"CVR\0\x0100", 0, 0, 0, 0);
     }
 
+    /// W-208: the place is over both versions, and 10 is neither.
+    #[test]
+    fn headings_of_version_2() {
+        is(b"CVR\0\x02", 9, 5, 0, 0);
+        is(b"CVR\0\x020", 9, 6, 0, 0);
+        is(b"CVR\0\x0240", 9, 5, 0, 0);
+        is(b"CVR\0\x0200", 9, 7, 0, 0);
+        for letter in 0..=255 {
+            let text = [&b"CVR\0\x0200"[..], &[letter], b"N"].concat();
+            let depth = u64::from(letter).wrapping_sub(u64::from(b'a'));
+            match depth {
+                0..=15 => is_in(handheld(depth), &text, 0, 0, 1, 9u64.pow(15)),
+                _ => is(&text, 9, 7, 0, 0),
+            }
+        }
+        is(b"CVR\0\x0100aN", 9, 7, 0, 0);
+        is(b"CVR\0\x03", 10, 0, 0, 0);
+        is(b"CVR\0\0", 10, 0, 0, 0);
+        is(b"CVR\x01\x02", 10, 0, 0, 0);
+        is(b"CVR\x02\0", 10, 0, 0, 0);
+    }
+
+    /// W-208: caps whole, nothing deeper, at every depth.
+    #[test]
+    fn texts_for_handhelds() {
+        for depth in 0..=15 {
+            let text = |body: &[u8]| [&heading(handheld(depth), 0, 0)[..], body].concat();
+            let is = |body: &[u8], refusal: u64, place: u64, cells: u64, size: u64| {
+                is_in(handheld(depth), &text(body), refusal, place, cells, size)
+            };
+            is(b"", 0, 0, 0, 0);
+            is(b"NOPQRS", 0, 0, 6, 6 * 9u64.pow(15));
+            is(b"N(0)", 9, 9, 0, 0);
+            is(b"NS(8)", 9, 10, 0, 0);
+            let chain =
+                |depth: usize| [b"P", &b"(3".repeat(depth)[..], &b")".repeat(depth)].concat();
+            is(&chain(depth as usize), 0, 0, 1, 9u64.pow(15 - depth as u32));
+            is(&chain(depth as usize + 1), 9, 9 + 2 * depth, 0, 0);
+        }
+        let text = |depth: u64, body: &[u8]| [&heading(handheld(depth), 0, 0)[..], body].concat();
+        is(&text(1, b"O(012345678"), 9, 18, 0, 0);
+        is(&text(2, b"O(012345678"), 9, 19, 0, 0);
+        is_in(
+            handheld(2),
+            &text(2, b"P(34(1))"),
+            0,
+            0,
+            2,
+            25_418_658_283_290,
+        );
+    }
+
+    /// W-208: "so N0 to N8 pass as N"; a divided cap; one digit too deep; and at version 1 no depth
+    /// makes a difference.
+    #[test]
+    fn outside_the_profile() {
+        let nine = |name: &str| (0..9).map(|d| format!("{name}{d}")).collect::<Vec<_>>();
+        let writes = |depth: u64, names: &[String], wanted: Result<&[u8], u64>| {
+            let names: Vec<&str> = names.iter().map(String::as_str).collect();
+            writes_in(handheld(depth), &names, wanted);
+        };
+        for depth in 0..=15 {
+            for (cap, body) in [("N", &b"N"[..]), ("S", b"S")] {
+                writes(depth, &nine(cap), Ok(body));
+                writes(depth, &nine(cap)[1..], Err(15));
+                writes(depth, &nine(cap)[..8], Err(15));
+                let all: Vec<String> = nine(cap).iter().flat_map(|name| nine(name)).collect();
+                writes(depth, &all, Ok(body));
+                writes(depth, &all[1..], Err(15));
+            }
+            writes(depth, &[], Ok(b""));
+            let deep = |depth: usize| format!("P{}", "0".repeat(depth));
+            let chain = [
+                b"P",
+                &b"(0".repeat(depth as usize)[..],
+                &b")".repeat(depth as usize),
+            ]
+            .concat();
+            writes(depth, &[deep(depth as usize)], Ok(&chain));
+            if depth < 15 {
+                writes(depth, &[deep(depth as usize + 1)], Err(15));
+                writes(depth, &nine(&deep(depth as usize)), Ok(&chain));
+                writes(depth, &nine(&deep(depth as usize))[..8], Err(15));
+            }
+            let first = Profile { version: 1, depth };
+            writes_in(first, &["N4", "P41"], Ok(b"N(4)P(4(1))"));
+        }
+    }
+
+    /// W-208: 5, 2, 4, 10, 14, 11, 15, 13, 8, with two or more of them in each call.
+    #[test]
+    fn what_the_writer_is_asked() {
+        let (good, other) = (codes(&["N4", "P41"]), code_of(1, 0, b"N4"));
+        let wide = 1u64 << 32;
+        for version in [0, 1, 2, 3, 256, 257, 258, wide + 1, wide + 2, u64::MAX] {
+            for depth in [0, 1, 2, 15, 16, 17, 256, 257, wide, wide + 2, u64::MAX] {
+                let lists = [
+                    vec![],
+                    good.clone(),
+                    vec![good[1], good[0]],
+                    vec![other, good[0]],
+                    vec![good[1], good[0], u64::MAX],
+                    vec![good[1]],
+                ];
+                for (list, room) in lists
+                    .iter()
+                    .flat_map(|list| [0, 7, 8, 40].map(|room| (list, room)))
+                {
+                    for (n, s) in [(0, 0), (1, 0), (0, 4)] {
+                        let (mut lent, mut wanted) = ([9; 40], [9; 40]);
+                        let asked = Profile { version, depth };
+                        let answer = proved::write(version, depth, n, s, list, &mut lent[..room]);
+                        let by_second = coverage::write(asked, n, s, list, &mut wanted[..room]);
+                        assert_eq!(
+                            (answer, lent),
+                            (Length::like(by_second), wanted),
+                            "{asked:?} {list:?}"
+                        );
+                    }
+                }
+            }
+        }
+    }
+
     /// N and N0; N0 and N; N0 twice; N0 and N1; 256 is no cell's code, and 4 comes before 14 and
     /// 11; N0 at n = 0 and s = 1, and 14 comes before 11.
     #[test]
@@ -405,10 +642,10 @@ mod printed {
             (&[16, 16, 17, 0], 14),
         ];
         for (codes, refusal) in lists {
-            let by_second = coverage::written(0, 0, codes);
+            let by_second = coverage::written(FIRST, 0, 0, codes);
             assert_eq!(by_second.as_ref().err().copied().unwrap_or(0), refusal);
             let mut lent = [0xEE; 12];
-            let answer = proved::write(0, 0, codes, &mut lent);
+            let answer = proved::write(1, 15, 0, 0, codes, &mut lent);
             assert_eq!(
                 answer,
                 Length::like(by_second.clone().map(|text| text.len() as u64))
@@ -423,8 +660,10 @@ mod printed {
     #[test]
     fn a_text_names_its_own_arrangement() {
         for (n, s) in arrangements() {
-            let mut text = [&heading(n, s)[..], b"N(8)S"].concat();
+            let mut text = [&heading(FIRST, n, s)[..], b"N(8)S"].concat();
             let wanted = Check {
+                version: 1,
+                depth: 15,
                 n,
                 s,
                 cells: 2,
@@ -435,6 +674,14 @@ mod printed {
             assert_eq!(proved::check(&text), wanted);
             text.push(b'S');
             is(&text, 9, 12, 0, 0);
+            let text = [&heading(handheld(1), n, s)[..], b"NP(8)"].concat();
+            let wanted = Check {
+                version: 2,
+                depth: 1,
+                ..wanted
+            };
+            assert_eq!(Check::like(coverage::check(&text)), wanted);
+            assert_eq!(proved::check(&text), wanted);
         }
     }
 
@@ -443,7 +690,7 @@ mod printed {
     #[test]
     fn two_arrangements() {
         for (n, s) in arrangements() {
-            let text = [&heading(n, s)[..], b"N(8)S"].concat();
+            let text = [&heading(FIRST, n, s)[..], b"N(8)S"].concat();
             let own = [code_of(n, s, b"N8"), code_of(n, s, b"S")];
             let mut listed = [7; 2];
             assert_eq!(proved::list(&text, &mut listed).refusal, 0);
@@ -465,9 +712,9 @@ mod printed {
                     (mixed[1], of_n, of_s),
                 ] {
                     let (mut lent, mut wanted) = ([9; 12], [9; 12]);
-                    let answer = proved::write(asked_n, asked_s, &codes, &mut lent);
+                    let answer = proved::write(1, 15, asked_n, asked_s, &codes, &mut lent);
                     assert_eq!(answer.refusal, refusal);
-                    let by_second = coverage::write(asked_n, asked_s, &codes, &mut wanted);
+                    let by_second = coverage::write(FIRST, asked_n, asked_s, &codes, &mut wanted);
                     assert_eq!((answer, lent), (Length::like(by_second), wanted));
                 }
             }
@@ -490,10 +737,18 @@ mod printed {
             .collect();
         for codes in [&many[..], &many[1..]] {
             let (mut lent, mut wanted) = ([9; 80], [9; 80]);
-            let answer = proved::write(0, 0, codes, &mut lent);
-            let by_second = Length::like(coverage::write(0, 0, codes, &mut wanted));
+            let answer = proved::write(1, 15, 0, 0, codes, &mut lent);
+            let by_second = Length::like(coverage::write(FIRST, 0, 0, codes, &mut wanted));
             assert_eq!((answer, lent), (by_second, wanted));
             assert_eq!(answer.refusal, 0);
+            // and at version 2: the six faces; all but one finer part of N
+            let answer = proved::write(2, 0, 0, 0, codes, &mut lent);
+            let by_second = Length::like(coverage::write(handheld(0), 0, 0, codes, &mut wanted));
+            assert_eq!((answer, lent), (by_second, wanted));
+            assert_eq!(
+                answer.refusal,
+                if codes.len() == many.len() { 0 } else { 15 }
+            );
         }
     }
 }

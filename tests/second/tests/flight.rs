@@ -68,7 +68,9 @@ fn what_the_example_prints_is_the_second_programs() {
     let text = example("flight/flight.cvr");
     let checked = check(&text).expect("an accepted text");
     let (n, s) = (char::from(text[5]), char::from(text[6])); // the heading's digits
-    let mut wanted = vec![format!("0 0 {n} {s} {} {}", checked.cells, checked.size)];
+    let version = text[4]; // version 1, whose depth is 15
+    let (cells, size) = (checked.cells, checked.size);
+    let mut wanted = vec![format!("0 0 {version} 15 {n} {s} {cells} {size}")];
     let cells = whole_cells(&text);
     let string = |name: &[u8]| String::from_utf8(name.to_vec()).expect("letters and digits");
     wanted.extend(cells.iter().take(5).map(|name| string(name)));

@@ -18,7 +18,7 @@ use Rattle.reading.specs.Reading.{Nodes, end, whole, listed, many, room, Good}
 use Rattle.reading.specs.Laws.Reading.{room-le}
 use Rattle.reading.specs.Ground.{wholeCells, Cells}
 use Rattle.reading.specs.TextReading.{nodesOf, isText}
-use Rattle.reading.specs.Laws.TextReading.{reads-own, good-nodes}
+use Rattle.reading.specs.Laws.TextReading.{reads-body, good-nodes}
 use Rattle.reading.specs.Laws.Demand.{whole-cells}
 use Rattle.walk.specs.declared.Spot.{Spot}
 use Rattle.walk.specs.Walk.{spotOf, spotsIn}
@@ -76,7 +76,7 @@ pub nodes-asked : (t : List ℕ) → isText t ≡ true → (x : Cell) → anyIn 
 nodes-asked t e x =
     any-in (startOf x) (endOf x) (nodesOf t) _ 15 0 0 0 (good-nodes t e) (omega arith)
     ∙ ap (anyHolds (startOf x) (endOf x)) (spots-text t e)
-    ∙ any-spots (wholeCells (nodesOf t)) x (whole-cells tt (omega arith) (reads-own t e .body) .0)
+    ∙ any-spots (wholeCells (nodesOf t)) x (whole-cells tt (omega arith) (reads-body t e) .0)
 
 -- ---- nodes that cannot hold it
 

@@ -22,7 +22,7 @@ use Rattle.reading.specs.Reading.{Nodes, OfFaces}
 use Rattle.reading.specs.Ground.{wholeCells, Covers, Cells}
 use Rattle.reading.specs.Text.{Reads}
 use Rattle.reading.specs.TextReading.{nodesOf, textArrangement, isText}
-use Rattle.reading.specs.Laws.TextReading.{reads-own}
+use Rattle.reading.specs.Laws.TextReading.{reads-body}
 use Rattle.reading.specs.Laws.Demand.{whole-cells, one-cell, all-covered}
 use Rattle.reader.specs.Check.{textRefusal, otherVersion}
 use Rattle.asking.specs.Ask.{AllCovered, anyWithin, askRefusal}
@@ -68,7 +68,7 @@ module _ {h : List ℕ} {l : Level} {d : ℕ} {t : List ℕ} {ns : Nodes} (f : O
 pub text-asked :
     (t : List ℕ) → isText t ≡ true → (x : Cell) → IsCell x →
     (anyWithin (wholeCells (nodesOf t)) x ≡ true → AllCovered (wholeCells (nodesOf t)) x) × (AllCovered (wholeCells (nodesOf t)) x → anyWithin (wholeCells (nodesOf t)) x ≡ true)
-text-asked t e x v = asked-exactly tt (omega arith) (reads-own t e .body) x v
+text-asked t e x v = asked-exactly tt (omega arith) (reads-body t e) x v
 
 -- ---- "14 also for .. a question of another arrangement" (02, W-210)
 

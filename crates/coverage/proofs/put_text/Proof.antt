@@ -26,10 +26,11 @@ same-length c = search needs
 returns : tie.Need-returns
 returns c =
     let a = c .before .before .before .before .before .before .before .before .before .before .args in
+    let f = a .form in
     let w = c .before .before .before .before .before .write in
     let codes = take (a .count) (a .codes .now) in
-    let fits = text-fits (a .arrangement) codes (a .text .now) (w .last .1 .1 .0) (w .ensures .0) _ (c .before .length .given .1) in
-    (text-put (a .arrangement) codes (a .text .now) _ (w .ensures .0) _ (c .before .length .given .1) (w .ensures .1), omega (arith, fits))
+    let fits = text-fits (f .version) (f .depth) (f .arrangement) codes (a .text .now) (w .last .1 .1 .1 .1 .0) (w .ensures .0) _ (c .before .length .given .1) in
+    (text-put (f .version) (f .depth) (f .arrangement) codes (a .text .now) _ (w .ensures .0) _ (c .before .length .given .1) (w .ensures .1), omega (arith, fits))
 
 same-length-2 : tie.Need-same-length-2
 same-length-2 c = search needs
@@ -37,8 +38,10 @@ same-length-2 c = search needs
 returns-2 : tie.Need-returns-2
 returns-2 c =
     let a = c .before .before .before .before .before .before .before .before .before .before .args in
+    let f = a .form in
     let w = c .before .before .before .before .before .write in
-    text-refused (a .arrangement) (take (a .count) (a .codes .now)) (a .text .now) (w .last .1 .1 .0) (w .ensures .0) _ (c .before .refusal .given .1)
+    text-refused (f .version) (f .depth) (f .arrangement) (take (a .count) (a .codes .now)) (a .text .now) (w .last .1 .1 .1 .1 .0) (w .ensures .0) _
+    (c .before .refusal .given .1)
 
 pub put-text-spec : {M : Type 1} → statement M
 put-text-spec =

@@ -1,6 +1,7 @@
--- `write_names` is safe: what is read is read in an arrangement. Assumes nothing.
+-- `write_names` is safe: n and s are at most 3. Assumes nothing.
 use mathlib.Core.Path.{sym, _∙_}
 use Rattle.cell.specs.Laws.Cell.{is-arrangement}
+use native.Mathlib.Omega.{arith}
 use borrow.Author.Needs.{needs}
 use Rattle.coverage.proofs.write_names.Statement.{statement}
 use Rattle.coverage.proofs.write_names.Tie as tie
@@ -50,8 +51,8 @@ usage-requires-3 c κs = search needs
 returns-3 : tie.Need-returns-3
 returns-3 c = search needs
 
-write-text-requires : tie.Need-write-text-requires
-write-text-requires c κs = is-arrangement (sym (c .before .refusal .ensures) ∙ c .if1 .left)
+write-depth-requires : tie.Need-write-depth-requires
+write-depth-requires c κs = is-arrangement (sym (c .before .refusal .ensures) ∙ c .if1 .left)
 
 returns-4 : tie.Need-returns-4
 returns-4 c = search needs
@@ -75,5 +76,5 @@ write-names-spec =
     say-text-requires
     usage-requires-3
     returns-3
-    write-text-requires
+    write-depth-requires
     returns-4)

@@ -36,11 +36,12 @@ use Rattle.geodetic.specs.GeodeticFix.{geodeticRefusal, geodeticCell}
 use Rattle.geodetic.specs.Laws.GeodeticFix.{geodetic-allowed}
 use Rattle.nucleus.specs.Nucleus.{groundNucleus}
 use Rattle.nucleus.specs.Laws.Nucleus.{again}
-use Rattle.reading.specs.TextReading.{northOf, southOf, textArrangement}
+use Rattle.reading.specs.TextReading.{profileOf, northOf, southOf, textArrangement}
+use Rattle.reading.specs.Text.{versionOf, depthOf}
 use Rattle.reader.specs.Check.{textRefusal, answer, checkedOf}
 use Rattle.listing.specs.List.{listingRefusal}
 use Rattle.asking.specs.Ask.{askRefusal}
-use Rattle.writing.specs.Write.{allCodes, allOf, writeRefusal, textOf}
+use Rattle.writing.specs.Write.{allCodes, allOf}
 use Rattle.writing.specs.Laws.List.{good-list}
 use Rattle.jeguarivo.specs.declared.SquareAnswer.{SquareAnswer}
 use Rattle.jeguarivo.specs.declared.PointAnswer.{PointAnswer}
@@ -52,8 +53,8 @@ use Rattle.jeguarivo.specs.Entries.{arrangement, codeAnswer, codeOfCell,
 use Rattle.jeguarivo.specs.Entries.{nameNumbers, writtenName, placedAnswer, cellSquare, cellNucleus, cellVertices, groundFix, aSquare, noSquare, aPoint, noPoint}
 use Rattle.jeguarivo.specs.Entries.{theVertices, noVertices, aFix, noFix, geodeticCode}
 use Rattle.jeguarivo.specs.Texts.{checkNumbers}
-use Rattle.jeguarivo.specs.Laws.First.{write-refusal, list-refusal, ask-refusal}
-use Rattle.jeguarivo.specs.Laws.Texts.{writeAnswer, listAnswer, listedCodes, relisted, askAnswer}
+use Rattle.jeguarivo.specs.Laws.First.{list-refusal, ask-refusal}
+use Rattle.jeguarivo.specs.Laws.Texts.{writeAnswer, turned, listed-good, listAnswer, listedCodes, relisted, askAnswer}
 
 -- ---- an answer that is not refused
 
@@ -372,13 +373,10 @@ all-say {a} g (c ∷ cs) i o =
     )
 
 -- jgv_coverage_write takes only codes that say the n and s that it is given
-pub written-says : (n s : ℕ) (codes lent : List ℕ) → writeAnswer n s codes lent .refusal ≡ 0 → All (Says n s) codes
-unfolding writeRefusal
-written-says n s codes lent e =
-    let a : Arrangement = arrangement n s in
-    let p = both _ _ (sym (write-refusal (writeRefusal a codes (length lent)) (length (textOf a codes))) ∙ e) in
-    let g = good-list a codes (both _ _ (p .1) .0) in
-    all-say (is-arrangement (p .0)) codes (g .coded) (g .own)
+pub written-says : (version depth n s : ℕ) (codes lent : List ℕ) → writeAnswer version depth n s codes lent .refusal ≡ 0 → All (Says n s) codes
+written-says version depth n s codes lent e =
+    let g = good-list (arrangement n s) codes (listed-good version depth n s codes lent e) in
+    all-say (is-arrangement (turned version depth n s codes lent e)) codes (g .coded) (g .own)
 
 module _ (t : List ℕ) where
   -- the n and s that jgv_coverage_check tells of a text
@@ -399,7 +397,7 @@ module _ (t : List ℕ) where
   unfolding listingRefusal
   listed-says lent e =
       let z = both (textRefusal t) _ (sym (list-refusal (listingRefusal t (length lent)) t) ∙ e) in
-      rw (heading-north (z .0), heading-south (z .0)) (written-says (northOf t) (southOf t) (listedCodes t lent) t (relisted t lent e t (omega arith) .0))
+      rw (heading-north (z .0), heading-south (z .0)) (written-says (versionOf (profileOf t)) (depthOf (profileOf t)) (northOf t) (southOf t) (listedCodes t lent) t (relisted t lent e t (omega arith) .0))
 
   -- and jgv_coverage_ask takes only a code that says them
   pub asked-says : (code : ℕ) → askAnswer t code .refusal ≡ 0 → InHeading code

@@ -1,10 +1,10 @@
 -- Each entry refuses with the first of its numbers whose condition holds, and with 0 where none does (01 "Refusal numbers": "Order where several
 -- apply"). Assumes nothing.
 use mathlib.Core.Path.{_≡_, refl, sym, ap, ap₂, _∙_, subst}
-use mathlib.Core.Logic.{_⊎_, inl, inr, ⊎-elim}
+use mathlib.Core.Logic.{_↔_, _⊎_, inl, inr, ⊎-elim}
 use mathlib.Core.Bool.{Bool, true, false, _&&_, not}
 use mathlib.Core.List.{List, [], _∷_, map}
-use Prim.Native.Nat.{ℕ, zero, suc, _+_, _*_, _^_, _<_}
+use Prim.Native.Nat.{ℕ, zero, suc, _+_, _*_, _^_, _<_, _≤_}
 use native.Mathlib.Omega.{arith}
 use lib.IntN.{ℤ, pos, negℤ}
 use lib.Dec.{leb, ltb, eqb}
@@ -12,7 +12,7 @@ use lib.ListN.{length, drop, take}
 use borrow.Author.Tests.{le-ltb, not-true, not-false}
 use Rattle.logic.specs.Lists.{Any, All, Pairwise}
 use Rattle.logic.specs.Rise.{Rise}
-use Rattle.logic.specs.Laws.Bools.{and-left, and-right, clash}
+use Rattle.logic.specs.Laws.Bools.{and-left, and-right, clash, by-cond}
 use Rattle.logic.specs.Laws.Lists.{all-map}
 use Rattle.logic.specs.Laws.Order.{lt-or}
 use Rattle.logic.specs.Refusal.{refuse, _otherwise_, given}
@@ -35,16 +35,23 @@ use Rattle.authalic.specs.Authalic.{Geodetic, isGeodetic, sineRefusal}
 use Rattle.authalic.specs.Laws.Authalic.{geodetic-tests, geodetic-range}
 use Rattle.geodetic.specs.GeodeticFix.{GeodeticRange, inGeodeticRange, geodeticRefusal, geodeticCell}
 use Rattle.geodetic.specs.Laws.GeodeticFix.{range-tests, range-of}
-use Rattle.reading.specs.Ground.{Apart, Rising}
-use Rattle.reading.specs.Text.{heading, ReadsAs, Accepted}
-use Rattle.reading.specs.TextReading.{nodesOf, northOf, southOf, textArrangement, isText}
+use Rattle.reading.specs.Ground.{Apart, Rising, Covers, Cells}
+use Rattle.reading.specs.Fewest.{FewestOf}
+use Rattle.reading.specs.declared.Profile.{Profile}
+use Rattle.reading.specs.Reading.{render}
+use Rattle.reading.specs.Text.{IsProfile, levelOf, ReadsAs, Accepted}
+use Rattle.reading.specs.Laws.Heading.{turn-bytes}
+use Rattle.reading.specs.Written.{keeps, Allows}
+use Rattle.reading.specs.Laws.Written.{TextOf, keeps-exactly}
+use Rattle.reading.specs.Laws.Allowed.{keeps-fewest}
+use Rattle.reading.specs.TextReading.{nodesOf, profileOf, northOf, southOf, textArrangement, isText}
 use Rattle.reading.specs.Laws.TextReading.{reads-own}
 use Rattle.reader.specs.Check.{WrongVersion, otherVersion, textRefusal, answer, checkedOf}
 use Rattle.reader.specs.Laws.Check.{version-bytes, bytes-version, is-accepted, is-not}
 use Rattle.listing.specs.List.{listingRefusal, listed, codesOf}
 use Rattle.asking.specs.Ask.{askRefusal, asked}
-use Rattle.writing.specs.Write.{allCodes, allOf, Another, ordered, codesRefusal, writeRefusal, textOf, written}
-use Rattle.writing.specs.Laws.List.{tested, good-list, list-good}
+use Rattle.writing.specs.Write.{allCodes, allOf, Another, ordered, codesRefusal, asksFor, isVersion, fitRefusal, writeRefusal, textOf, written}
+use Rattle.writing.specs.Laws.List.{codes-cells, tested, good-list, list-good}
 use Rattle.nucleus.specs.Nucleus.{groundNucleus}
 use Rattle.jeguarivo.specs.declared.SquareAnswer.{SquareAnswer}
 use Rattle.jeguarivo.specs.declared.PointAnswer.{PointAnswer}
@@ -58,8 +65,8 @@ use Rattle.jeguarivo.specs.Texts.{checkNumbers, listNumbers, askNumbers,
 use Rattle.jeguarivo.specs.Order.{Chain, NoneOf, FirstOf}
 use Rattle.jeguarivo.specs.Laws.Order.{Decides, last, then, twice, lt-decides, le-decides, eq-decides, ltZ-decides, leZ-decides, not-decides, and-decides, or-decides}
 use Rattle.jeguarivo.specs.Refusals.{NoLetter, NoDigit, OnImage, arrangementTests, codeTests, textTests, cellTests, nameTests, codeNameTests}
-use Rattle.jeguarivo.specs.Refusals.{parentTests, childTests, pointTests, fixTests, zTests, geodeticTests, neighbourTests, headingOf, listTests, askTests}
-use Rattle.jeguarivo.specs.Refusals.{writeTests, cornersTests}
+use Rattle.jeguarivo.specs.Refusals.{cornersTests, parentTests, childTests, pointTests, fixTests, neighbourTests, turnsOf, listTests, askTests, writeTests, zTests}
+use Rattle.jeguarivo.specs.Refusals.{geodeticTests}
 
 -- ---- what the tests decide
 
@@ -351,20 +358,24 @@ module _ (t : List ℕ) where
   of-grammar n = is-accepted t (passed (grammar t) n)
 
   -- a text that is no longer refused has a reading
-  read : NoneOf (textTests t) → ReadsAs (northOf t) (southOf t) t (nodesOf t)
+  read : NoneOf (textTests t) → ReadsAs (profileOf t) (northOf t) (southOf t) t (nodesOf t)
   read n = reads-own t (passed (grammar t) (n .1 .1 .0))
 
   -- "the heading's"
-  headed : (code : ℕ) → NoneOf (textTests t) → Decides (isOf (textArrangement t) code) (take 7 t ≡ headingOf code)
+  headed : (code : ℕ) → NoneOf (textTests t) → Decides (isOf (textArrangement t) code) (take 2 (drop 5 t) ≡ turnsOf code)
   unfolding isOf
   headed code k =
       let n : ℕ = arrangementOf code .north in
       let s : ℕ = arrangementOf code .south in
-      let h : take 7 t ≡ heading (northOf t) (southOf t) = ap (take 7) (read k .body .all) in
+      let h : take 2 (drop 5 t) ≡ (48 + northOf t) ∷ (48 + southOf t) ∷ [] =
+      ap (λ (x : List ℕ). take 2 (drop 5 x)) (read k .body .all) ∙ turn-bytes (northOf t) (southOf t) (render (levelOf (profileOf t)) (nodesOf t)) (profileOf t) in
       let d = and-decides (eq-decides n (northOf t)) (eq-decides s (southOf t)) in
-      record { holds = λ e. let p = d .holds e in h ∙ ap₂ heading (sym (p .0)) (sym (p .1)); fails = λ e q. d .fails e (same n s (northOf t) (southOf t) (sym q ∙ h)) }
+      record {
+        holds = λ e. let p = d .holds e in h ∙ ap₂ (λ (x y : ℕ). (48 + x) ∷ (48 + y) ∷ []) (sym (p .0)) (sym (p .1));
+        fails = λ e q. d .fails e (same n s (northOf t) (southOf t) (sym q ∙ h));
+      }
     where
-      same : (n s n′ s′ : ℕ) → heading n s ≡ heading n′ s′ → (n ≡ n′) × (s ≡ s′)
+      same : (n s n′ s′ : ℕ) → (48 + n) ∷ (48 + s) ∷ [] ≡ (48 + n′) ∷ (48 + s′) ∷ [] → (n ≡ n′) × (s ≡ s′)
       same n s n′ s′ e =
           let i : 48 + n ≡ 48 + n′ = cc in
           let j : 48 + s ≡ 48 + s′ = cc in
@@ -434,15 +445,49 @@ of-order a codes e o n =
     let d = in-rising-order a codes (missed (allCodes codes) (cells-of codes) e) (missed (allOf a codes) (of-another a codes) o) in
     d .holds (passed d n)
 
-codes-first :
-    (a : Arrangement) (codes : List ℕ) →
-    FirstOf ((4, Any NoCell codes) ∷ (14, Another a codes) ∷ (11, Rise codes × Apart (map cellOf codes) → ⊥) ∷ []) (codesRefusal a codes)
+-- where all are codes
+order-first :
+    (a : Arrangement) (codes : List ℕ) → (Any NoCell codes → ⊥) →
+    FirstOf ((14, Another a codes) ∷ (11, Rise codes × Apart (map cellOf codes) → ⊥) ∷ []) (codesRefusal a codes)
 unfolding codesRefusal
-codes-first a codes =
-    then (last 3 (cells-of codes)) refl
-    (λ n. then (last 13 (of-another a codes)) refl
-    (λ m. last 10
-    (not-decides (in-rising-order a codes (missed (allCodes codes) (cells-of codes) (n .0)) (missed (allOf a codes) (of-another a codes) (m .0))))))
+order-first a codes n =
+    let e : allCodes codes ≡ true = missed (allCodes codes) (cells-of codes) n in
+    subst (FirstOf ((14, Another a codes) ∷ (11, Rise codes × Apart (map cellOf codes) → ⊥) ∷ []))
+    (sym (passes _ (ap (λ (b : Bool). refuse (not b) 4) e)))
+    (then (last 13 (of-another a codes)) refl
+    (λ m. last 10 (not-decides (in-rising-order a codes e (missed (allOf a codes) (of-another a codes) (m .0))))))
+
+-- a version is 1 or 2, or it is not
+asked-version : (version : ℕ) → Decides (isVersion version) ((version ≡ 1) ⊎ (version ≡ 2))
+unfolding isVersion
+asked-version version = or-decides (eq-decides version 1) (eq-decides version 2)
+
+pub of-version : (version : ℕ) → (((version ≡ 1) ⊎ (version ≡ 2) → ⊥) → ⊥) → (version ≡ 1) ⊎ (version ≡ 2)
+of-version version n = asked-version version .holds (passed (asked-version version) n)
+
+pub asked-profile : (version depth : ℕ) → (15 < depth → ⊥) → IsProfile (asksFor version depth)
+asked-profile version depth n =
+    by-cond IsProfile (eqb version 1) (λ _. tt) (λ _. ⊎-elim (λ h. absurd (n h)) (λ h. h) (lt-or 15 depth))
+
+turned : (n s : ℕ) → ((3 < n) ⊎ (3 < s) → ⊥) → (n ≤ 3) × (s ≤ 3)
+turned n s h = (⊎-elim (λ k. absurd (h (inl k))) (λ k. k) (lt-or 3 n), ⊎-elim (λ k. absurd (h (inr k))) (λ k. k) (lt-or 3 s))
+
+-- "outside the profile exactly when the fewest cells of its ground break it"
+module _ (p : Profile) (n s : ℕ) (codes : List ℕ) (q : IsProfile p) (a : (3 < n) ⊎ (3 < s) → ⊥) (c : Any NoCell codes → ⊥) where
+  in-profile : Decides (keeps p (map cellOf codes)) (TextOf p n s (map cellOf codes))
+  in-profile =
+      let k = keeps-exactly p n s (map cellOf codes) q (turned n s a .0) (turned n s a .1) (codes-cells codes (missed (allCodes codes) (cells-of codes) c)) in
+      record { holds = k .0; fails = λ e h. clash (sym (k .1 h) ∙ e) }
+
+  pub of-profile : ((TextOf p n s (map cellOf codes) → ⊥) → ⊥) → TextOf p n s (map cellOf codes)
+  of-profile m = in-profile .holds (passed in-profile m)
+
+  pub text-allowed : (few : List Cell) → FewestOf (Covers (map cellOf codes)) few → TextOf p n s (map cellOf codes) ↔ All (Allows p) few
+  text-allowed few f =
+      let g : Cells (map cellOf codes) = codes-cells codes (missed (allCodes codes) (cells-of codes) c) in
+      let e = keeps-exactly p n s (map cellOf codes) q (turned n s a .0) (turned n s a .1) g in
+      let k = keeps-fewest p (map cellOf codes) few g f in
+      ((λ t. k .0 (e .1 t)), (λ h. e .0 (k .1 h)))
 
 pub write-refusal : (r n : ℕ) → writtenNumbers (written r n) .refusal ≡ r
 unfolding written
@@ -450,10 +495,18 @@ write-refusal zero n = refl
 write-refusal (suc r) n = refl
 
 pub write-first :
-    (n s : ℕ) (codes : List ℕ) (room : ℕ) → let a : Arrangement = arrangement n s in
-    FirstOf (writeTests n s codes room) (writtenNumbers (written (writeRefusal a codes room) (length (textOf a codes))) .refusal)
-unfolding writeRefusal
-write-first n s codes room =
-    let z : ℕ = length (textOf (arrangement n s) codes) in
-    subst (FirstOf (writeTests n s codes room)) (sym (write-refusal (writeRefusal (arrangement n s) codes room) z))
-    (then (arrangement-first n s) refl (λ _. then (codes-first (arrangement n s) codes) refl (λ _. then (last 12 (lt-decides 65536 z)) refl (λ _. last 7 (lt-decides room z)))))
+    (version depth n s : ℕ) (codes : List ℕ) (room : ℕ) → let a : Arrangement = arrangement n s in
+    FirstOf (writeTests version depth n s codes room)
+    (writtenNumbers (written (writeRefusal version depth a codes room) (length (textOf (asksFor version depth) a codes))) .refusal)
+unfolding writeRefusal fitRefusal
+write-first version depth n s codes room =
+    let p : Profile = asksFor version depth in
+    let z : ℕ = length (textOf p (arrangement n s) codes) in
+    subst (FirstOf (writeTests version depth n s codes room)) (sym (write-refusal (writeRefusal version depth (arrangement n s) codes room) z))
+    (then (arrangement-first n s) refl
+    (λ a. then (last 1 (lt-decides 15 depth)) refl
+    (λ d. then (last 3 (cells-of codes)) refl
+    (λ c. then (last 9 (not-decides (asked-version version))) refl
+    (λ _. then (order-first (arrangement n s) codes (c .0)) refl
+    (λ _. then (last 14 (not-decides (in-profile p n s codes (asked-profile version depth (d .0)) (a .0) (c .0)))) refl
+    (λ _. then (last 12 (lt-decides 65536 z)) refl (λ _. last 7 (lt-decides room z)))))))))

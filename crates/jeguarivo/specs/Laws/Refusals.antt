@@ -19,12 +19,15 @@ use Rattle.code.specs.Laws.Exact.{NoCell}
 use Rattle.name.specs.Name.{nameOf, nameCode, nameRefusal}
 use Rattle.corner.specs.List.{codesAt}
 use Rattle.name.specs.Laws.Name.{accepted, name-accepted, name-code-is, code-name}
-use Rattle.reading.specs.Ground.{Apart}
+use Rattle.reading.specs.Ground.{Covers, Apart}
+use Rattle.reading.specs.Fewest.{FewestOf}
 use Rattle.reading.specs.Text.{Accepted}
+use Rattle.reading.specs.Written.{Allows}
+use Rattle.reading.specs.Laws.Written.{TextOf}
 use Rattle.reader.specs.Check.{WrongVersion, checkedOf}
 use Rattle.listing.specs.List.{listingRefusal, listed, codesOf}
 use Rattle.asking.specs.Ask.{askRefusal, asked}
-use Rattle.writing.specs.Write.{Another, writeRefusal, textOf, written}
+use Rattle.writing.specs.Write.{Another, asksFor, writeRefusal, textOf, written}
 use Rattle.locate.specs.Fix.{InRange}
 use Rattle.authalic.specs.Authalic.{Geodetic}
 use Rattle.geodetic.specs.GeodeticFix.{GeodeticRange}
@@ -34,14 +37,14 @@ use Rattle.jeguarivo.specs.Texts.{checkNumbers, listNumbers, askNumbers,
 use Rattle.jeguarivo.specs.Order.{order, orderInWriting, numbers, inOrder, NoneOf}
 use Rattle.jeguarivo.specs.Laws.Order.{given-exactly, none-exactly}
 use Rattle.jeguarivo.specs.Refusals.{NoLetter, NoDigit, OnImage, codeTests, textTests, cellTests, nameTests, codeNameTests, parentTests, childTests}
-use Rattle.jeguarivo.specs.Refusals.{pointTests, fixTests, zTests, geodeticTests, neighbourTests, headingOf, listTests, askTests, writeTests, cornersTests}
+use Rattle.jeguarivo.specs.Refusals.{cornersTests, pointTests, fixTests, neighbourTests, turnsOf, listTests, askTests, writeTests, zTests, geodeticTests}
 use Rattle.jeguarivo.specs.Laws.First.{name-refusal, cell-code-first, name-code-first, point-code-first, fix-code-first, neighbour-first, parent-first}
-use Rattle.jeguarivo.specs.Laws.First.{child-first, code-cell-first, code-name-first, square-first, check-first, list-first, ask-first, write-first, z-first}
-use Rattle.jeguarivo.specs.Laws.First.{geodetic-code-first, of-grammar, of-order, corners-first}
+use Rattle.jeguarivo.specs.Laws.First.{child-first, code-cell-first, code-name-first, corners-first, square-first, check-first, list-first, ask-first, write-first}
+use Rattle.jeguarivo.specs.Laws.First.{of-grammar, of-order, of-version, asked-profile, of-profile, z-first, geodetic-code-first, text-allowed}
 
 -- ---- "Order where several apply"
 
-module _ (n s k f i j code digit room : ℕ) (x y : ℤ) (bytes codes : List ℕ) where
+module _ (n s k f i j code digit room version depth : ℕ) (x y : ℤ) (bytes codes : List ℕ) where
   pub in-order :
       All (λ (ns : List ℕ). inOrder order ns ≡ true)
       (numbers (cellTests n s f k i j) ∷
@@ -63,7 +66,7 @@ module _ (n s k f i j code digit room : ℕ) (x y : ℤ) (bytes codes : List ℕ
   in-order = (refl, (refl, (refl, (refl, (refl, (refl, (refl, (refl, (refl, (refl, (refl, (refl, (refl, (refl, (refl, tt)))))))))))))))
 
   -- "in writing, 13 is judged on the text of a good list, so there it comes last but for 8"
-  pub in-order-writing : inOrder orderInWriting (numbers (writeTests n s codes room)) ≡ true
+  pub in-order-writing : inOrder orderInWriting (numbers (writeTests version depth n s codes room)) ≡ true
   unfolding inOrder
   in-order-writing = refl
 
@@ -220,7 +223,7 @@ module _ (t : List ℕ) where
   pub thirteen-check : (checkNumbers (checkedOf t) .refusal ≡ 13) ↔ (65536 < length t)
   thirteen-check = given-exactly 12 (check-first t) refl
 
-  -- 10: "five bytes or more, mark right, version not 1"
+  -- 10: "five bytes or more, mark right", version "neither 1 nor 2"
   pub ten-check : (checkNumbers (checkedOf t) .refusal ≡ 10) ↔ ((65536 < length t → ⊥) × WrongVersion t)
   ten-check = given-exactly 9 (check-first t) refl
 
@@ -252,7 +255,7 @@ module _ (t : List ℕ) (code : ℕ) where
 
   -- 14: "asked arrangement differs from the heading's", the asked one being the code's
   pub fourteen-ask :
-      (refusedAsk ≡ 14) ↔ ((NoCell code → ⊥) × ((65536 < length t → ⊥) × ((WrongVersion t → ⊥) × (Accepted t × (take 7 t ≡ headingOf code → ⊥)))))
+      (refusedAsk ≡ 14) ↔ ((NoCell code → ⊥) × ((65536 < length t → ⊥) × ((WrongVersion t → ⊥) × (Accepted t × (take 2 (drop 5 t) ≡ turnsOf code → ⊥)))))
   fourteen-ask =
       let k = given-exactly 13 (ask-first t code) refl in (
         (λ e. let a = k .0 e in let b = a .1 in (a .0, (b .0, (b .1 .0, (of-grammar t (b .1 .1 .0), b .1 .1 .1))))),
@@ -261,58 +264,113 @@ module _ (t : List ℕ) (code : ℕ) where
 
 -- ---- writing
 
-module _ (n s : ℕ) (codes : List ℕ) (room : ℕ) where
+module _ (version depth n s : ℕ) (codes : List ℕ) (room : ℕ) where
   -- the length of the text, and what jgv_coverage_write refuses
   abbrev long : ℕ
-  long = length (textOf (arrangement n s) codes)
+  long = length (textOf (asksFor version depth) (arrangement n s) codes)
 
   abbrev refusedWrite : ℕ
-  refusedWrite = writtenNumbers (written (writeRefusal (arrangement n s) codes room) long) .refusal
+  refusedWrite = writtenNumbers (written (writeRefusal version depth (arrangement n s) codes room) long) .refusal
+
+  -- what none of 5, 2 and 4 says: n and s are at most 3, the depth is at most 15, and all are codes
+  abbrev Asked : Type 0 → Type 0
+  Asked More = ((3 < n) ⊎ (3 < s) → ⊥) × ((15 < depth → ⊥) × ((Any NoCell codes → ⊥) × More))
+
+  -- and what none of 10, 14 and 11 says: a good list, for a version that there is
+  abbrev Listed : Type 0 → Type 0
+  Listed More =
+      Asked (((version ≡ 1) ⊎ (version ≡ 2)) × ((Another (arrangement n s) codes → ⊥) × ((Rise codes × Apart (map cellOf codes)) × More)))
 
   -- 5: "n or s given as a number above 3"
   pub five-write : (refusedWrite ≡ 5) ↔ ((3 < n) ⊎ (3 < s))
-  five-write = given-exactly 4 (write-first n s codes room) refl
+  five-write = given-exactly 4 (write-first version depth n s codes room) refl
+
+  -- 2: "also for an asked depth above 15, at version 1 too"
+  pub two-write : (refusedWrite ≡ 2) ↔ (((3 < n) ⊎ (3 < s) → ⊥) × (15 < depth))
+  two-write = given-exactly 1 (write-first version depth n s codes room) refl
 
   -- 4: "a code is no cell's"
-  pub four-write : (refusedWrite ≡ 4) ↔ (((3 < n) ⊎ (3 < s) → ⊥) × Any NoCell codes)
-  four-write = given-exactly 3 (write-first n s codes room) refl
+  pub four-write : (refusedWrite ≡ 4) ↔ (((3 < n) ⊎ (3 < s) → ⊥) × ((15 < depth → ⊥) × Any NoCell codes))
+  four-write = given-exactly 3 (write-first version depth n s codes room) refl
+
+  -- 10: "neither 1 nor 2, asked of the writer too"
+  pub ten-write : (refusedWrite ≡ 10) ↔ Asked ((version ≡ 1) ⊎ (version ≡ 2) → ⊥)
+  ten-write = given-exactly 9 (write-first version depth n s codes room) refl
 
   -- 14: "also for a list .. of another arrangement, still before 11"
-  pub fourteen-write : (refusedWrite ≡ 14) ↔ (((3 < n) ⊎ (3 < s) → ⊥) × ((Any NoCell codes → ⊥) × Another (arrangement n s) codes))
-  fourteen-write = given-exactly 13 (write-first n s codes room) refl
+  pub fourteen-write : (refusedWrite ≡ 14) ↔ Asked (((version ≡ 1) ⊎ (version ≡ 2)) × Another (arrangement n s) codes)
+  fourteen-write =
+      let k = given-exactly 13 (write-first version depth n s codes room) refl in (
+        (λ e. let a = k .0 e in let b = a .1 .1 in (a .0, (a .1 .0, (b .0, (of-version version (b .1 .0), b .1 .1))))),
+        (λ a. let b = a .1 .1 in k .1 (a .0, (a .1 .0, (b .0, ((λ m. m (b .1 .0)), b .1 .1))))),
+      )
 
   -- 11: "list not strictly rising, or one cell inside another"
   pub eleven-write :
       (refusedWrite ≡ 11)
-      ↔ (((3 < n) ⊎ (3 < s) → ⊥)
-      × ((Any NoCell codes → ⊥) × ((Another (arrangement n s) codes → ⊥) × (Rise codes × Apart (map cellOf codes) → ⊥))))
-  eleven-write = given-exactly 10 (write-first n s codes room) refl
+      ↔ Asked (((version ≡ 1) ⊎ (version ≡ 2)) × ((Another (arrangement n s) codes → ⊥) × (Rise codes × Apart (map cellOf codes) → ⊥)))
+  eleven-write =
+      let k = given-exactly 10 (write-first version depth n s codes room) refl in (
+        (λ e. let a = k .0 e in let b = a .1 .1 in (a .0, (a .1 .0, (b .0, (of-version version (b .1 .0), b .1 .1))))),
+        (λ a. let b = a .1 .1 in k .1 (a .0, (a .1 .0, (b .0, ((λ m. m (b .1 .0)), b .1 .1))))),
+      )
+
+  -- 15: "list outside the profile": no accepted text of the heading has its ground
+  pub fifteen-write : (refusedWrite ≡ 15) ↔ Listed (TextOf (asksFor version depth) n s (map cellOf codes) → ⊥)
+  fifteen-write =
+      let k = given-exactly 14 (write-first version depth n s codes room) refl in (
+        (λ e.
+            let a = k .0 e in
+            let b = a .1 .1 in
+            let c = b .1 .1 in
+            (a .0, (a .1 .0, (b .0, (of-version version (b .1 .0), (c .0, (of-order (arrangement n s) codes (b .0) (c .0) (c .1 .0), c .1 .1))))))),
+        (λ a.
+            let b = a .1 .1 in
+            let c = b .1 .1 in
+            k .1 (a .0, (a .1 .0, (b .0, ((λ m. m (b .1 .0)), (c .0, ((λ m. m (c .1 .0)), c .1 .1))))))),
+      )
+
+  -- "A good list is outside the profile exactly when the fewest cells of its ground break it"
+  pub fifteen-cells :
+      (few : List Cell) → FewestOf (Covers (map cellOf codes)) few → (refusedWrite ≡ 15) ↔ Listed (All (Allows (asksFor version depth)) few → ⊥)
+  fifteen-cells few f =
+      let k : ((3 < n) ⊎ (3 < s) → ⊥) → (15 < depth → ⊥) → (Any NoCell codes → ⊥) → TextOf (asksFor version depth) n s (map cellOf codes) ↔ All (Allows (asksFor version depth)) few =
+      λ a d c. text-allowed (asksFor version depth) n s codes (asked-profile version depth d) a c few f in (
+        (λ e.
+            let a = fifteen-write .0 e in
+            let b = a .1 .1 in
+            (a .0, (a .1 .0, (b .0, (b .1 .0, (b .1 .1 .0, (b .1 .1 .1 .0, (λ h. b .1 .1 .1 .1 (k (a .0) (a .1 .0) (b .0) .1 h))))))))),
+        (λ a.
+            let b = a .1 .1 in
+            fifteen-write .1
+            (a .0, (a .1 .0, (b .0, (b .1 .0, (b .1 .1 .0, (b .1 .1 .1 .0, (λ t. b .1 .1 .1 .1 (k (a .0) (a .1 .0) (b .0) .0 t))))))))),
+      )
+
+  -- behind 15
+  module _ {More : Type 0} where
+    inside : ((3 < n) ⊎ (3 < s) → ⊥) × ((15 < depth → ⊥) × ((Any NoCell codes → ⊥) × ((((version ≡ 1) ⊎ (version ≡ 2) → ⊥) → ⊥)
+        × ((Another (arrangement n s) codes → ⊥) × (((Rise codes × Apart (map cellOf codes) → ⊥) → ⊥)
+        × (((TextOf (asksFor version depth) n s (map cellOf codes) → ⊥) → ⊥) × More))))))
+        → Listed (TextOf (asksFor version depth) n s (map cellOf codes) × More)
+    inside a =
+        let b = a .1 .1 in
+        let c = b .1 .1 in
+        let t = of-profile (asksFor version depth) n s codes (asked-profile version depth (a .1 .0)) (a .0) (b .0) (c .1 .1 .0) in
+        (a .0, (a .1 .0, (b .0, (of-version version (b .1 .0), (c .0, (of-order (arrangement n s) codes (b .0) (c .0) (c .1 .0), (t, c .1 .1 .1)))))))
+
+    outside : Listed (TextOf (asksFor version depth) n s (map cellOf codes) × More)
+        → ((3 < n) ⊎ (3 < s) → ⊥) × ((15 < depth → ⊥) × ((Any NoCell codes → ⊥) × ((((version ≡ 1) ⊎ (version ≡ 2) → ⊥) → ⊥)
+        × ((Another (arrangement n s) codes → ⊥) × (((Rise codes × Apart (map cellOf codes) → ⊥) → ⊥)
+        × (((TextOf (asksFor version depth) n s (map cellOf codes) → ⊥) → ⊥) × More))))))
+    outside a =
+        let b = a .1 .1 in
+        let c = b .1 .1 in
+        (a .0, (a .1 .0, (b .0, ((λ m. m (b .1 .0)), (c .0, ((λ m. m (c .1 .0)), ((λ m. m (c .1 .1 .0)), c .1 .1 .1)))))))
 
   -- 13: "text longer than 65,536 bytes, .. to be written", "judged on the text of a good list"
-  pub thirteen-write :
-      (refusedWrite ≡ 13)
-      ↔ (((3 < n) ⊎ (3 < s) → ⊥)
-      × ((Any NoCell codes → ⊥) × ((Another (arrangement n s) codes → ⊥) × ((Rise codes × Apart (map cellOf codes)) × (65536 < long)))))
-  thirteen-write =
-      let k = given-exactly 12 (write-first n s codes room) refl in (
-        (λ e.
-            let a = k .0 e in
-            let b = a .1 .1 in
-            (a .0, (a .1 .0, (b .0, (of-order (arrangement n s) codes (a .1 .0) (b .0) (b .1 .0), b .1 .1))))),
-        (λ a. let b = a .1 .1 in k .1 (a .0, (a .1 .0, (b .0, ((λ m. m (b .1 .0)), b .1 .1))))),
-      )
+  pub thirteen-write : (refusedWrite ≡ 13) ↔ Listed (TextOf (asksFor version depth) n s (map cellOf codes) × (65536 < long))
+  thirteen-write = let k = given-exactly 12 (write-first version depth n s codes room) refl in ((λ e. inside (k .0 e)), (λ a. k .1 (outside a)))
 
   -- 8: "lent buffer shorter than the answer", a text
-  pub eight-write :
-      (refusedWrite ≡ 8)
-      ↔ (((3 < n) ⊎ (3 < s) → ⊥)
-      × ((Any NoCell codes → ⊥)
-      × ((Another (arrangement n s) codes → ⊥) × ((Rise codes × Apart (map cellOf codes)) × ((65536 < long → ⊥) × (room < long))))))
-  eight-write =
-      let k = given-exactly 7 (write-first n s codes room) refl in (
-        (λ e.
-            let a = k .0 e in
-            let b = a .1 .1 in
-            (a .0, (a .1 .0, (b .0, (of-order (arrangement n s) codes (a .1 .0) (b .0) (b .1 .0), b .1 .1))))),
-        (λ a. let b = a .1 .1 in k .1 (a .0, (a .1 .0, (b .0, ((λ m. m (b .1 .0)), b .1 .1))))),
-      )
+  pub eight-write : (refusedWrite ≡ 8) ↔ Listed (TextOf (asksFor version depth) n s (map cellOf codes) × ((65536 < long → ⊥) × (room < long)))
+  eight-write = let k = given-exactly 7 (write-first version depth n s codes room) refl in ((λ e. inside (k .0 e)), (λ a. k .1 (outside a)))

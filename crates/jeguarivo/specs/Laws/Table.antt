@@ -13,6 +13,7 @@ use Rattle.code.specs.Code.{cellCodeAt, cellCode, cellCoded, isCellCode, codeAt
 use Rattle.plane.specs.Plane.{pointRefusal}
 use Rattle.locate.specs.Fix.{fixCell, fixRefusal}
 use Rattle.name.specs.Name.{nameCode}
+use Rattle.reading.specs.declared.Profile.the-variants.{Full}
 use Rattle.reading.specs.Text.{heading}
 use Rattle.reading.specs.Parse.{parse}
 use Rattle.reading.specs.Scan.{scan}
@@ -39,7 +40,7 @@ unfoldable pub answered : Line → List ℕ
 answered (fix n s k L z name) = codeNumbers (fixCode n s k L z)
 answered (step n s name d next) = codeNumbers (neighbourCode (nameCode (arrangement n s) name) d)
 answered (body n s bytes refusal place) =
-    checkNumbers (checkedOf (heading n s ++ bytes)) .refusal ∷ checkNumbers (checkedOf (heading n s ++ bytes)) .place ∷ []
+    checkNumbers (checkedOf (heading Full n s ++ bytes)) .refusal ∷ checkNumbers (checkedOf (heading Full n s ++ bytes)) .place ∷ []
 answered (point n s k x y refusal) = codeNumbers (pointCode n s k x y)
 
 unfoldable pub said : Line → List ℕ

@@ -15,7 +15,7 @@ use Rattle.code.specs.Number.{codeAs}
 use Rattle.code.specs.Laws.Number.{code-as}
 use Rattle.reading.specs.Ground.{wholeCells, Cells, All, Rising, Apart}
 use Rattle.reading.specs.TextReading.{nodesOf, textArrangement, isText, bodyStart}
-use Rattle.reading.specs.Laws.TextReading.{reads-own, text-arranged}
+use Rattle.reading.specs.Laws.TextReading.{reads-body, text-arranged}
 use Rattle.reading.specs.Laws.Demand.{whole-cells}
 use Rattle.walk.specs.declared.Spot.{Spot}
 use Rattle.walk.specs.Walk.{origin, spotOf, walk}
@@ -51,7 +51,7 @@ module _ (a : Arrangement) where
 
 module _ (t : List ℕ) (e : isText t ≡ true) where
   cells : Cells (wholeCells (nodesOf t)) × Rising (wholeCells (nodesOf t)) × Apart (wholeCells (nodesOf t))
-  cells = whole-cells tt (omega arith) (reads-own t e .body)
+  cells = whole-cells tt (omega arith) (reads-body t e)
 
   -- the codes along the walk
   pub walk-codes : map (spotCode (textArrangement t)) (walk origin (drop (bodyStart t) t)) ≡ codesOf t

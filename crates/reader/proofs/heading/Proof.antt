@@ -9,10 +9,10 @@ abbrev Inv-loop : tie.InvT-loop
 Inv-loop text i₀ i = st.Inv text i
 
 abbrev μ-loop : tie.MeasureT-loop
-μ-loop text i₀ i = 7 - i
+μ-loop text i₀ i = 8 - i
 
 loop-holds : tie.Need-loop-holds Inv-loop μ-loop
-loop-holds c = record { seven = omega arith; within = omega arith; tied = omega arith }
+loop-holds c = record { eight = omega arith; within = omega arith; tied = omega arith }
 
 returns : tie.Need-returns Inv-loop μ-loop
 returns c = st.cut (c .before .before .loop .inv) (c .if1 .taken)

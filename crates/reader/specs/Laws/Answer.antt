@@ -8,14 +8,16 @@ use lib.ListN.{length}
 use borrow.Author.Tests.{not-false}
 use Rattle.logic.specs.Laws.Refusal.{both, allowed}
 use Rattle.reading.specs.Ground.{wholeCells, sizeSum}
-use Rattle.reading.specs.TextReading.{nodesOf, northOf, southOf, textArrangement, isText, bodyStart}
+use Rattle.reading.specs.TextReading.{nodesOf, profileOf, northOf, southOf, textArrangement, isText, bodyStart}
+use Rattle.reading.specs.declared.Profile.{Profile}
 use Rattle.reader.specs.declared.Checked.the-variants.{Text, Refused}
 use Rattle.reader.specs.Check.{textRefusal, placeWith, answer, checkedOf}
 
 -- nothing was refused
-pub record TextChecked (t : List ℕ) (n s cells size body : ℕ) : Type 0 where
+pub record TextChecked (t : List ℕ) (p : Profile) (n s cells size body : ℕ) : Type 0 where
   pub allowed : textRefusal t ≡ 0
   pub text : isText t ≡ true
+  pub profile : p ≡ profileOf t
   pub north : n ≡ northOf t
   pub south : s ≡ southOf t
   pub count : cells ≡ length (wholeCells (nodesOf t))
@@ -23,19 +25,19 @@ pub record TextChecked (t : List ℕ) (n s cells size body : ℕ) : Type 0 where
   pub start : body ≡ bodyStart t
 
 -- the heading's arrangement
-pub checked-arrangement : {t : List ℕ} {n s c z b : ℕ} → TextChecked t n s c z b → record { north = n; south = s } ≡ textArrangement t
+pub checked-arrangement : {t : List ℕ} {p : Profile} {n s c z b : ℕ} → TextChecked t p n s c z b → record { north = n; south = s } ≡ textArrangement t
 checked-arrangement r = λ i. record { north = r .north i; south = r .south i }
 
 text-read : (t : List ℕ) → textRefusal t ≡ 0 → isText t ≡ true
 unfolding textRefusal
 text-read t e = not-false (isText t) (allowed 8 _ (both _ _ (both _ _ e .1) .1))
 
-pub text-checked : {n s c z b : ℕ} (t : List ℕ) → Text n s c z b ≡ checkedOf t → TextChecked t n s c z b
+pub text-checked : {p : Profile} {n s c z b : ℕ} (t : List ℕ) → Text p n s c z b ≡ checkedOf t → TextChecked t p n s c z b
 unfolding checkedOf
-text-checked {n} {s} {c} {z} {b} t e = go (textRefusal t) refl e
+text-checked {p} {n} {s} {c} {z} {b} t e = go (textRefusal t) refl e
   where
-    go : (r : ℕ) → textRefusal t ≡ r → Text n s c z b ≡ answer r t → TextChecked t n s c z b
-    go zero q e = record { allowed = q; text = text-read t q; north = cc; south = cc; count = cc; sum = cc; start = cc }
+    go : (r : ℕ) → textRefusal t ≡ r → Text p n s c z b ≡ answer r t → TextChecked t p n s c z b
+    go zero q e = record { allowed = q; text = text-read t q; profile = cc; north = cc; south = cc; count = cc; sum = cc; start = cc }
     go (suc r) q e = let k : _≡_ {A = ℕ} 0 1 = cc in absurd (omega arith)
 
 -- the refusal, and the place

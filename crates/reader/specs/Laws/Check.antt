@@ -1,6 +1,6 @@
 -- Each refusal is given exactly when 01 says, and 9 comes with the place. Assumes nothing.
 use mathlib.Core.Path.{_≡_, refl, sym, ap, _∙_}
-use mathlib.Core.Logic.{⊎-elim}
+use mathlib.Core.Logic.{_⊎_, inl, inr, ⊎-elim}
 use mathlib.Core.Bool.{Bool, true, false, _&&_, not}
 use mathlib.Core.List.{List, [], _∷_}
 use Prim.Native.Nat.{ℕ, suc, _+_, _^_, _≤_, _<_}
@@ -13,17 +13,18 @@ use Rattle.logic.specs.Laws.Order.{lt-or}
 use Rattle.logic.specs.Refusal.{refuse, _otherwise_}
 use Rattle.reading.specs.Reading.{Nodes, render}
 use Rattle.reading.specs.Laws.Reading.{eq-or}
-use Rattle.reading.specs.declared.Level.the-variants.{Faces}
+use Rattle.reading.specs.declared.Profile.{Profile}
 use Rattle.reading.specs.Ground.{wholeCells, sizeSum}
-use Rattle.reading.specs.Text.{ReadsAs, Accepted}
+use Rattle.reading.specs.Text.{levelOf, headingLength, ReadsAs, Accepted}
 use Rattle.reading.specs.Place.{Longest, placeOf}
 use Rattle.reading.specs.Heading.{least, greatest, lead}
 use Rattle.reading.specs.Laws.Place.{place-longest}
-use Rattle.reading.specs.Laws.Heading.{lead-head}
+use Rattle.reading.specs.Laws.Heading.{heading-least, lead-head}
+use Rattle.reading.specs.Laws.Fits.{faces-of, depth-most}
 use Rattle.reading.specs.Report.{count, sizeAlong}
 use Rattle.reading.specs.Laws.TextReading.{read-text, reads-own, read-accepted}
 use Rattle.reading.specs.Laws.Demand.{count-whole, size-whole}
-use Rattle.reading.specs.TextReading.{nodesOf, northOf, southOf, isText, bodyStart}
+use Rattle.reading.specs.TextReading.{nodesOf, profileOf, northOf, southOf, isText, bodyStart}
 use Rattle.reader.specs.declared.Checked.the-variants.{Text, Refused}
 use Rattle.reader.specs.Check.{WrongVersion, otherVersion, textRefusal, answer, checkedOf}
 
@@ -80,14 +81,20 @@ tests-13 false false false e = absurd (omega arith)
 
 -- ---- the version
 
-lead-same : (x z : ℕ) (a b t : List ℕ) → z ≡ x → lead (x ∷ a) (x ∷ b) (z ∷ t) ≡ suc (lead a b t)
+lead-in : (x y z : ℕ) (a b t : List ℕ) → x ≤ z → z ≤ y → lead (x ∷ a) (y ∷ b) (z ∷ t) ≡ suc (lead a b t)
 unfolding lead
-lead-same x z a b t e = rw (le-leb x z (omega arith), le-leb z x (omega arith))
+lead-in x y z a b t h k = rw (le-leb x z h, le-leb z y k)
+
+lead-out : (x y z : ℕ) (a b t : List ℕ) → (z < x) ⊎ (y < z) → x ≤ y → lead (x ∷ a) (y ∷ b) (z ∷ t) ≡ 0
+unfolding lead
+lead-out x y z a b t (inl h) k = rw (lt-leb x z h)
+lead-out x y z a b t (inr h) k = rw (le-leb x z (omega arith), lt-leb z y h)
+
+lead-same : (x z : ℕ) (a b t : List ℕ) → z ≡ x → lead (x ∷ a) (x ∷ b) (z ∷ t) ≡ suc (lead a b t)
+lead-same x z a b t e = lead-in x x z a b t (omega arith) (omega arith)
 
 lead-other : (x z : ℕ) (a b t : List ℕ) → (z ≡ x → ⊥) → lead (x ∷ a) (x ∷ b) (z ∷ t) ≡ 0
-unfolding lead
-lead-other x z a b t n =
-    ⊎-elim (λ h. rw (lt-leb x z h)) (λ h. rw (le-leb x z h, lt-leb z x (omega (arith, n)))) (lt-or z x)
+lead-other x z a b t n = lead-out x x z a b t (⊎-elim (λ h. inl h) (λ h. inr (omega (arith, n))) (lt-or z x)) (omega arith)
 
 module _ (t : List ℕ) where
   -- fewer than five bytes, or three right ones, or five right ones at least
@@ -129,16 +136,16 @@ module _ (t : List ℕ) where
 
 -- the least and the greatest bytes of a heading after one, two, three, four and five
 abbrev low₅ : List ℕ
-low₅ = 48 ∷ 48 ∷ []
+low₅ = 48 ∷ 48 ∷ 97 ∷ []
 
 abbrev high₅ : List ℕ
-high₅ = 51 ∷ 51 ∷ []
+high₅ = 51 ∷ 51 ∷ 112 ∷ []
 
 abbrev low₄ : List ℕ
 low₄ = 1 ∷ low₅
 
 abbrev high₄ : List ℕ
-high₄ = 1 ∷ high₅
+high₄ = 2 ∷ high₅
 
 abbrev low₃ : List ℕ
 low₃ = 0 ∷ low₄
@@ -158,10 +165,10 @@ low₁ = 86 ∷ low₂
 abbrev high₁ : List ℕ
 high₁ = 86 ∷ high₂
 
--- three bytes of a heading are the mark, and two more are version 1
+-- three bytes of a heading are the mark, and two more are version 1 or 2
 lead-mark :
     (b₀ b₁ b₂ b₃ b₄ : ℕ) (u : List ℕ) → let n = lead least greatest (b₀ ∷ b₁ ∷ b₂ ∷ b₃ ∷ b₄ ∷ u) in
-    3 ≤ n → n < 5 → (b₀ ≡ 67) × (b₁ ≡ 86) × (b₂ ≡ 82) × ((b₃ ≡ 0) × (b₄ ≡ 1) → ⊥)
+    3 ≤ n → n < 5 → (b₀ ≡ 67) × (b₁ ≡ 86) × (b₂ ≡ 82) × ((b₃ ≡ 0) × ((b₄ ≡ 1) ⊎ (b₄ ≡ 2)) → ⊥)
 lead-mark b₀ b₁ b₂ b₃ b₄ u h k =
     let e₀ : b₀ ≡ 67 = ⊎-elim (λ e. e) (λ n. absurd (omega (arith, lead-other 67 b₀ low₁ high₁ (b₁ ∷ b₂ ∷ b₃ ∷ b₄ ∷ u) n))) (eq-or b₀ 67) in
     let l₀ : lead least greatest (b₀ ∷ b₁ ∷ b₂ ∷ b₃ ∷ b₄ ∷ u) ≡ suc (lead low₁ high₁ (b₁ ∷ b₂ ∷ b₃ ∷ b₄ ∷ u)) =
@@ -172,10 +179,12 @@ lead-mark b₀ b₁ b₂ b₃ b₄ u h k =
     let e₂ : b₂ ≡ 82 = ⊎-elim (λ e. e) (λ n. absurd (omega (arith, lead-other 82 b₂ low₃ high₃ (b₃ ∷ b₄ ∷ u) n))) (eq-or b₂ 82) in
     let l₂ : lead low₂ high₂ (b₂ ∷ b₃ ∷ b₄ ∷ u) ≡ suc (lead low₃ high₃ (b₃ ∷ b₄ ∷ u)) =
     lead-same 82 b₂ low₃ high₃ (b₃ ∷ b₄ ∷ u) e₂ in
-    (e₀, e₁, e₂, λ v. omega (arith, lead-same 0 b₃ low₄ high₄ (b₄ ∷ u) (v .0), lead-same 1 b₄ low₅ high₅ u (v .1)))
+    let right : (b₄ ≡ 1) ⊎ (b₄ ≡ 2) → lead low₄ high₄ (b₄ ∷ u) ≡ suc (lead low₅ high₅ u) =
+    ⊎-elim (λ e. lead-in 1 2 b₄ low₅ high₅ u (omega arith) (omega arith)) (λ e. lead-in 1 2 b₄ low₅ high₅ u (omega arith) (omega arith)) in
+    (e₀, e₁, e₂, λ v. omega (arith, lead-same 0 b₃ low₄ high₄ (b₄ ∷ u) (v .0), right (v .1)))
 
 mark-lead :
-    (b₃ b₄ : ℕ) (u : List ℕ) → ((b₃ ≡ 0) × (b₄ ≡ 1) → ⊥) → let n = lead least greatest (67 ∷ 86 ∷ 82 ∷ b₃ ∷ b₄ ∷ u) in (3 ≤ n) × (n < 5)
+    (b₃ b₄ : ℕ) (u : List ℕ) → ((b₃ ≡ 0) × ((b₄ ≡ 1) ⊎ (b₄ ≡ 2)) → ⊥) → let n = lead least greatest (67 ∷ 86 ∷ 82 ∷ b₃ ∷ b₄ ∷ u) in (3 ≤ n) × (n < 5)
 mark-lead b₃ b₄ u v =
     let l₀ : lead least greatest (67 ∷ 86 ∷ 82 ∷ b₃ ∷ b₄ ∷ u) ≡ 3 + lead low₃ high₃ (b₃ ∷ b₄ ∷ u) =
     omega (
@@ -189,10 +198,14 @@ mark-lead b₃ b₄ u v =
     (λ e. omega (
       arith,
       lead-same 0 b₃ low₄ high₄ (b₄ ∷ u) e,
-      lead-other 1 b₄ low₅ high₅ u (λ f. v (e, f)),
+      lead-out 1 2 b₄ low₅ high₅ u (outside (λ f. v (e, f))) (omega arith),
     ))
     (λ n. omega (arith, lead-other 0 b₃ low₄ high₄ (b₄ ∷ u) n)) (eq-or b₃ 0) in
     (omega arith, omega arith)
+  where
+    outside : ((b₄ ≡ 1) ⊎ (b₄ ≡ 2) → ⊥) → (b₄ < 1) ⊎ (2 < b₄)
+    outside n =
+        ⊎-elim (λ h. inl h) (λ h. ⊎-elim (λ k. inr k) (λ k. absurd (⊎-elim (λ e. n (inl e)) (λ e. n (inr (omega (arith, e)))) (eq-or b₄ 1))) (lt-or 2 b₄)) (lt-or b₄ 1)
 
 pub version-bytes : (t : List ℕ) → otherVersion t ≡ true → WrongVersion t
 version-bytes [] e = absurd (omega (arith, version-tests [] e .0))
@@ -221,7 +234,7 @@ module _ (t : List ℕ) where
   unfolding textRefusal
   long-exactly = ((λ e. ltb-true _ _ (tests-13 (ltb 65536 (length t)) (otherVersion t) (not (isText t)) e)), refusal-13 t)
 
-  -- 10: "five bytes or more, mark right, version not 1"
+  -- 10: "five bytes or more, mark right", version "neither 1 nor 2"
   pub version-exactly : (textRefusal t ≡ 10 → (length t ≤ 65536) × WrongVersion t) × ((length t ≤ 65536) × WrongVersion t → textRefusal t ≡ 10)
   unfolding textRefusal
   version-exactly = (
@@ -232,19 +245,21 @@ module _ (t : List ℕ) where
   )
 
   accepted-is : Accepted t → isText t ≡ true
-  accepted-is a = read-text (a .3)
+  accepted-is a = read-text (a .4)
 
   pub is-accepted : isText t ≡ true → Accepted t
-  is-accepted e = (northOf t, southOf t, nodesOf t, reads-own t e)
+  is-accepted e = (profileOf t, northOf t, southOf t, nodesOf t, reads-own t e)
 
   pub is-not : isText t ≡ false → Accepted t → ⊥
   is-not e a = clash (sym (accepted-is a) ∙ e)
 
-  -- a text of the grammar has version 1
+  -- a text of the grammar has version 1 or 2
   pub accepted-version : Accepted t → otherVersion t ≡ false
   accepted-version a =
-      let r = a .3 in
-      let e : lead least greatest t ≡ 7 = ap (lead least greatest) (r .body .all) ∙ lead-head (a .0) (a .1) (render Faces (a .2)) (r .north) (r .south) in
+      let r = a .4 in
+      let h : headingLength (a .0) ≤ lead least greatest t =
+      rw (r .body .all) (lead-head (a .0) (a .1) (a .2) (render (levelOf (a .0)) (a .3)) (r .profiled) (r .north) (r .south)) in
+      let k = heading-least (a .0) in
       version-late t (omega arith)
 
   -- demand 3: "accepts it exactly when it is a text of 01's grammar"
@@ -284,13 +299,17 @@ module _ (t : List ℕ) where
 
   -- ---- the number and the sum are those of the reading
 
-  module _ (h : length t ≤ 65536) {n s : ℕ} {ns : Nodes} (r : ReadsAs n s t ns) where
+  module _ (h : length t ≤ 65536) {p : Profile} {n s : ℕ} {ns : Nodes} (r : ReadsAs p n s t ns) where
     -- "the number of whole cells and the sum of sizes that the reader reports are those of that reading"
-    pub accepted-answer : checkedOf t ≡ Text n s (length (wholeCells ns)) (sizeSum (wholeCells ns)) (bodyStart t)
-    unfolding checkedOf nodesOf northOf southOf
+    pub accepted-answer : checkedOf t ≡ Text p n s (length (wholeCells ns)) (sizeSum (wholeCells ns)) (bodyStart t)
+    unfolding checkedOf nodesOf profileOf northOf southOf
     accepted-answer =
-        ap (λ (x : ℕ). answer x t) (accepted-exactly .1 (h, (n, s, ns, r))) ∙ rw (read-accepted r)
+        ap (λ (x : ℕ). answer x t) (accepted-exactly .1 (h, (p, n, s, ns, r))) ∙ rw (read-accepted r)
 
     -- as the reader counts them
-    pub counted-answer : Text n s (count ns) (sizeAlong (9 ^ 15) ns) (bodyStart t) ≡ checkedOf t
-    counted-answer = rw (count-whole tt (omega arith) (r .body), size-whole tt (omega arith) (r .body)) (sym accepted-answer)
+    pub counted-answer : Text p n s (count ns) (sizeAlong (9 ^ 15) ns) (bodyStart t) ≡ checkedOf t
+    counted-answer =
+        rw (
+          count-whole (faces-of p) (depth-most p (r .profiled)) (r .body),
+          size-whole (faces-of p) (depth-most p (r .profiled)) (r .body),
+        ) (sym accepted-answer)

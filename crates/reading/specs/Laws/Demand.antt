@@ -11,10 +11,13 @@ use Rattle.code.specs.Code.{sizeOf}
 use Rattle.code.specs.Inside.{Inside}
 use Rattle.reading.specs.declared.Level.{Level}
 use Rattle.reading.specs.declared.Level.the-variants.{Faces}
+use Rattle.reading.specs.declared.Profile.{Profile}
 use Rattle.reading.specs.Reading.{Nodes, OfFaces, render, Good, names}
 use Rattle.reading.specs.Laws.Reading.{six-faces}
 use Rattle.reading.specs.Ground.{cellNamed, wholeCells, Finest, Covers, SameGround, Cells, Rising, Apart, sizeSum}
-use Rattle.reading.specs.Text.{heading, Reads, ReadsAs}
+use Rattle.reading.specs.Text.{levelOf, Reads, ReadsAs}
+use Rattle.reading.specs.Laws.Heading.{one-heading}
+use Rattle.reading.specs.Laws.Fits.{render-faces, good-faces}
 use Rattle.reading.specs.Report.{count, sizeAlong}
 use Rattle.reading.specs.Laws.Report.{count-names, along-sum}
 use Rattle.reading.specs.Laws.Parse.{render-one}
@@ -30,14 +33,13 @@ pub one-reading : {h : List ℕ} {l : Level} {d : ℕ} {t : List ℕ} {a b : Nod
 one-reading {h} {l} {d} {t} {a} {b} r q =
     render-one l d a b (r .good) (q .good) (append-cancel-left h (render l a) (render l b) (sym (r .all) ∙ q .all))
 
--- of version 1, its heading included
-pub one-reading-as : {n s n′ s′ : ℕ} {t : List ℕ} {a b : Nodes} → ReadsAs n s t a → ReadsAs n′ s′ t b → (n ≡ n′) × (s ≡ s′) × (a ≡ b)
-one-reading-as {n} {s} {n′} {s′} {t} {a} {b} r q =
-    let e : heading n s ++ render Faces a ≡ heading n′ s′ ++ render Faces b = sym (r .body .all) ∙ q .body .all in
-    let i : 48 + n ≡ 48 + n′ = cc in
-    let j : 48 + s ≡ 48 + s′ = cc in
-    let k : render Faces a ≡ render Faces b = cc in
-    (omega arith, omega arith, render-one Faces 15 a b (r .body .good) (q .body .good) k)
+-- of either version, its heading included
+pub one-reading-as :
+    {p p′ : Profile} {n s n′ s′ : ℕ} {t : List ℕ} {a b : Nodes} → ReadsAs p n s t a → ReadsAs p′ n′ s′ t b → (p ≡ p′) × (n ≡ n′) × (s ≡ s′) × (a ≡ b)
+one-reading-as {p} {p′} {n} {s} {n′} {s′} {t} {a} {b} r q =
+    let e = one-heading p p′ n s n′ s′ (render (levelOf p) a) (render (levelOf p′) b) (sym (r .body .all) ∙ q .body .all) in
+    let k : render Faces a ≡ render Faces b = sym (render-faces p a) ∙ e .3 ∙ render-faces p′ b in
+    (e .0, e .1, e .2, render-one Faces 15 a b (good-faces p a (r .profiled) (r .body .good)) (good-faces p′ b (q .profiled) (q .body .good)) k)
 
 -- nodes of the grammar are the reading of their own bytes
 pub good-reads : (ns : Nodes) (l : Level) (d : ℕ) → Good l d 0 ns → Reads [] l d (render l ns) ns
@@ -106,7 +108,7 @@ module _ {h : List ℕ} {l : Level} {d : ℕ} {t : List ℕ} {ns : Nodes} (f : O
 -- ---- "Any two accepted texts with the same .. heading cover the same finest cells exactly when they are the same bytes."
 
 module _ {h : List ℕ} {l : Level} {d : ℕ} {t u : List ℕ} {a b : Nodes} (f : OfFaces l) (m : d ≤ 15) (r : Reads h l d t a) (q : Reads h l d u b) where
-  same-nodes : SameGround (wholeCells a) (wholeCells b) → a ≡ b
+  pub same-nodes : SameGround (wholeCells a) (wholeCells b) → a ≡ b
   same-nodes g =
       let k : SameNames 6 15 (names a) (names b) =
       rw (whole-names f m r, whole-names f m q) at (ground-names (wholeCells a) (wholeCells b) (good-cells f m r) (good-cells f m q) g) in

@@ -1,6 +1,7 @@
 -- A ground has at most one list of fewest cells in rising order; the whole cells of a reading are those of its ground; and so every list of cells has
 -- the fewest cells of its ground in the text that is written of it. Assumes nothing.
 use mathlib.Core.Path.{_≡_, refl, sym, ap, ap₂, _∙_}
+use mathlib.Core.Bool.{true}
 use mathlib.Core.List.{List, [], _∷_, map}
 use Prim.Native.Nat.{ℕ, _≤_, _<_}
 use native.Mathlib.Omega.{arith}
@@ -9,21 +10,21 @@ use Rattle.cell.specs.declared.Cell.{Cell}
 use Rattle.cell.specs.Cell.{IsCell}
 use Rattle.code.specs.Code.{cellCode}
 use Rattle.reading.specs.declared.Level.{Level}
-use Rattle.reading.specs.declared.Level.the-variants.{Faces}
+use Rattle.reading.specs.declared.Profile.{Profile}
 use Rattle.reading.specs.Reading.{Nodes, OfFaces, names}
 use Rattle.reading.specs.Laws.Reading.{six-faces}
 use Rattle.reading.specs.Ground.{cellNamed, wholeCells, All, Covers, Fills, SameGround, Cells, Rising}
 use Rattle.reading.specs.Fewest.{FewestOf}
-use Rattle.reading.specs.Text.{heading, Reads}
+use Rattle.reading.specs.Text.{IsProfile, Reads}
 use Rattle.reading.specs.Prefix.{Name, numbersOf, Ahead}
 use Rattle.reading.specs.Laws.Named.{names-of-cells, ground-names, cell-named}
 use Rattle.reading.specs.Laws.Rising.{ahead-before, code-before}
 use Rattle.reading.specs.Laws.Fewest.{Ordered, one-names}
 use Rattle.reading.specs.Laws.Demand.{whole-names, good-cells, whole-cells, fewest}
-use Rattle.reading.specs.Written.{nodesFor, writtenText}
+use Rattle.reading.specs.Written.{nodesFor, writtenText, keeps}
 use Rattle.reading.specs.TextReading.{nodesOf}
 use Rattle.reading.specs.Laws.TextReading.{read-nodes}
-use Rattle.reading.specs.Laws.Written.{written-reads, written-ground}
+use Rattle.reading.specs.Laws.Written.{nodes-read, written-reads, written-ground}
 
 -- ---- cells that rise have names of which no later one is ahead
 
@@ -67,23 +68,22 @@ module _ {h : List ℕ} {l : Level} {d : ℕ} {t : List ℕ} {ns : Nodes} (f : O
 -- ---- any cells, "in any order, repeated or one inside another"
 
 module _ (qs : List Cell) (c : Cells qs) where
-  body : Reads (heading 0 0) Faces 15 (writtenText 0 0 qs) (nodesFor qs)
-  body = written-reads qs c 0 0 (omega arith) (omega arith) .body
-
-  -- the whole cells of the text that is written of them are the fewest of their ground
+  -- the whole cells of the nodes that are built of them are the fewest of their ground
   pub written-fewest : FewestOf (Covers qs) (wholeCells (nodesFor qs))
-  written-fewest = whole-fewest tt (omega arith) body (Covers qs) (λ x k. let w = written-ground qs c x k in (w .1, w .0))
+  written-fewest = whole-fewest tt (omega arith) (nodes-read qs c) (Covers qs) (λ x k. let w = written-ground qs c x k in (w .1, w .0))
 
-  pub text-fewest : (n s : ℕ) → n ≤ 3 → s ≤ 3 → FewestOf (Covers qs) (wholeCells (nodesOf (writtenText n s qs)))
-  text-fewest n s a b = rw (read-nodes (written-reads qs c n s a b)) written-fewest
+  -- and so are those of the text that is written
+  pub text-fewest :
+      (p : Profile) (n s : ℕ) → IsProfile p → keeps p qs ≡ true → n ≤ 3 → s ≤ 3 → FewestOf (Covers qs) (wholeCells (nodesOf (writtenText p n s qs)))
+  text-fewest p n s q k a b = rw (read-nodes (written-reads qs c p n s q k a b)) written-fewest
 
   -- a list of fewest cells of any ground that they fill is that
   only-fewest : (P : Cell → Type 0) → Fills P qs → (ps : List Cell) → FewestOf P ps → ps ≡ wholeCells (nodesFor qs)
   only-fewest P e ps b =
       let w = written-ground qs c in
       let i : Fills P (wholeCells (nodesFor qs)) = λ x k. ((λ j. e x k .0 (w x k .1 j)), (λ j. w x k .0 (e x k .1 j))) in
-      only-whole tt (omega arith) body ps (b .cells) (b .rising) (λ x k. ((λ j. i x k .1 (b .fills x k .0 j)), (λ j. b .fills x k .1 (i x k .0 j))))
-      (b .fewest (wholeCells (nodesFor qs)) (good-cells tt (omega arith) body) i)
+      only-whole tt (omega arith) (nodes-read qs c) ps (b .cells) (b .rising) (λ x k. ((λ j. i x k .1 (b .fills x k .0 j)), (λ j. b .fills x k .1 (i x k .0 j))))
+      (b .fewest (wholeCells (nodesFor qs)) (good-cells tt (omega arith) (nodes-read qs c)) i)
 
 -- "the fewest cells in rising order": a ground has at most one such list
 pub one-fewest : (P : Cell → Type 0) (qs ps : List Cell) → FewestOf P qs → FewestOf P ps → qs ≡ ps

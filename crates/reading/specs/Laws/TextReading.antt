@@ -1,77 +1,101 @@
 -- A text is accepted exactly when it is read to the end, and then it is read as its reading. Assumes nothing.
-use mathlib.Core.Path.{_≡_, refl, sym, ap, subst, _∙_}
-use mathlib.Core.Bool.{true}
+use mathlib.Core.Path.{_≡_, refl, sym, ap, ap₂, subst, _∙_}
+use mathlib.Core.Bool.{true, false}
 use mathlib.Core.List.{List, [], _∷_, _++_, append-nil}
 use Prim.Native.Nat.{ℕ, suc, _+_, _-_, _≤_}
 use native.Mathlib.Omega.{arith}
 use lib.ListN.{length, drop, take, getD}
 use lib.Dec.{ltb}
-use borrow.Author.Tests.{ltb-false}
+use borrow.Author.Tests.{le-ltb, ltb-false}
 use Rattle.logic.specs.Laws.Bools.{by-cond, clash}
 use Rattle.cell.specs.Cell.{IsArrangement}
 use Rattle.reading.specs.declared.Level.the-variants.{Faces}
+use Rattle.reading.specs.declared.Profile.{Profile}
 use Rattle.reading.specs.Reading.{Nodes, render, Good}
-use Rattle.reading.specs.Text.{heading, ReadsAs, Accepted}
+use Rattle.reading.specs.Text.{IsProfile, levelOf, depthOf, heading, headingLength, Reads, ReadsAs, Accepted}
 use Rattle.reading.specs.Parse.{Parse, bad, got, parse}
 use Rattle.reading.specs.Laws.Parse.{Right, sound, complete}
-use Rattle.reading.specs.Heading.{least, greatest, lead}
-use Rattle.reading.specs.Laws.Heading.{lead-head, head-of}
-use Rattle.reading.specs.TextReading.{TextRead, noText, asText, toEnd, readText, nodesIn, northIn, southIn, wasRead, nodesOf, northOf, southOf, textArrangement, isText, bodyStart}
+use Rattle.reading.specs.Heading.{least, greatest, lead, profileIn}
+use Rattle.reading.specs.Laws.Heading.{length-head, drop-head, take-head, north-byte, south-byte, profile-head, lead-head, Headed, head-of}
+use Rattle.reading.specs.Laws.Fits.{good-faces, render-faces}
+use Rattle.reading.specs.TextReading.{TextRead, noText, asText, toEnd, readBy, readText, profileRead, nodesIn, northIn, southIn, wasRead}
+use Rattle.reading.specs.TextReading.{nodesOf, profileOf, northOf, southOf, textArrangement, isText, bodyStart}
 
-read-good : (n s : ℕ) (ns : Nodes) → n ≤ 3 → s ≤ 3 → Good Faces 15 0 ns → readText (heading n s ++ render Faces ns) ≡ asText n s ns
-unfolding readText toEnd
-read-good n s ns h k g =
-    let t : List ℕ = heading n s ++ render Faces ns in
-    let all : parse (suc (length t)) Faces 15 0 (render Faces ns) ≡ got ns [] =
-    rw append-nil at (complete ns (suc (length t)) Faces 15 0 [] g tt (omega (arith, ap length (append-nil (render Faces ns))))) in
-    let e : 48 + n - 48 ≡ n = omega arith in
-    let f : 48 + s - 48 ≡ s = omega arith in
-    rw (lead-head n s (render Faces ns) h k, all, e, f)
+module _ (p : Profile) (n s : ℕ) (ns : Nodes) (q : IsProfile p) (h : n ≤ 3) (k : s ≤ 3) (g : Good (levelOf p) (depthOf p) 0 ns) where
+  abbrev t : List ℕ
+  t = heading p n s ++ render (levelOf p) ns
 
-pub read-accepted : {n s : ℕ} {t : List ℕ} {ns : Nodes} → ReadsAs n s t ns → readText t ≡ asText n s ns
-read-accepted {n} {s} {t} {ns} r = rw (r .body .all) (read-good n s ns (r .north) (r .south) (r .body .good))
+  all : parse (suc (length t)) (levelOf p) (depthOf p) 0 (drop (headingLength p) t) ≡ got ns []
+  all =
+      ap (parse (suc (length t)) (levelOf p) (depthOf p) 0) (drop-head n s (render (levelOf p) ns) p ∙ sym (append-nil (render (levelOf p) ns)))
+      ∙ complete ns (suc (length t)) (levelOf p) (depthOf p) 0 [] g tt
+      (omega (arith, ap length (append-nil (render (levelOf p) ns)), length-head n s (render (levelOf p) ns) p))
+
+  read-good : readText t ≡ asText p n s ns
+  unfolding readText readBy toEnd
+  read-good =
+      let a : ltb (lead least greatest t) (headingLength p) ≡ false = le-ltb _ _ (lead-head p n s (render (levelOf p) ns) q h k) in
+      let e : getD t 5 0 - 48 ≡ n = omega (arith, north-byte n s (render (levelOf p) ns) p) in
+      let f : getD t 6 0 - 48 ≡ s = omega (arith, south-byte n s (render (levelOf p) ns) p) in
+      ap (λ (o : Profile). readBy o t) (profile-head n s (render (levelOf p) ns) p)
+      ∙ rw (a, all, e, f)
+
+pub read-accepted : {p : Profile} {n s : ℕ} {t : List ℕ} {ns : Nodes} → ReadsAs p n s t ns → readText t ≡ asText p n s ns
+read-accepted {p} {n} {s} {t} {ns} r = ap readText (r .body .all) ∙ read-good p n s ns (r .profiled) (r .north) (r .south) (r .body .good)
 
 -- what a result says of a text
 abbrev Says : List ℕ → TextRead → Type 0
 Says t noText = Unit {0}
-Says t (asText n s ns) = ReadsAs n s t ns
+Says t (asText p n s ns) = ReadsAs p n s t ns
 
-says-end : (t : List ℕ) (p : Parse) → 7 ≤ lead least greatest t → Right Faces 15 0 (drop 7 t) p → Says t (toEnd (getD t 5 0 - 48) (getD t 6 0 - 48) p)
-unfolding toEnd
-says-end t bad h r = tt
-says-end t (got ns []) h r =
-    let k = head-of t h in
-    let b : getD t 5 0 ≡ 48 + k .0 = ap (λ (x : List ℕ). getD x 5 0) (k .4) in
-    let c : getD t 6 0 ≡ 48 + k .1 = ap (λ (x : List ℕ). getD x 6 0) (k .4) in
-    let n : getD t 5 0 - 48 ≡ k .0 = omega arith in
-    let s : getD t 6 0 - 48 ≡ k .1 = omega arith in
-    rw (n, s)
-    (record {
-      north = k .2;
-      south = k .3;
-      body = record { good = r .0; all = k .4 ∙ ap (λ (x : List ℕ). heading (k .0) (k .1) ++ x) (r .1 ∙ append-nil (render Faces ns)) };
-    })
-says-end t (got ns (b ∷ rest)) h r = tt
+module _ (t : List ℕ) (p : Profile) (k : Headed p t) where
+  bytes : (getD t 5 0 - 48 ≡ k .north) × (getD t 6 0 - 48 ≡ k .south)
+  bytes =
+      let b : getD t 5 0 ≡ 48 + k .north = ap (λ (x : List ℕ). getD x 5 0) (k .all) ∙ north-byte (k .north) (k .south) (drop (headingLength p) t) p in
+      let c : getD t 6 0 ≡ 48 + k .south = ap (λ (x : List ℕ). getD x 6 0) (k .all) ∙ south-byte (k .north) (k .south) (drop (headingLength p) t) p in
+      (omega arith, omega arith)
+
+  says-end : (r : Parse) → Right (levelOf p) (depthOf p) 0 (drop (headingLength p) t) r → Says t (toEnd p (getD t 5 0 - 48) (getD t 6 0 - 48) r)
+  unfolding toEnd
+  says-end bad r = tt
+  says-end (got ns []) r =
+      let n : getD t 5 0 - 48 ≡ k .north = bytes .0 in
+      let s : getD t 6 0 - 48 ≡ k .south = bytes .1 in
+      rw (n, s)
+      (record {
+        profiled = k .profiled;
+        north = k .northern;
+        south = k .southern;
+        body =
+            record {
+              good = r .0;
+              all = k .all ∙ ap (λ (x : List ℕ). heading p (k .north) (k .south) ++ x) (r .1 ∙ append-nil (render (levelOf p) ns));
+            };
+      })
+  says-end (got ns (b ∷ rest)) r = tt
 
 says : (t : List ℕ) → Says t (readText t)
-unfolding readText
+unfolding readText readBy
 says t =
-    by-cond (Says t) (ltb (lead least greatest t) 7) (λ _. tt)
-    (λ k. says-end t (parse (suc (length t)) Faces 15 0 (drop 7 t)) (ltb-false _ _ k) (sound (suc (length t)) Faces 15 0 (drop 7 t)))
+    by-cond (Says t) (ltb (lead least greatest t) (headingLength (profileIn t))) (λ _. tt)
+    (λ k.
+    let p = profileIn t in
+    says-end t p (head-of t (ltb-false _ _ k)) (parse (suc (length t)) (levelOf p) (depthOf p) 0 (drop (headingLength p) t))
+    (sound (suc (length t)) (levelOf p) (depthOf p) 0 (drop (headingLength p) t)))
 
-pub accepted-read : {n s : ℕ} {t : List ℕ} {ns : Nodes} → readText t ≡ asText n s ns → ReadsAs n s t ns
+pub accepted-read : {p : Profile} {n s : ℕ} {t : List ℕ} {ns : Nodes} → readText t ≡ asText p n s ns → ReadsAs p n s t ns
 accepted-read {t = t} e = subst (λ (x : TextRead). Says t x) e (says t)
 
 -- so a text that is not read is not accepted
 pub not-read : (t : List ℕ) → readText t ≡ noText → Accepted t → ⊥
 not-read t e a =
-    let f = read-accepted (a .3) in
+    let f = read-accepted (a .4) in
     let z : _≡_ {A = ℕ} 0 1 = cc in
     omega arith
 
 -- ---- so what is computed of a text is its reading's
 
-module _ {n s : ℕ} {t : List ℕ} {ns : Nodes} (r : ReadsAs n s t ns) where
+module _ {p : Profile} {n s : ℕ} {t : List ℕ} {ns : Nodes} (r : ReadsAs p n s t ns) where
   pub read-text : isText t ≡ true
   unfolding isText
   read-text = ap wasRead (read-accepted r)
@@ -79,6 +103,10 @@ module _ {n s : ℕ} {t : List ℕ} {ns : Nodes} (r : ReadsAs n s t ns) where
   pub read-nodes : nodesOf t ≡ ns
   unfolding nodesOf
   read-nodes = ap nodesIn (read-accepted r)
+
+  pub read-profile : profileOf t ≡ p
+  unfolding profileOf
+  read-profile = ap profileRead (read-accepted r)
 
   pub read-north : northOf t ≡ n
   unfolding northOf
@@ -89,17 +117,18 @@ module _ {n s : ℕ} {t : List ℕ} {ns : Nodes} (r : ReadsAs n s t ns) where
   read-south = ap southIn (read-accepted r)
 
 -- what a text of the grammar is read as reads it
-pub reads-own : (t : List ℕ) → isText t ≡ true → ReadsAs (northOf t) (southOf t) t (nodesOf t)
-unfolding isText nodesOf northOf southOf
+pub reads-own : (t : List ℕ) → isText t ≡ true → ReadsAs (profileOf t) (northOf t) (southOf t) t (nodesOf t)
+unfolding isText nodesOf profileOf northOf southOf
 reads-own t e = go (readText t) refl e
   where
-    go : (x : TextRead) → readText t ≡ x → wasRead x ≡ true → ReadsAs (northIn x) (southIn x) t (nodesIn x)
+    go : (x : TextRead) → readText t ≡ x → wasRead x ≡ true → ReadsAs (profileRead x) (northIn x) (southIn x) t (nodesIn x)
     go noText q h = clash (sym h)
-    go (asText n s ns) q h = accepted-read q
+    go (asText p n s ns) q h = accepted-read q
 
 module _ (t : List ℕ) (e : isText t ≡ true) where
+  -- the nodes of either version are nodes of version 1
   pub good-nodes : Good Faces 15 0 (nodesOf t)
-  good-nodes = reads-own t e .body .good
+  good-nodes = let r = reads-own t e in good-faces (profileOf t) (nodesOf t) (r .profiled) (r .body .good)
 
   pub text-arranged : IsArrangement (textArrangement t)
   text-arranged = let r = reads-own t e in record { northern = r .north; southern = r .south }
@@ -107,14 +136,22 @@ module _ (t : List ℕ) (e : isText t ≡ true) where
   -- ---- where the body starts
 
   pub body-within : bodyStart t ≤ length t
-  body-within = omega (arith, ap length (reads-own t e .body .all))
+  body-within = omega (arith, ap length (reads-own t e .body .all), length-head (northOf t) (southOf t) (render (levelOf (profileOf t)) (nodesOf t)) (profileOf t))
 
   pub body-nodes : drop (bodyStart t) t ≡ render Faces (nodesOf t)
-  body-nodes = ap (drop 7) (reads-own t e .body .all)
+  body-nodes =
+      ap (drop (bodyStart t)) (reads-own t e .body .all) ∙ drop-head (northOf t) (southOf t) (render (levelOf (profileOf t)) (nodesOf t)) (profileOf t)
+      ∙ render-faces (profileOf t) (nodesOf t)
 
-pub body-seven : (t : List ℕ) → bodyStart t ≡ 7
-body-seven t = refl
+  -- read without its heading, a text is as one of version 1
+  pub reads-body : Reads [] Faces 15 (drop (bodyStart t) t) (nodesOf t)
+  reads-body = record { good = good-nodes; all = body-nodes }
 
 -- the bytes before it are the heading, and those from it on the body
-pub body-start : {n s : ℕ} {t : List ℕ} {ns : Nodes} → ReadsAs n s t ns → (take (bodyStart t) t ≡ heading n s) × (drop (bodyStart t) t ≡ render Faces ns)
-body-start r = (ap (take 7) (r .body .all), ap (drop 7) (r .body .all))
+pub body-start :
+    {p : Profile} {n s : ℕ} {t : List ℕ} {ns : Nodes} → ReadsAs p n s t ns → (take (bodyStart t) t ≡ heading p n s) × (drop (bodyStart t) t ≡ render Faces ns)
+body-start {p} {n} {s} {t} {ns} r =
+    let b : bodyStart t ≡ headingLength p = ap headingLength (read-profile r) in (
+      ap₂ take b (r .body .all) ∙ take-head n s (render (levelOf p) ns) p,
+      ap₂ drop b (r .body .all) ∙ drop-head n s (render (levelOf p) ns) p ∙ render-faces p ns,
+    )

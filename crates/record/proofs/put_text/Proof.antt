@@ -50,9 +50,9 @@ returns-2 c =
     let a = c .before .before .before .before .before .before .before .before .before .before .before .args in
     let w = c .before .before .before .before .before .write in
     let codes = take (a .memory .count) (a .codes .now) in
-    let fits = text-fits (a .setting .arrangement) codes (a .text .now) (w .last .1 .1 .0) (w .ensures .0) _ (c .before .length .given .1) in (
+    let fits = text-fits 1 15 (a .setting .arrangement) codes (a .text .now) (w .last .1 .1 .1 .1 .0) (w .ensures .0) _ (c .before .length .given .1) in (
       c .before .before .before .before .before .before .before .before .if1 .left,
-      text-put (a .setting .arrangement) codes (a .text .now) _ (w .ensures .0) _
+      text-put 1 15 (a .setting .arrangement) codes (a .text .now) _ (w .ensures .0) _
           (c .before .length .given .1) (w .ensures .1),
       omega (arith, fits),
     )
@@ -64,7 +64,7 @@ returns-3 : tie.Need-returns-3
 returns-3 c =
     let a = c .before .before .before .before .before .before .before .before .before .before .before .before .before .before .args in
     let w = c .before .before .before .before .before .before .before .before .write in
-    let k = text-refused (a .setting .arrangement) (take (a .memory .count) (a .codes .now)) (a .text .now) (w .last .1 .1 .0) (w .ensures .0) _
+    let k = text-refused 1 15 (a .setting .arrangement) (take (a .memory .count) (a .codes .now)) (a .text .now) (w .last .1 .1 .1 .1 .0) (w .ensures .0) _
     (c .before .before .before .before .refusal .given .1) in
     inr (λ z. k .1 (sym (k .0) ∙ z))
 

@@ -16,6 +16,8 @@ use Rattle.writing.proofs.measure_node.Reads as measure-node
 use Rattle.writing.proofs.measure_node.Kinds as measure-node-kinds
 use Rattle.writing.proofs.+measure_list+measure_node.Lts-measure_node as measure-node-lts
 use Rattle.writing.proofs.start_at.Reads as start-at-reads
+use Rattle.writing.proofs.greater.Reads as greater-reads
+use Rattle.writing.proofs.depth_above.Reads as depth-above-reads
 use Rattle.code.proofs.size_in.Reads as size-in-reads
 use Rattle.writing.proofs.+measure_list+measure_node.{statement}
 use Rattle.writing.proofs.+measure_list+measure_node.Tie.{close}
@@ -52,17 +54,17 @@ measure-node-below t =
 
 -- what the callees of each are said to do
 abbrev for-list : ℕ → measure-list-lts.Claims
-for-list t = (start-at-reads.Asked, start-at-reads.Learnt, measure-node-below t, measure-node.Post)
+for-list t = (start-at-reads.Asked, start-at-reads.Learnt, measure-node-below t, measure-node.Post, greater-reads.Asked, greater-reads.Learnt)
 
 abbrev for-node : ℕ → measure-node-lts.Claims
-for-node t = (size-in-reads.Asked, size-in-reads.Learnt, measure-list-below t, measure-list.Post)
+for-node t = (size-in-reads.Asked, size-in-reads.Learnt, measure-list-below t, measure-list.Post, depth-above-reads.Asked, depth-above-reads.Learnt)
 
 abbrev measure-list-Inv-loop : measure-list-lts.InvT-loop
-measure-list-Inv-loop codes at left start size next₀ first₀ child₀ bytes₀ wholes₀ more₀ next first child bytes wholes more =
-    ms.Measuring codes at left start size next first child bytes wholes more
+measure-list-Inv-loop codes at left start size next₀ first₀ child₀ bytes₀ wholes₀ depth₀ more₀ next first child bytes wholes depth more =
+    ms.Measuring codes at left start size next first child bytes wholes depth more
 
 abbrev measure-list-μ-loop : measure-list-lts.MeasureT-loop
-measure-list-μ-loop codes at left start size next₀ first₀ child₀ bytes₀ wholes₀ more₀ next first child bytes wholes more =
+measure-list-μ-loop codes at left start size next₀ first₀ child₀ bytes₀ wholes₀ depth₀ more₀ next first child bytes wholes depth more =
     more
 
 measure-list-start-at-requires : (t : ℕ) → measure-list-lts.Need-start-at-requires (for-list t) (measure-list-at t) measure-list.Post measure-list-Inv-loop measure-list-μ-loop
@@ -99,6 +101,9 @@ measure-list-add-bytes t c =
 measure-list-add-wholes : (t : ℕ) → measure-list-lts.Need-add-wholes (for-list t) (measure-list-at t) measure-list.Post measure-list-Inv-loop measure-list-μ-loop
 measure-list-add-wholes t c = search needs
 
+measure-list-greater-requires : (t : ℕ) → measure-list-lts.Need-greater-requires (for-list t) (measure-list-at t) measure-list.Post measure-list-Inv-loop measure-list-μ-loop
+measure-list-greater-requires t c κs = search needs
+
 measure-list-start-at-requires-2 : (t : ℕ) → measure-list-lts.Need-start-at-requires-2 (for-list t) (measure-list-at t) measure-list.Post measure-list-Inv-loop measure-list-μ-loop
 measure-list-start-at-requires-2 t c κs = search needs
 
@@ -111,8 +116,8 @@ measure-list-loop-less t c = search needs
 measure-list-loop-again : (t : ℕ) → measure-list-lts.Need-loop-again (for-list t) (measure-list-at t) measure-list.Post measure-list-Inv-loop measure-list-μ-loop
 measure-list-loop-again t c =
     let v = c .before .before .loop .inv in
-    ⊎-elim (λ x. ms.l-takes (omega arith) v (λ e. omega arith) (x .0 .taken) (x .1 .ensures) (x .4 .ensures) (x .5) (x .6) (x .7) (x .8))
-    (λ x. ms.l-skips (omega arith) v (λ e. omega arith) (λ l. omega (arith, x .0 .left)) (x .1) (x .2) (x .3) (x .4))
+    ⊎-elim (λ x. ms.l-takes (omega arith) v (λ e. omega arith) (x .0 .taken) (x .1 .ensures) (x .5 .ensures) (x .6) (x .7) (x .8) (x .9) (x .10 ∙ x .4 .ensures))
+    (λ x. ms.l-skips (omega arith) v (λ e. omega arith) (λ l. omega (arith, x .0 .left)) (x .1) (x .2) (x .3) (x .4) (x .5))
     (c .if1 .came)
 
 measure-list-returns : (t : ℕ) → measure-list-lts.Need-returns (for-list t) (measure-list-at t) measure-list.Post measure-list-Inv-loop measure-list-μ-loop
@@ -150,11 +155,14 @@ measure-node-returns-3 t c =
 measure-node-add-t11 : (t : ℕ) → measure-node-lts.Need-add-t11 (for-node t) (measure-node-at t) measure-node.Post
 measure-node-add-t11 t c = omega (arith, c .before .before .before .measure-list .ensures .short)
 
+measure-node-depth-above-requires : (t : ℕ) → measure-node-lts.Need-depth-above-requires (for-node t) (measure-node-at t) measure-node.Post
+measure-node-depth-above-requires t c κs = omega (arith, c .before .before .before .measure-list .ensures .shallow)
+
 measure-node-returns-4 : (t : ℕ) → measure-node-lts.Need-returns-4 (for-node t) (measure-node-at t) measure-node.Post
 measure-node-returns-4 t c =
-    let t = c .before .before .before .before in
-    ms.n-held (omega arith) (t .before .before .before .if1 .left) (λ e. t .if2 .left (t .before .size-in .ensures ∙ e)) (c .before .before .before .measure-list .ensures)
-    (c .before .if3 .left)
+    let t = c .before .before .before .before .before in
+    ms.n-held (omega arith) (t .before .before .before .if1 .left) (λ e. t .if2 .left (t .before .size-in .ensures ∙ e)) (c .before .before .before .before .measure-list .ensures)
+    (c .before .before .if3 .left) (c .depth-above .ensures)
 
 pub +measure-list+measure-node-spec : {M : Type 1} → statement M
 +measure-list+measure-node-spec = close μ-measure-list μ-measure-node (λ t. measure-list-lts.spec (for-list t)
@@ -168,6 +176,7 @@ pub +measure-list+measure-node-spec : {M : Type 1} → statement M
     (measure-list-measure-node-requires t)
     (measure-list-add-bytes t)
     (measure-list-add-wholes t)
+    (measure-list-greater-requires t)
     (measure-list-start-at-requires-2 t)
     (measure-list-sub-more t)
     (measure-list-loop-less t)
@@ -187,4 +196,5 @@ pub +measure-list+measure-node-spec : {M : Type 1} → statement M
     (measure-node-measure-list-requires t)
     (measure-node-returns-3 t)
     (measure-node-add-t11 t)
+    (measure-node-depth-above-requires t)
     (measure-node-returns-4 t)

@@ -1,101 +1,71 @@
--- `writing::write` meets its contract: the refusals in their order, and then the text. Assumes nothing.
-use native.Mathlib.Omega.{arith}
-use mathlib.Core.Path.{_≡_, refl, sym, _∙_}
-use mathlib.Core.List.{[]}
-use lib.ListN.{length}
-use Rattle.cell.specs.Cell.{arrangementRefusal}
-use Rattle.cell.specs.Laws.Cell.{is-arrangement}
-use Rattle.reading.specs.declared.Level.the-variants.{Faces}
-use Rattle.writing.specs.Write.{codesRefusal}
-use Rattle.writing.specs.Laws.List.{good-list, in-turn}
-use Rattle.writing.specs.Internal.EntryLaws.{top-at, top-text}
+-- `writing::write` meets its contract: what is asked, and then the text in its profile. Assumes nothing.
+use mathlib.Core.Path.{_≡_, sym, ap, _∙_}
+use mathlib.Core.Bool.{Bool, cond}
+use borrow.Author.Tests.{eq-eqb, ne-eqb}
+use Rattle.reading.specs.declared.Profile.the-variants.{Full, Handheld}
+use Rattle.writing.specs.Internal.Asked.{askedRefusal}
+use Rattle.writing.specs.Laws.List.{list-good}
+use Rattle.writing.specs.Laws.Profile.{asked-exactly}
 use Rattle.writing.proofs.EntrySteps as es
 use borrow.Author.Needs.{needs}
 use Rattle.writing.proofs.write.Statement.{statement}
 use Rattle.writing.proofs.write.Tie as tie
 
--- past the tests of the arrangement and of the list
-arranged : (c : tie.Else2) → arrangementRefusal (c .before .before .before .before .before .before .args .arrangement) ≡ 0
-arranged c = sym (c .before .before .before .refusal .ensures) ∙ c .before .before .if1 .left
+asked : (c : tie.Else1) → let a = c .before .before .before .before .args in askedRefusal (a .version) (a .depth) (a .arrangement) (a .codes .now) ≡ 0
+asked c = sym (c .before .asked-refusal .ensures) ∙ c .if1 .left
 
-good : (c : tie.Else2) → let a = c .before .before .before .before .before .before .args in codesRefusal (a .arrangement) (a .codes .now) ≡ 0
-good c = sym (c .before .list-refusal .ensures) ∙ c .if2 .left
-
-refusal-requires : tie.Need-refusal-requires
-refusal-requires c κs = search needs
+asked-refusal-requires : tie.Need-asked-refusal-requires
+asked-refusal-requires c κs = search needs
 
 returns : tie.Need-returns
 returns c =
     let a = c .before .before .before .before .args in
-    let e = c .before .refusal .ensures in
-    es.refused _ _ _ _ _ (es.first (a .arrangement) (a .codes .now) (length (a .text .now)) (λ z. c .if1 .taken (e ∙ z)) ∙ sym e) (c .if1 .taken)
+    let e = c .before .asked-refusal .ensures in
+    es.refused _ _ _ _ _ (es.asked-refused (a .version) (a .depth) (a .arrangement) (a .codes .now) (a .text .now) (λ z. c .if1 .taken (e ∙ z)) ∙ sym e) (c .if1 .taken)
 
-list-refusal-requires : tie.Need-list-refusal-requires
-list-refusal-requires c κs = is-arrangement (sym (c .before .refusal .ensures) ∙ c .if1 .left)
-
-returns-2 : tie.Need-returns-2
-returns-2 c =
-    let a = c .before .before .before .before .before .before .args in
-    let e = c .before .list-refusal .ensures in
-    let f = sym (c .before .before .before .refusal .ensures) ∙ c .before .before .if1 .left in
-    es.refused _ _ _ _ _ (es.second (a .arrangement) (a .codes .now) (length (a .text .now)) f (λ z. c .if2 .taken (e ∙ z)) ∙ sym e) (c .if2 .taken)
-
-length-of-requires : tie.Need-length-of-requires
-length-of-requires c κs = let g = good c in (good-list _ _ g .coded, in-turn _ _ g)
-
-returns-3 : tie.Need-returns-3
-returns-3 c =
+write-good-requires : tie.Need-write-good-requires
+write-good-requires c κs =
     let g = c .before .before in
-    let a = g .before .before .before .before .before .before .args in
-    let e = c .before .length-of .ensures .is (a .arrangement) in
-    es.refused _ _ _ _ _ (es.third (a .arrangement) (a .codes .now) (length (a .text .now)) (arranged g) (good g) (omega (arith, c .if3 .taken))) (λ z. omega arith)
-
-returns-4 : tie.Need-returns-4
-returns-4 c =
-    let g = c .before .before .before in
-    let a = g .before .before .before .before .before .before .args in
-    let e = c .before .before .length-of .ensures .is (a .arrangement) in
-    es.refused _ _ _ _ _
-    (es.fourth (a .arrangement) (a .codes .now) (length (a .text .now)) (arranged g) (good g) (omega (arith, c .before .if3 .left)) (omega (arith, c .if4 .taken)))
-    (λ z. omega arith)
-
-put-heading-requires : tie.Need-put-heading-requires
-put-heading-requires c κs =
-    let v = is-arrangement (arranged (c .before .before .before .before)) in
-    (v .northern, v .southern)
-
-put-list-requires : tie.Need-put-list-requires
-put-list-requires c κs =
-    let g = good (c .before .before .before .before .before .before .before .before) in
-    (good-list _ _ g .coded, omega arith, omega arith, omega arith, omega arith, omega arith, omega arith)
+    let a = g .before .before .before .before .args in
+    let q = asked-exactly (a .version) (a .depth) (a .arrangement) (a .codes .now) 0 .0 (asked g) in
+    (tt, q .arranged, list-good _ _ (q .good))
 
 same-length : tie.Need-same-length
 same-length c = search needs
 
-returns-5 : tie.Need-returns-5
-returns-5 c =
-    let f = c .before .before .before .before .before .before .before .before in
-    let g = f .before .before .before in
-    let a = g .before .before .before .before .before .before .args in
-    let e = f .before .before .length-of .ensures .is (a .arrangement) in
-    es.answered _ _ _ _ _ _
-    (es.nothing (a .arrangement) (a .codes .now) (length (a .text .now)) (arranged g) (good g) (omega (arith, f .before .if3 .left)) (omega (arith, f .if4 .left)))
-    e
-    (top-text (a .arrangement) (a .codes .now) (a .text .now) _ _ _ (omega (arith, f .if4 .left)) (c .before .before .before .before .before .before .put-heading .ensures)
-    (c .before .before .put-list .ensures .is Faces [] 0 15 refl (top-at (a .codes .now) (good-list _ _ (good g) .coded) (in-turn _ _ (good g)))))
+returns-2 : tie.Need-returns-2
+returns-2 c =
+    let i = c .before .before .before .before in
+    let a = i .before .before .before .before .before .args in
+    es.fit-answered (a .version) (a .depth) (a .arrangement) (a .codes .now) (a .text .now) Full
+    (ap (λ (b : Bool). cond b Full (Handheld (a .depth))) (eq-eqb (a .version) 1 (i .if2 .taken))) (asked (i .before)) (c .before .before .write-good .ensures)
+
+write-good-requires-2 : tie.Need-write-good-requires-2
+write-good-requires-2 c κs =
+    let g = c .before .before in
+    let a = g .before .before .before .before .args in
+    let q = asked-exactly (a .version) (a .depth) (a .arrangement) (a .codes .now) 0 .0 (asked g) in
+    (q .deep, q .arranged, list-good _ _ (q .good))
+
+same-length-2 : tie.Need-same-length-2
+same-length-2 c = search needs
+
+returns-3 : tie.Need-returns-3
+returns-3 c =
+    let i = c .before .before .before .before in
+    let a = i .before .before .before .before .before .args in
+    es.fit-answered (a .version) (a .depth) (a .arrangement) (a .codes .now) (a .text .now) (Handheld (a .depth))
+    (ap (λ (b : Bool). cond b Full (Handheld (a .depth))) (ne-eqb (a .version) 1 (i .if2 .left))) (asked (i .before)) (c .before .before .write-good2 .ensures)
 
 pub write-spec : {M : Type 1} → statement M
 write-spec =
     tie.close
     (tie.spec
-    refusal-requires
+    asked-refusal-requires
     returns
-    list-refusal-requires
-    returns-2
-    length-of-requires
-    returns-3
-    returns-4
-    put-heading-requires
-    put-list-requires
+    write-good-requires
     same-length
-    returns-5)
+    returns-2
+    write-good-requires-2
+    same-length-2
+    returns-3)

@@ -5,7 +5,7 @@ use mathlib.Core.Logic.{_⊎_, inl, inr, ⊎-elim}
 use mathlib.Core.List.{List, [], _∷_, _++_, map}
 use Prim.Native.Nat.{ℕ, _+_, _-_, _*_, _≤_}
 use native.Mathlib.Omega.{arith}
-use lib.ListN.{length, drop}
+use lib.ListN.{length, drop, length-append}
 use lib.Seq.{sets, sets-eq}
 use Rattle.logic.specs.Laws.Stores.{sets-append}
 use Rattle.logic.specs.Laws.Order.{lt-or, three-ways}
@@ -18,13 +18,16 @@ use Rattle.code.specs.Inside.{startOf, endOf}
 use Rattle.code.specs.Laws.Inside.{size-pos, inside-within}
 use Rattle.reading.specs.declared.Level.the-variants.{Faces}
 use Rattle.reading.specs.Reading.{Nodes, render}
-use Rattle.reading.specs.Text.{heading}
+use Rattle.reading.specs.declared.Profile.{Profile}
+use Rattle.reading.specs.declared.Profile.the-variants.{Full, Handheld}
+use Rattle.reading.specs.Text.{levelOf, heading, headingLength}
+use Rattle.reading.specs.Laws.Fits.{render-faces}
 use Rattle.reading.specs.Ground.{cellNamed, Cells}
 use Rattle.reading.specs.Prefix.{Name, numbersOf, Prefix, AreNames, Ahead, AheadAll, InOrder}
 use Rattle.reading.specs.Laws.Named.{prefix-inside, names-of-cells}
 use Rattle.reading.specs.Laws.Rising.{ahead-before}
 use Rattle.writing.specs.declared.WrittenTo.{WrittenTo}
-use Rattle.reading.specs.Written.{side, built, writtenText, under}
+use Rattle.reading.specs.Written.{side, built, nodesFor, writtenText, under}
 use Rattle.writing.specs.Write.{allCodes, InTurn, textOf, textIn}
 use Rattle.reading.specs.Laws.Built.{built-side}
 use Rattle.writing.specs.Laws.List.{codes-cells}
@@ -70,7 +73,7 @@ since-faces [] n = tt
 since-faces ([] ∷ qs) n = absurd (n .0)
 since-faces ((x ∷ q) ∷ qs) n = (⊎-elim (λ l. inr (inl l)) (λ l. inl (omega arith, tt)) (lt-or 0 x), since-faces qs (n .1))
 
-face-start : (b : ℕ) → startOf (cellNamed (b ∷ [])) ≡ 0 + (b - 0) * 205891132094649
+pub face-start : (b : ℕ) → startOf (cellNamed (b ∷ [])) ≡ 0 + (b - 0) * 205891132094649
 unfolding startOf pathOf cellNamed digitsOf value
 face-start b = omega arith
 
@@ -90,29 +93,44 @@ module _ (codes : List ℕ) (t : allCodes codes ≡ true) (turn : InTurn (map ce
       }
 
 -- the nodes of the faces are those that are written
-faces-nodes : (codes : List ℕ) → side (under 15) 6 0 (restsOf [] (namesFrom codes 0)) ≡ built 15 6 (map numbersOf (map cellOf codes))
+pub faces-nodes : (codes : List ℕ) → side (under 15) 6 0 (restsOf [] (namesFrom codes 0)) ≡ built 15 6 (map numbersOf (map cellOf codes))
 unfolding restsOf
 faces-nodes codes = sym (built-side 15 6 (map numbersOf (map cellOf codes)))
 
 -- ---- the length, whatever n and s are
 
-pub top-length : (codes : List ℕ) (next bytes count : ℕ) → ListTakes codes 0 [] 0 6 15 next bytes count → (a : Arrangement) → bytes + 7 ≡ length (textOf a codes)
+heading-length : (p : Profile) (n s : ℕ) → length (heading p n s) ≡ headingLength p
+heading-length Full n s = refl
+heading-length (Handheld d) n s = refl
+
+pub heading-most : (p : Profile) → headingLength p ≤ 8
+heading-most Full = omega arith
+heading-most (Handheld d) = omega arith
+
+pub top-length :
+    (codes : List ℕ) (next bytes count : ℕ) → ListTakes codes 0 [] 0 6 15 next bytes count → (p : Profile) (a : Arrangement) →
+    bytes + headingLength p ≡ length (textOf p a codes)
 unfolding textOf writtenText
-top-length codes next bytes count t a =
-    let f : length (render Faces (built 15 6 (map numbersOf (map cellOf codes)))) ≡ bytes = ap (λ (ns : Nodes). length (render Faces ns)) (sym (faces-nodes codes)) ∙ t .long Faces in
-    omega arith
+top-length codes next bytes count t p a =
+    let ns : Nodes = nodesFor (map cellOf codes) in
+    let f : length (render (levelOf p) ns) ≡ bytes = ap (λ (x : Nodes). length (render (levelOf p) x)) (sym (faces-nodes codes)) ∙ t .long (levelOf p) in
+    omega (arith, length-append (heading p (a .north) (a .south)) (render (levelOf p) ns), heading-length p (a .north) (a .south))
 
 -- ---- the text
 
 pub top-text :
-    (a : Arrangement) (codes text mid later : List ℕ) (r : WrittenTo) → length (textOf a codes) ≤ length text → mid ≡ sets text 0 (heading (a .north) (a .south)) →
-    ListWrote codes 0 [] 15 7 Faces 0 6 mid later r → later ≡ textIn a codes text
+    (p : Profile) (a : Arrangement) (codes text mid later : List ℕ) (r : WrittenTo) → length (textOf p a codes) ≤ length text →
+    mid ≡ sets text 0 (heading p (a .north) (a .south)) → ListWrote codes 0 [] 15 (headingLength p) Faces 0 6 mid later r → later ≡ textIn p a codes text
 unfolding textOf writtenText textIn
-top-text a codes text mid later r h e u =
-    let n : ℕ = length (textOf a codes) in
+top-text p a codes text mid later r h e u =
+    let n : ℕ = length (textOf p a codes) in
     let z : 0 + n ≡ n = omega arith in
+    let hs : List ℕ = heading p (a .north) (a .south) in
+    let ns : Nodes = nodesFor (map cellOf codes) in
+    let l : headingLength p ≡ 0 + length hs = omega (arith, heading-length p (a .north) (a .south)) in
     u .wrote .holds
-    ∙ ap₂ (λ (ns : Nodes) (x : List ℕ). sets x 7 (render Faces ns)) (faces-nodes codes) e
-    ∙ sym (sets-append text 0 (heading (a .north) (a .south)) (render Faces (built 15 6 (map numbersOf (map cellOf codes)))))
-    ∙ sets-eq (textOf a codes) text 0 (omega arith)
-    ∙ ap (λ (m : ℕ). textOf a codes ++ drop m text) z
+    ∙ ap₂ (λ (b x : List ℕ). sets x (headingLength p) b) (ap (render Faces) (faces-nodes codes) ∙ sym (render-faces p ns)) e
+    ∙ ap (λ (m : ℕ). sets (sets text 0 hs) m (render (levelOf p) ns)) l
+    ∙ sym (sets-append text 0 hs (render (levelOf p) ns))
+    ∙ sets-eq (textOf p a codes) text 0 (omega arith)
+    ∙ ap (λ (m : ℕ). textOf p a codes ++ drop m text) z

@@ -16,6 +16,7 @@ use Rattle.writing.specs.declared.Measure.{Measure}
 use Rattle.reading.specs.Written.{nodeOf, side, under}
 use Rattle.writing.specs.Write.{allCodes}
 use Rattle.writing.specs.Internal.Take.{restsOf, Each, Standing, Took}
+use Rattle.writing.specs.Internal.Depth.{greater, depthOfNodes, levelFor}
 
 -- the names of the codes from a place on
 abbrev pub namesFrom : List ℕ → ℕ → List Name
@@ -67,6 +68,15 @@ pub record ListTakes (codes : List ℕ) (at : ℕ) (w : Name) (c left k next byt
   pub whole : wholesIn (side (under k) left c (restsOf w (namesFrom codes at))) ≡ wholes
   pub fills : Fills wholes left (9 ^ k) (sizeFrom codes at) (sizeFrom codes next)
 
+-- the node that is built of the names inside w keeps to this depth, and to no lesser one; so do the nodes of a list
+pub record NodeDepth (codes : List ℕ) (at : ℕ) (w : Name) (k depth : ℕ) : Type 0 where
+  pub is :
+      (u : Name) (c : ℕ) (rest : Nodes) → w ≡ u ++ (c ∷ []) →
+      depthOfNodes (levelFor k) (nodeOf (under k) c (restsOf w (namesFrom codes at)) rest) ≡ greater depth (depthOfNodes (levelFor k) rest)
+
+pub record ListDepth (codes : List ℕ) (at : ℕ) (w : Name) (c left k depth : ℕ) : Type 0 where
+  pub is : depthOfNodes (levelFor k) (side (under k) left c (restsOf w (namesFrom codes at))) ≡ depth
+
 -- ---- what is promised
 
 -- the first finest cell of the code at a place, or a number above all of them
@@ -79,9 +89,13 @@ pub record NodeMeasured (codes : List ℕ) (at start size : ℕ) (r : Measure) :
   pub inside : r .next ≤ length codes
   pub short : r .bytes + 1 ≤ 2 * size
   pub few : r .wholes ≤ 1
+  pub deep : (w : Name) (k : ℕ) → NodeAt codes at w start size k → NodeDepth codes at w k (r .depth)
+  pub shallow : r .depth ≤ size + 16
 
 pub record ListMeasured (codes : List ℕ) (at left start size : ℕ) (r : Measure) : Type 0 where
   pub is : (w : Name) (c k : ℕ) → ListAt codes at w c left start size k → ListTakes codes at w c left k (r .next) (r .bytes) (r .wholes)
   pub inside : r .next ≤ length codes
   pub short : r .bytes + left ≤ left * (2 * size)
   pub few : r .wholes ≤ left
+  pub deep : (w : Name) (c k : ℕ) → ListAt codes at w c left start size k → ListDepth codes at w c left k (r .depth)
+  pub shallow : r .depth ≤ size + 16

@@ -38,3 +38,8 @@ pub record ListPut (codes : List ℕ) (at left start size place byte : ℕ) (tex
   pub is : (l : Level) (w : Name) (c k : ℕ) → byte ≡ first l + c → ListAt codes at w c left start size k → ListWrote codes at w k place l c left text later r
   pub inside : r .next ≤ length codes
   pub short : r .place ≤ place + left * (2 * size - 1)
+
+-- ---- the bytes of heading that both versions have
+
+abbrev pub front : (version n s : ℕ) → List ℕ
+front version n s = 67 ∷ 86 ∷ 82 ∷ 0 ∷ version ∷ (48 + n) ∷ (48 + s) ∷ []

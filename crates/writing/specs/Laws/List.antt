@@ -7,7 +7,7 @@ use Prim.Native.Nat.{ℕ, _+_, _≤_, _<_}
 use native.Mathlib.Omega.{arith}
 use lib.Dec.{leb, ltb}
 use borrow.Author.Tests.{lt-ltb, le-leb, lt-leb, ltb-true, not-true, not-false}
-use Rattle.logic.specs.Laws.Bools.{and-left, and-right, clash}
+use Rattle.logic.specs.Laws.Bools.{and-left, and-right, clash, refuted}
 use Rattle.logic.specs.Refusal.{refuse, _otherwise_}
 use Rattle.logic.specs.Laws.Refusal.{allowed, both}
 use Rattle.cell.specs.declared.Cell.{Cell}
@@ -157,3 +157,23 @@ module _ (a : Arrangement) (codes : List ℕ) where
   pub list-good : GoodList a codes → codesRefusal a codes ≡ 0
   unfolding _otherwise_
   list-good g = tested (g .coded) (g .own) (list-ordered a codes (g .coded) (g .own) (g .rising) (g .apart))
+
+  -- a code that is no cell's comes before all else
+  pub four-exactly : (codesRefusal a codes ≡ 4) ↔ (allCodes codes ≡ false)
+  unfolding _otherwise_
+  four-exactly = ((λ e. refuted (allCodes codes) (λ t. four (allOf a codes) (ordered codes) (sym (tested t refl refl) ∙ e))), (λ t. tested t refl refl))
+    where
+      four : (o r : Bool) → refuse (not true) 4 otherwise refuse (not o) 14 otherwise refuse (not r) 11 ≡ 4 → ⊥
+      four true true e = omega arith
+      four true false e = omega arith
+      four false r e = omega arith
+
+  pub coded : (codesRefusal a codes ≡ 4 → ⊥) → allCodes codes ≡ true
+  coded h = go (allCodes codes) refl
+    where
+      go : (b : Bool) → allCodes codes ≡ b → b ≡ true
+      go true e = refl
+      go false e = absurd (h (four-exactly .1 e))
+
+  pub not-four : allCodes codes ≡ true → codesRefusal a codes ≡ 4 → ⊥
+  not-four t e = clash (sym t ∙ four-exactly .0 e)

@@ -1,23 +1,24 @@
 -- 14 is given exactly for a list of codes of which one is of another arrangement than the asked one. Assumes nothing.
-use mathlib.Core.Path.{_≡_, refl, sym, ap, _∙_}
-use mathlib.Core.Logic.{_↔_, inl, inr, ⊎-elim}
+use mathlib.Core.Path.{_≡_, refl, sym, _∙_}
+use mathlib.Core.Logic.{_↔_, _⊎_, inl, inr, ⊎-elim}
 use mathlib.Core.Bool.{Bool, true, false, _&&_, not}
 use mathlib.Core.List.{List, [], _∷_}
-use Prim.Native.Nat.{ℕ}
+use Prim.Native.Nat.{ℕ, _≤_}
 use native.Mathlib.Omega.{arith}
 use lib.Dec.{ltb}
-use lib.ListN.{length}
-use borrow.Author.Tests.{not-true, not-false}
+use borrow.Author.Tests.{ltb-false, not-true, not-false}
 use Rattle.logic.specs.Laws.Bools.{clash}
 use Rattle.logic.specs.Refusal.{refuse, _otherwise_}
 use Rattle.logic.specs.Laws.Refusal.{stops, passes, either, other, allowed}
 use Rattle.cell.specs.declared.Arrangement.{Arrangement}
-use Rattle.cell.specs.Cell.{IsArrangement, arrangementRefusal}
-use Rattle.cell.specs.Laws.Cell.{is-arrangement, arrangement-is, five-refused}
+use Rattle.cell.specs.Cell.{IsArrangement}
+use Rattle.cell.specs.Laws.Cell.{arrangement-is}
 use Rattle.code.specs.Code.{isOf}
 use Rattle.code.specs.Laws.Code.{of-arrangement, arrangement-of}
-use Rattle.writing.specs.Write.{allCodes, allOf, ordered, Another, codesRefusal, textOf, writeRefusal}
-use Rattle.writing.specs.Laws.List.{tested}
+use Rattle.writing.specs.Write.{allCodes, allOf, ordered, Another, codesRefusal, asksFor, isVersion, writeRefusal}
+use Rattle.writing.specs.Laws.List.{tested, not-four}
+use Rattle.writing.specs.Internal.Asked.{askedRefusal}
+use Rattle.writing.specs.Internal.AskedLaws.{behind, versions, asked-first, asked-list, fit-other, not-five}
 
 -- the test fails exactly where one is of another arrangement
 others : (a : Arrangement) (codes : List ℕ) → (allOf a codes ≡ false) ↔ Another a codes
@@ -53,18 +54,25 @@ module _ (a : Arrangement) (codes : List ℕ) where
   unfolding _otherwise_
   mixed-list t h = tested a codes t (others a codes .1 h) refl
 
-  -- "14 also for a list .. of another arrangement": whatever the order of the list, its text's length and the room are
-  pub mixed-exactly : (room : ℕ) → (writeRefusal a codes room ≡ 14) ↔ (IsArrangement a × (allCodes codes ≡ true) × Another a codes)
+  -- "14 also for a list .. of another arrangement": whatever the order of the list, its ground, its text's length and the room are
+  pub mixed-exactly :
+      (version depth room : ℕ) → (writeRefusal version depth a codes room ≡ 14) ↔
+      (IsArrangement a × (depth ≤ 15) × ((version ≡ 1) ⊎ (version ≡ 2)) × (allCodes codes ≡ true) × Another a codes)
   unfolding writeRefusal
-  mixed-exactly room = (to, λ h. passes _ (arrangement-is (h .0)) ∙ stops _ _ (λ z. let e = mixed-list (h .1) (h .2) in omega arith) ∙ mixed-list (h .1) (h .2))
+  mixed-exactly version depth room = (to, from)
     where
-      to : writeRefusal a codes room ≡ 14 → IsArrangement a × (allCodes codes ≡ true) × Another a codes
+      to : writeRefusal version depth a codes room ≡ 14 → IsArrangement a × (depth ≤ 15) × ((version ≡ 1) ⊎ (version ≡ 2)) × (allCodes codes ≡ true) × Another a codes
       to e =
-          ⊎-elim (λ h. absurd (let f = five-refused a (λ z. omega arith) in omega arith))
-          (λ k.
-          let m = ⊎-elim (λ h. list-mixed h) (λ h. absurd (late (ltb 65536 (length (textOf a codes))) (ltb room (length (textOf a codes))) (h .1))) (either (codesRefusal a codes) _ (k .1)) in
-          (is-arrangement (k .0), m .0, m .1))
-          (either (arrangementRefusal a) _ e)
-        where
-          late : (x y : Bool) → refuse x 13 otherwise refuse y 8 ≡ 14 → ⊥
-          late x y h = ⊎-elim (other x 13 13 (λ z. omega arith)) (λ k. other y 8 13 (λ z. omega arith) (k .1)) (either (refuse x 13) (refuse y 8) h)
+          let k = not-five a _ (λ z. omega arith) e in
+          let d = behind (ltb 15 depth) 1 _ (λ z. omega arith) (k .1) in
+          let c = behind (not (allCodes codes)) 3 _ (λ z. omega arith) (d .1) in
+          let v = behind (not (isVersion version)) 9 _ (λ z. omega arith) (c .1) in
+          let m = ⊎-elim (λ h. list-mixed h)
+          (λ h. absurd (fit-other a codes (asksFor version depth) room (λ z. omega arith) (λ z. omega arith) (λ z. omega arith) (h .1)))
+          (either (codesRefusal a codes) _ (v .1)) in
+          (k .0, ltb-false 15 depth (d .0), versions version .0 (not-false (isVersion version) (v .0)), m .0, m .1)
+
+      from : IsArrangement a × (depth ≤ 15) × ((version ≡ 1) ⊎ (version ≡ 2)) × (allCodes codes ≡ true) × Another a codes → writeRefusal version depth a codes room ≡ 14
+      from h =
+          let e = asked-list version depth a codes (arrangement-is (h .0)) (h .1) (not-four a codes (h .3)) (versions version .1 (h .2)) ∙ mixed-list (h .3) (h .4) in
+          asked-first version depth a codes room ∙ stops (askedRefusal version depth a codes) _ (λ z. omega arith) ∙ e
