@@ -19,7 +19,8 @@ a-code c = sym (c .before .is-code .ensures) ∙ not-false _ (c .if1 .left)
 -- the text was read
 read-in :
     (c : tie.After-north) →
-    let t = c .before .before .before .before .before .before .args .text .now in let g = c .north .given .0 in TextChecked t (g .0) (g .1 .0) (g .1 .1 .0) (g .1 .1 .1 .0) (g .1 .1 .1 .1 .0) (g .1 .1 .1 .1 .1 .0)
+    let t = c .before .before .before .before .before .before .args .text .now in let g = c .north .given .0 in
+    TextChecked t (g .0) (g .1 .0) (g .1 .1 .0) (g .1 .1 .1 .0) (g .1 .1 .1 .1 .0) (g .1 .1 .1 .1 .1 .0)
 read-in c = text-checked _ (sym (c .north .given .1) ∙ c .before .before .check .ensures)
 
 is-code-requires : tie.Need-is-code-requires

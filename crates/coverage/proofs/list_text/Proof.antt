@@ -47,8 +47,11 @@ returns : tie.Need-returns
 returns c =
     let a = c .before .before .before .before .before .before .before .before .before .before .before .before .before .before .before .args in
     let l = c .before .before .before .before .before .before .before .before .before .before .list in
-    let w = c .before .before .put-all-names .ensures in
-    (list-written (a .text .now) (a .codes .now) (l .ensures .0) _ (l .last .1 .0) (c .before .before .put-all-names .last .1 .0) _ (c .before .before .before .before .before .before .count .given .1) (l .ensures .1) w, w .fits)
+    let w = c .before .before .put-all-names .ensures in (
+      list-written (a .text .now) (a .codes .now) (l .ensures .0) _ (l .last .1 .0) (c .before .before .put-all-names .last .1 .0) _
+          (c .before .before .before .before .before .before .count .given .1) (l .ensures .1) w,
+      w .fits,
+    )
 
 same-length-3 : tie.Need-same-length-3
 same-length-3 c = search needs
@@ -60,9 +63,11 @@ returns-2 : tie.Need-returns-2
 returns-2 c =
     let a = c .before .before .before .before .before .before .before .before .before .before .before .before .before .before .args in
     let p = c .before .before .put-line in
-    let fits : p .result ≤ length (a .out .now) = omega (arith, c .before .before .before .before .before .before .before .before .before .before .before .before .before .before .pre, p .ensures .1) in
+    let fits : p .result ≤ length (a .out .now) = omega
+    (arith, c .before .before .before .before .before .before .before .before .before .before .before .before .before .before .pre, p .ensures .1) in
     let same = put-length 0 (numberLine (c .before .before .before .before .before .refusal .given .0 .0)) (a .out .now) (omega (arith, p .ensures .0 .ends)) in (
-      list-refused (a .text .now) (a .codes .now) (c .before .before .before .before .before .before .before .before .before .list .ensures .0) _ _ {later = p .last .1 .0} (c .before .before .before .before .before .refusal .given .1) (p .ensures .0) fits,
+      list-refused (a .text .now) (a .codes .now) (c .before .before .before .before .before .before .before .before .before .list .ensures .0) _ _ {later = p .last .1 .0}
+          (c .before .before .before .before .before .refusal .given .1) (p .ensures .0) fits,
       omega (arith, same, ap length (p .ensures .0 .is)),
     )
 

@@ -40,7 +40,8 @@ returns c =
     let p = c .before .before .put-text in
     let same : length (t .last .1 .0) ≡ length (a .bytes .now) = search needs in
     subst (λ (x : ℕ). NamesText (a .form) (length (a .codes .now)) x (p .last .1 .1 .1 .0) (p .result)) same
-    (names-written (a .form) (length (a .codes .now)) (length (t .last .1 .0)) (t .last .1 .1 .1 .0) (p .last .1 .1 .1 .0) _ (p .result) (t .ensures) (c .before .before .before .before .before .before .count .given .1) (p .ensures))
+    (names-written (a .form) (length (a .codes .now)) (length (t .last .1 .0)) (t .last .1 .1 .1 .0) (p .last .1 .1 .1 .0) _ (p .result) (t .ensures)
+    (c .before .before .before .before .before .before .count .given .1) (p .ensures))
 
 same-length-4 : tie.Need-same-length-4
 same-length-4 c = search needs

@@ -55,7 +55,8 @@ loop-less c =
     let a = n .before .before .before .before .before .before .before .before .args in
     let line = c .before .before .before .before .before .before .before .before .before .length .given in
     let t = c .before .before .before .before .before .take-name in
-    let m = taken-more (a .arrangement) (n .next-line .last .1 .1 .1 .1 .0) (search needs) (l .codes) (t .last .1 .1 .0) (l .count) (line .0 .0) (l .inv .6) (t .ensures) _ (c .before .more .given .1) in
+    let m = taken-more (a .arrangement) (n .next-line .last .1 .1 .1 .1 .0) (search needs) (l .codes) (t .last .1 .1 .0) (l .count) (line .0 .0) (l .inv .6) (t .ensures) _
+    (c .before .more .given .1) in
     omega (arith, m .0, m .1, l .inv .5)
 
 loop-again : tie.Need-loop-again Inv-loop μ-loop
@@ -103,7 +104,8 @@ returns c =
     let g = line-given _ _ _ (n .next-line .ensures) _ _ _ (line .1) in
     let t = c .before .before .before .before .before .before .before .take-name in
     rw (sym (l .inv .5))
-    (line-stops (a .arrangement) (n .next-line .last .1 .1 .1 .1 .0) (search needs) (l .codes) (t .last .1 .1 .0) (l .count) (line .0 .0) (l .inv .6) (t .ensures) (unread (l .bytes) (l .from) (l .end))
+    (line-stops (a .arrangement) (n .next-line .last .1 .1 .1 .1 .0) (search needs) (l .codes) (t .last .1 .1 .0) (l .count) (line .0 .0) (l .inv .6) (t .ensures)
+    (unread (l .bytes) (l .from) (l .end))
     (n .next-line .last .1 .0) _ _ _ g (c .before .before .before .refusal .given .1))
 
 enum-known-length-2 : tie.Need-enum-known-length-2 Inv-loop μ-loop
@@ -173,7 +175,8 @@ returns-3 c =
     let g = last-given _ _ _ (n .next-line .ensures) _ (line .1) in
     let t = c .before .before .before .before .before .before .before .take-name2 in
     rw (sym (l .inv .5))
-    (last-stops (a .arrangement) (n .next-line .last .1 .1 .1 .1 .0) (search needs) (l .codes) (t .last .1 .1 .0) (l .count) (line .0 .0) (l .inv .6) (t .ensures) (unread (l .bytes) (l .from) (l .end))
+    (last-stops (a .arrangement) (n .next-line .last .1 .1 .1 .1 .0) (search needs) (l .codes) (t .last .1 .1 .0) (l .count) (line .0 .0) (l .inv .6) (t .ensures)
+    (unread (l .bytes) (l .from) (l .end))
     (n .next-line .last .1 .0) _ g (c .before .before .before .refusal2 .given .1))
 
 enum-told : tie.Need-enum-told Inv-loop μ-loop

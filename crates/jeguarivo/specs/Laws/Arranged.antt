@@ -397,7 +397,8 @@ module _ (t : List ℕ) where
   unfolding listingRefusal
   listed-says lent e =
       let z = both (textRefusal t) _ (sym (list-refusal (listingRefusal t (length lent)) t) ∙ e) in
-      rw (heading-north (z .0), heading-south (z .0)) (written-says (versionOf (profileOf t)) (depthOf (profileOf t)) (northOf t) (southOf t) (listedCodes t lent) t (relisted t lent e t (omega arith) .0))
+      rw (heading-north (z .0), heading-south (z .0))
+      (written-says (versionOf (profileOf t)) (depthOf (profileOf t)) (northOf t) (southOf t) (listedCodes t lent) t (relisted t lent e t (omega arith) .0))
 
   -- and jgv_coverage_ask takes only a code that says them
   pub asked-says : (code : ℕ) → askAnswer t code .refusal ≡ 0 → InHeading code

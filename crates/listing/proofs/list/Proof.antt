@@ -12,7 +12,8 @@ use Rattle.listing.proofs.list.Tie as tie
 -- the text was read
 read-in :
     (c : tie.After-north) →
-    let t = c .before .before .before .before .before .args .text .now in let g = c .north .given .0 in TextChecked t (g .0) (g .1 .0) (g .1 .1 .0) (g .1 .1 .1 .0) (g .1 .1 .1 .1 .0) (g .1 .1 .1 .1 .1 .0)
+    let t = c .before .before .before .before .before .args .text .now in let g = c .north .given .0 in
+    TextChecked t (g .0) (g .1 .0) (g .1 .1 .0) (g .1 .1 .1 .0) (g .1 .1 .1 .1 .0) (g .1 .1 .1 .1 .1 .0)
 read-in c = text-checked _ (sym (c .north .given .1) ∙ c .before .before .check .ensures)
 
 check-requires : tie.Need-check-requires

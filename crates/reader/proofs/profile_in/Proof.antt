@@ -16,13 +16,15 @@ byte-at-requires-2 : tie.Need-byte-at-requires-2
 byte-at-requires-2 c κs = search needs
 
 returns-2 : tie.Need-returns-2
-returns-2 c = second (c .before .before .before .before .before .args .text .now) 0 (λ e. c .before .before .if1 .left (c .before .before .before .byte-at .ensures ∙ e)) (omega (arith, c .before .byte-at2 .ensures, c .if2 .taken))
+returns-2 c = second (c .before .before .before .before .before .args .text .now) 0 (λ e. c .before .before .if1 .left (c .before .before .before .byte-at .ensures ∙ e))
+    (omega (arith, c .before .byte-at2 .ensures, c .if2 .taken))
 
 cast-t5 : tie.Need-cast-t5
 cast-t5 c = search needs
 
 returns-3 : tie.Need-returns-3
-returns-3 c = second (c .before .before .before .before .before .args .text .now) _ (λ e. c .before .before .if1 .left (c .before .before .before .byte-at .ensures ∙ e)) (omega (arith, c .before .byte-at2 .ensures))
+returns-3 c = second (c .before .before .before .before .before .args .text .now) _ (λ e. c .before .before .if1 .left (c .before .before .before .byte-at .ensures ∙ e))
+    (omega (arith, c .before .byte-at2 .ensures))
 
 pub profile-in-spec : {M : Type 1} → statement M
 profile-in-spec =

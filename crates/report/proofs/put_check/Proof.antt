@@ -44,7 +44,8 @@ returns c =
     let q = c .before .before .put-four2 .ensures in
     let g = c .before .before .before .before .before .before .before .before .before .before .before .checked .given in
     let e =
-    ap₂ (λ (v d : ℕ). fourNumbers 0 0 v d 32 ++ fourNumbers (g .0 .1 .0) (g .0 .1 .1 .0) (g .0 .1 .1 .1 .0) (g .0 .1 .1 .1 .1 .0) 10) (c .before .before .before .before .before .before .before .before .before .version-of .ensures)
+    ap₂ (λ (v d : ℕ). fourNumbers 0 0 v d 32 ++ fourNumbers (g .0 .1 .0) (g .0 .1 .1 .0) (g .0 .1 .1 .1 .0) (g .0 .1 .1 .1 .1 .0) 10)
+    (c .before .before .before .before .before .before .before .before .before .version-of .ensures)
     (c .before .before .before .before .before .before .before .before .depth-of .ensures) in
     (put-as (e ∙ ap checkLine (sym (g .1))) (then-put (p .0) (omega (arith, p .1)) (q .0)), omega (arith, p .1, q .1))
 
@@ -55,8 +56,11 @@ returns-2 : tie.Need-returns-2
 unfolding checkLine
 returns-2 c =
     let p = c .before .before .before .before .before .before .put-four3 .ensures in
-    let q = c .before .before .put-four4 .ensures in
-    (put-as (ap checkLine (sym (c .before .before .before .before .before .before .before .before .before .checked2 .given .1))) (then-put (p .0) (omega (arith, p .1)) (q .0)), omega (arith, p .1, q .1))
+    let q = c .before .before .put-four4 .ensures in (
+      put-as (ap checkLine (sym (c .before .before .before .before .before .before .before .before .before .checked2 .given .1))) (then-put (p .0) (omega (arith, p .1)) (q .0)),
+      omega
+          (arith, p .1, q .1),
+    )
 
 pub put-check-spec : {M : Type 1} → statement M
 put-check-spec =
