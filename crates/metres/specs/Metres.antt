@@ -1,12 +1,13 @@
 -- Metres for the plotter (02, W-214). Doubles are those of the kit's `Ieee`: a step is rounded once, to the nearest double. Assumes nothing.
 use mathlib.Core.Path.{_≡_}
-use mathlib.Core.Bool.{Bool, true, false, _&&_, not}
+use mathlib.Core.Bool.{Bool, false, _&&_, not}
 use Prim.Native.Nat.{ℕ, _+_, _*_, _^_, _≤_}
-use lib.IntN.{ℤ, pos, negsuc, natAbs}
+use lib.IntN.{ℤ, pos, natAbs}
 use lib.Ieee.{Float, binary64, ofInt, mul, div, le, fin}
 use lib.Ieee.Exact.{HasValue}
 use lib.Ieee.Positive.{num, den}
 use Rattle.logic.specs.Refusal.{refuse}
+use Rattle.signed.specs.Sign.{negative}
 use Rattle.plane.specs.Plane.{faceSide}
 
 -- "the face side in metres, from 1 to 2^30"; a side that is not a number fails both comparisons
@@ -28,10 +29,6 @@ metresOf x side = div binary64 (mul binary64 (ofInt binary64 x) side) (ofInt bin
 pub record Near (t a c b d : ℕ) : Type 0 where
   pub above : b * c * t ≤ a * d * (t + 1)
   pub below : a * d * t ≤ b * c * t + a * d
-
-abbrev pub negative : ℤ → Bool
-negative (pos n) = false
-negative (negsuc n) = true
 
 -- "within one part in 2^51 of the exact one, stated in whole numbers, and is zero for zero": r is finite and has x's sign, and its size num r / den r
 -- is near |x| times the side, num side / den side, divided by M

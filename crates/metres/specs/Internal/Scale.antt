@@ -14,7 +14,8 @@ use lib.Ieee.Back.{round-whole}
 use lib.Ieee.Order.{drop, kept}
 use lib.Ieee.Scale.{grid, overflow, normal-of-fraction, round-same}
 use lib.Ieee.Positive.{num, den, den-pos, positive, between, le→cross}
-use Rattle.metres.specs.Metres.{Near, NearExact, negative}
+use Rattle.signed.specs.Sign.{negative}
+use Rattle.metres.specs.Metres.{Near, NearExact}
 use Rattle.metres.specs.Internal.Rounding.{grid-near}
 use Rattle.metres.specs.Internal.Chain.{near-as, near-of, chain}
 
