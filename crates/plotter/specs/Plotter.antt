@@ -1,9 +1,11 @@
 -- Marks and frames for the plotter (02, W-214): what is answered of a planar point and of a code, and how a frame grows. Assumes nothing.
-use mathlib.Core.Bool.{Bool, _||_, cond}
+use mathlib.Core.Path.{_≡_}
+use mathlib.Core.Bool.{Bool, true, _||_, cond}
 use mathlib.Core.List.{List, [], _∷_}
 use Prim.Native.Nat.{ℕ, zero, suc}
 use lib.IntN.{ℤ}
-use lib.Ieee.{Float, lt, isNan}
+use lib.Ieee.{Float, lt, le, isNan}
+use Rattle.logic.specs.Lists.{Any}
 use Rattle.logic.specs.Refusal.{refuse, _otherwise_}
 use Rattle.cell.specs.declared.Cell.{Cell}
 use Rattle.cell.specs.declared.Arrangement.{Arrangement}
@@ -92,3 +94,17 @@ grownFrame side f code = framed (growRefusal side f code) (grown f (boxIn side c
 abbrev pub frameOver : Frame → List Frame → Frame
 frameOver f [] = f
 frameOver f (g ∷ gs) = frameOver (grown f g) gs
+
+-- the frame has the other one inside
+pub record Holds (f g : Frame) : Type 0 where
+  pub left : le (f .left) (g .left) ≡ true
+  pub bottom : le (f .bottom) (g .bottom) ≡ true
+  pub right : le (g .right) (f .right) ≡ true
+  pub top : le (g .top) (f .top) ≡ true
+
+-- each edge of the frame is an edge of one of these
+pub record EdgesOf (f : Frame) (gs : List Frame) : Type 0 where
+  pub left : Any (λ (g : Frame). f .left ≡ g .left) gs
+  pub bottom : Any (λ (g : Frame). f .bottom ≡ g .bottom) gs
+  pub right : Any (λ (g : Frame). f .right ≡ g .right) gs
+  pub top : Any (λ (g : Frame). f .top ≡ g .top) gs
