@@ -2,10 +2,11 @@
 use mathlib.Core.Path.{_≡_}
 use mathlib.Core.Bool.{Bool, false, _&&_, not}
 use Prim.Native.Nat.{ℕ, _+_, _*_, _^_, _≤_}
+use lib.Dec.{T}
 use lib.IntN.{ℤ, pos, natAbs}
 use lib.Ieee.{Float, binary64, ofInt, mul, div, le, fin}
 use lib.Ieee.Exact.{HasValue}
-use lib.Ieee.Positive.{num, den}
+use lib.Ieee.Positive.{num, den, positive}
 use Rattle.logic.specs.Refusal.{refuse}
 use Rattle.signed.specs.Sign.{negative}
 use Rattle.plane.specs.Plane.{faceSide}
@@ -13,6 +14,12 @@ use Rattle.plane.specs.Plane.{faceSide}
 -- "the face side in metres, from 1 to 2^30"; a side that is not a number fails both comparisons
 unfoldable pub isSide : Float → Bool
 isSide side = le (ofInt binary64 (pos 1)) side && le side (ofInt binary64 (pos (2 ^ 30)))
+
+-- the same in whole numbers (Laws/Metres, `side-exactly`): a finite number above 0, a fraction num side / den side from 1 to 2^30
+pub record IsSide (side : Float) : Type 0 where
+  pub finite : T (positive side)
+  pub least : den side ≤ num side
+  pub most : num side ≤ den side * 2 ^ 30
 
 -- "new 19 for a side out of range or not a number"
 unfoldable pub sideRefusal : Float → ℕ

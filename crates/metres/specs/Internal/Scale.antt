@@ -173,13 +173,13 @@ at-zero side p = ap (λ (z : Float). div binary64 z M) (zero-times side p) ∙ z
 zero-near : (a c : ℕ) → Near (2 ^ 51) (0 * a) c 0 1
 zero-near a c = record { above = le-of-eq (simp zero-mul); below = le-of-eq (simp zero-mul) }
 
-one-to : (side : Float) → T (le (fin false 1 (pos 0)) side) → T (le side (fin false 1 (pos 30))) → T (positive side)
+pub one-to : (side : Float) → T (le (fin false 1 (pos 0)) side) → T (le side (fin false 1 (pos 30))) → T (positive side)
 one-to side lo hi = between (fin false 1 (pos 0)) side (fin false 1 (pos 30)) tt tt lo hi
 
-one-or-more : (side : Float) → T (positive side) → T (le (fin false 1 (pos 0)) side) → den side ≤ num side
+pub one-or-more : (side : Float) → T (positive side) → T (le (fin false 1 (pos 0)) side) → den side ≤ num side
 one-or-more side p lo = le-trans (le-of-eq (sym (one-mul (den side)))) (le-trans (le→cross (fin false 1 (pos 0)) side tt p lo) (le-of-eq (mul-one (num side))))
 
-not-above : (side : Float) → T (positive side) → T (le side (fin false 1 (pos 30))) → num side ≤ den side * 2 ^ 30
+pub not-above : (side : Float) → T (positive side) → T (le side (fin false 1 (pos 30))) → num side ≤ den side * 2 ^ 30
 not-above side p hi = le-trans (le-of-eq (sym (mul-one (num side)))) (le-trans (le→cross side (fin false 1 (pos 30)) p tt hi) (le-of-eq (mul-comm (2 ^ 30) (den side))))
 
 suc-not : (n : ℕ) → pos (suc n) ≡ pos 0 → ⊥
