@@ -1,0 +1,152 @@
+-- The plotter's entries (02, W-214): each refuses with the first of its numbers whose condition holds; a code's box is its square in metres, and each
+-- number is within one part in 2^51 of the exact one. Assumes nothing.
+use mathlib.Core.Path.{_≡_, refl, sym, ap, _∙_, subst}
+use mathlib.Core.Logic.{_↔_, _⊎_}
+use mathlib.Core.Bool.{Bool, true, false, not, _||_}
+use mathlib.Core.List.{List, [], _∷_, _++_}
+use Prim.Native.Nat.{ℕ, zero, suc, _<_}
+use lib.IntN.{ℤ, pos, _+ℤ_, _-ℤ_}
+use lib.Ieee.{Float, nan, inf, fin, isNan}
+use Rattle.logic.specs.Lists.{All}
+use Rattle.logic.specs.Refusal.{refuse, _otherwise_, given}
+use Rattle.logic.specs.Laws.Bools.{clash}
+use Rattle.logic.specs.Laws.Refusal.{both, given-value}
+use Rattle.cell.specs.declared.Arrangement.{Arrangement}
+use Rattle.cell.specs.Cell.{arrangementRefusal}
+use Rattle.code.specs.Code.{cellOf, arrangementOf, codeRefusal}
+use Rattle.code.specs.Laws.Exact.{NoCell}
+use Rattle.plane.specs.Plane.{leftOf, rightOf, topOf, bottomOf, squareOf, inImage, pointRefusal}
+use Rattle.metres.specs.Metres.{isSide, IsSide, sideRefusal, metresOf}
+use Rattle.metres.specs.Laws.Metres.{side-exactly}
+use Rattle.plotter.specs.declared.Frame.{Frame}
+use Rattle.plotter.specs.declared.Mark.{Mark}
+use Rattle.plotter.specs.declared.Framed.{Framed}
+use Rattle.plotter.specs.Plotter.{mark, pointMark, markOfPoint, boxOf, boxIn, boxMark, boxRefusal, markOfCode, framed, firstFrame, grown, hasNan, growRefusal, grownFrame}
+use Rattle.entries.specs.declared.SquareAnswer.{SquareAnswer}
+use Rattle.entries.specs.declared.MarkAnswer.{MarkAnswer}
+use Rattle.entries.specs.Entries.{arrangement, placedAnswer, aSquare, noSquare, cellSquare}
+use Rattle.entries.specs.Order.{Chain, FirstOf, numbers, order, inOrder}
+use Rattle.entries.specs.Refusals.{OnImage}
+use Rattle.entries.specs.Plotter.{markNumbers, frameNumbers, pointMarked, codeMarked, frameBegun, frameGrown, NanEdge, markPointTests, boxTests, growTests}
+use Rattle.entries.specs.Laws.Order.{Decides, last, then, twice, not-decides, or-decides, given-exactly}
+use Rattle.entries.specs.Laws.First.{image, arrangement-first, code-first}
+
+-- ---- the refusal in an answer
+
+mark-refusal : (r : ℕ) (m : Mark) → markNumbers m .refusal ≡ 0 → markNumbers (mark r m) .refusal ≡ r
+mark-refusal zero m e = e
+mark-refusal (suc r) m e = refl
+
+frame-refusal : (r : ℕ) (f : Frame) → frameNumbers (framed r f) .refusal ≡ r
+frame-refusal zero f = refl
+frame-refusal (suc r) f = refl
+
+-- ---- what the tests decide
+
+side : (s : Float) → Decides (isSide s) (IsSide s)
+side s = record { holds = side-exactly s .0; fails = λ e h. clash (sym (side-exactly s .1 h) ∙ e) }
+
+side-first : (s : Float) → FirstOf ((19, IsSide s → ⊥) ∷ []) (sideRefusal s)
+unfolding sideRefusal
+side-first s = last 18 (not-decides (side s))
+
+is-nan : (x : Float) → isNan x ≡ true → x ≡ nan
+unfolding isNan
+is-nan nan e = refl
+is-nan (inf s) e = clash (sym e)
+is-nan (fin s m k) e = clash (sym e)
+
+nan-is : isNan nan ≡ true
+unfolding isNan
+nan-is = refl
+
+one-nan : (x : Float) → Decides (isNan x) (x ≡ nan)
+one-nan x = record { holds = is-nan x; fails = λ e h. clash (sym (ap isNan h ∙ nan-is) ∙ e) }
+
+nan-edge : (f : Frame) → Decides (hasNan f) (NanEdge f)
+unfolding hasNan
+nan-edge f = or-decides (one-nan (f .left)) (or-decides (one-nan (f .bottom)) (or-decides (one-nan (f .right)) (one-nan (f .top))))
+
+-- ---- the entries
+
+-- jgv_mark_point
+pub mark-point-first : (s : Float) (n m : ℕ) (x y : ℤ) → FirstOf (markPointTests s n m x y) (pointMarked s n m x y .refusal)
+unfolding pointMarked markOfPoint pointRefusal _otherwise_
+mark-point-first s n m x y =
+    subst (FirstOf (markPointTests s n m x y)) (sym (mark-refusal _ (pointMark s x y) refl))
+    (then (side-first s) refl (λ _. then (arrangement-first n m) refl (λ _. last 6 (not-decides (image n m x y)))))
+
+box-first : (s : Float) (code : ℕ) → FirstOf (boxTests s code) (boxRefusal s code)
+unfolding boxRefusal
+box-first s code = then (side-first s) refl (λ _. code-first code)
+
+-- jgv_mark_code
+pub mark-code-first : (s : Float) (code : ℕ) → FirstOf (boxTests s code) (codeMarked s code .refusal)
+unfolding codeMarked markOfCode
+mark-code-first s code = subst (FirstOf (boxTests s code)) (sym (mark-refusal (boxRefusal s code) (boxMark (boxIn s code)) refl)) (box-first s code)
+
+-- jgv_frame_first
+pub frame-first-first : (s : Float) (code : ℕ) → FirstOf (boxTests s code) (frameBegun s code .refusal)
+unfolding frameBegun firstFrame
+frame-first-first s code = subst (FirstOf (boxTests s code)) (sym (frame-refusal (boxRefusal s code) (boxIn s code))) (box-first s code)
+
+-- jgv_frame_grow
+frame-first : (s : Float) (f : Frame) → FirstOf ((19, (IsSide s → ⊥) ⊎ NanEdge f) ∷ []) (sideRefusal s otherwise refuse (hasNan f) 19)
+unfolding sideRefusal
+frame-first s f = twice 18 (not-decides (side s)) (nan-edge f)
+
+joined : (p q r : ℕ) → (p otherwise q) otherwise r ≡ p otherwise q otherwise r
+unfolding _otherwise_
+joined zero q r = refl
+joined (suc p) q r = refl
+
+pub frame-grow-first : (s : Float) (f : Frame) (code : ℕ) → FirstOf (growTests s f code) (frameGrown s f code .refusal)
+unfolding frameGrown grownFrame growRefusal
+frame-grow-first s f code =
+    subst (FirstOf (growTests s f code))
+    (joined (sideRefusal s) (refuse (hasNan f) 19) (codeRefusal code) ∙ sym (frame-refusal (growRefusal s f code) (grown f (boxIn s code))))
+    (then (frame-first s f) refl (λ _. code-first code))
+
+-- "before all others"
+module _ (s : Float) (n m code : ℕ) (x y : ℤ) (f : Frame) where
+  pub in-order-plotter :
+      All (λ (ns : List ℕ). inOrder order ns ≡ true) (numbers (markPointTests s n m x y) ∷ numbers (boxTests s code) ∷ numbers (growTests s f code) ∷ [])
+  unfolding inOrder
+  in-order-plotter = (refl, (refl, (refl, tt)))
+
+  -- 19
+  pub nineteen-point : (pointMarked s n m x y .refusal ≡ 19) ↔ (IsSide s → ⊥)
+  nineteen-point = given-exactly 18 (mark-point-first s n m x y) refl
+
+  pub nineteen-code : (codeMarked s code .refusal ≡ 19) ↔ (IsSide s → ⊥)
+  nineteen-code = given-exactly 18 (mark-code-first s code) refl
+
+  pub nineteen-first : (frameBegun s code .refusal ≡ 19) ↔ (IsSide s → ⊥)
+  nineteen-first = given-exactly 18 (frame-first-first s code) refl
+
+  pub nineteen-grow : (frameGrown s f code .refusal ≡ 19) ↔ ((IsSide s → ⊥) ⊎ NanEdge f)
+  nineteen-grow = given-exactly 18 (frame-grow-first s f code) refl
+
+-- ---- "The box's edges are the square's edges in metres", over what jgv_square answers
+
+-- left, bottom, right and top of a square
+abbrev pub inMetres : Float → SquareAnswer → MarkAnswer
+inMetres s q =
+    record {
+      refusal = 0;
+      kind = 2;
+      numbers = metresOf (q .left) s ∷ metresOf (q .top -ℤ q .side) s ∷ metresOf (q .left +ℤ q .side) s ∷ metresOf (q .top) s ∷ [];
+    }
+
+module _ (s : Float) (code : ℕ) (e : codeMarked s code .refusal ≡ 0) where
+  allowed-box : boxRefusal s code ≡ 0
+  unfolding codeMarked markOfCode
+  allowed-box = sym (mark-refusal (boxRefusal s code) (boxMark (boxIn s code)) refl) ∙ e
+
+  square-is : cellSquare code ≡ aSquare (squareOf (arrangementOf code) (cellOf code))
+  unfolding cellSquare placedAnswer boxRefusal
+  square-is = given-value _ (noSquare (codeRefusal code)) (both (sideRefusal s) (codeRefusal code) allowed-box .1)
+
+  pub box-square : codeMarked s code ≡ inMetres s (cellSquare code)
+  unfolding codeMarked markOfCode boxOf squareOf rightOf bottomOf
+  box-square = ap (λ (r : ℕ). markNumbers (mark r (boxMark (boxIn s code)))) allowed-box ∙ sym (ap (inMetres s) square-is)
