@@ -20,19 +20,20 @@ use Rattle.entries.specs.Entries.{arrangement}
 use Rattle.entries.specs.Order.{Chain}
 use Rattle.entries.specs.Refusals.{OnImage}
 
-abbrev pub zero : Float
-zero = fin false 0 (pos 0)
+-- "Other answers are 0."
+abbrev pub zeroMetres : Float
+zeroMetres = fin false 0 (pos 0)
 
 -- ---- each case as numbers: 1 for "a point in metres", 2 for "a box with its four edges", 0 for "nothing with the refusal"
 
 abbrev pub markNumbers : Mark → MarkAnswer
-markNumbers (mark-as.Point x y) = record { refusal = 0; kind = 1; numbers = x ∷ y ∷ zero ∷ zero ∷ [] }
+markNumbers (mark-as.Point x y) = record { refusal = 0; kind = 1; numbers = x ∷ y ∷ zeroMetres ∷ zeroMetres ∷ [] }
 markNumbers (mark-as.Box left bottom right top) = record { refusal = 0; kind = 2; numbers = left ∷ bottom ∷ right ∷ top ∷ [] }
-markNumbers (mark-as.Nothing refusal) = record { refusal = refusal; kind = 0; numbers = zero ∷ zero ∷ zero ∷ zero ∷ [] }
+markNumbers (mark-as.Nothing refusal) = record { refusal = refusal; kind = 0; numbers = zeroMetres ∷ zeroMetres ∷ zeroMetres ∷ zeroMetres ∷ [] }
 
 abbrev pub frameNumbers : Framed → FrameAnswer
 frameNumbers (framed-as.Edges f) = record { refusal = 0; left = f .left; bottom = f .bottom; right = f .right; top = f .top }
-frameNumbers (framed-as.Refused refusal) = record { refusal = refusal; left = zero; bottom = zero; right = zero; top = zero }
+frameNumbers (framed-as.Refused refusal) = record { refusal = refusal; left = zeroMetres; bottom = zeroMetres; right = zeroMetres; top = zeroMetres }
 
 -- ---- what the entries answer
 

@@ -35,7 +35,7 @@ pub fn mark_point(side: f64, arrangement: Arrangement, x: i64, y: i64) -> Mark
     ensures { λ r. ⌜ r ≡ markOfPoint side arrangement x y ⌝ }
 {
     if !metres::is_side(side) {
-        return Mark::Nothing(19);
+        return Mark::Nothing(19); // before 5 and 7
     }
     match plane::point_cell(arrangement, 0, x, y) {
         Found::At(_) => Mark::Point(metres::metres_of(x, side), metres::metres_of(y, side)),
@@ -65,7 +65,7 @@ pub fn frame_first(side: f64, code: u64) -> Framed
     ensures { λ r. ⌜ r ≡ firstFrame side code ⌝ }
 {
     if !metres::is_side(side) {
-        return Framed::Refused(19);
+        return Framed::Refused(19); // before 4
     }
     match code::cell_of(code) {
         Found::At(cell) => Framed::Edges(box_of(side, code::arrangement_of(code), cell)),
@@ -136,7 +136,7 @@ pub fn frame_grow(side: f64, frame: Frame, code: u64) -> Framed
     ensures { λ r. ⌜ r ≡ grownFrame side frame code ⌝ }
 {
     if !metres::is_side(side) {
-        return Framed::Refused(19);
+        return Framed::Refused(19); // of the side
     }
     if frame.has_nan() {
         return Framed::Refused(19); // an edge that is not a number

@@ -27,7 +27,7 @@ use Rattle.entries.specs.declared.MarkAnswer.{MarkAnswer}
 use Rattle.entries.specs.Entries.{arrangement, placedAnswer, aSquare, noSquare, cellSquare}
 use Rattle.entries.specs.Order.{Chain, FirstOf, numbers, order, inOrder}
 use Rattle.entries.specs.Refusals.{OnImage}
-use Rattle.entries.specs.Plotter.{markNumbers, frameNumbers, pointMarked, codeMarked, frameBegun, frameGrown, NanEdge, markPointTests, boxTests, growTests}
+use Rattle.entries.specs.Plotter.{zeroMetres, markNumbers, frameNumbers, pointMarked, codeMarked, frameBegun, frameGrown, NanEdge, markPointTests, boxTests, growTests}
 use Rattle.entries.specs.Laws.Order.{Decides, last, then, twice, not-decides, or-decides, given-exactly}
 use Rattle.entries.specs.Laws.First.{image, arrangement-first, code-first}
 
@@ -150,3 +150,11 @@ module _ (s : Float) (code : ℕ) (e : codeMarked s code .refusal ≡ 0) where
   pub box-square : codeMarked s code ≡ inMetres s (cellSquare code)
   unfolding codeMarked markOfCode boxOf squareOf rightOf bottomOf
   box-square = ap (λ (r : ℕ). markNumbers (mark r (boxMark (boxIn s code)))) allowed-box ∙ sym (ap (inMetres s) square-is)
+
+-- ---- "a point in metres"
+
+pub point-metres : (s : Float) (n m : ℕ) (x y : ℤ) → pointMarked s n m x y .refusal ≡ 0 →
+    pointMarked s n m x y ≡ record { refusal = 0; kind = 1; numbers = metresOf x s ∷ metresOf y s ∷ zeroMetres ∷ zeroMetres ∷ [] }
+unfolding pointMarked markOfPoint
+point-metres s n m x y e =
+    ap (λ (r : ℕ). markNumbers (mark r (pointMark s x y))) (sym (mark-refusal (sideRefusal s otherwise pointRefusal (arrangement n m) 0 x y) (pointMark s x y) refl) ∙ e)

@@ -4,12 +4,12 @@ use mathlib.Core.Path.{_≡_, refl, sym, ap, _∙_, subst}
 use mathlib.Core.Logic.{_⊎_, inl, inr, ⊎-elim}
 use mathlib.Core.Bool.{Bool, true, false, _||_, cond}
 use mathlib.Core.List.{List, [], _∷_}
-use lib.Ieee.{Float, lt, le, isNan}
+use lib.Ieee.{Float, lt, eq, le, isNan}
 use Rattle.logic.specs.Lists.{All, Any}
 use Rattle.logic.specs.Laws.Bools.{or-left, or-right, clash}
 use Rattle.plotter.specs.declared.Frame.{Frame}
 use Rattle.plotter.specs.Plotter.{lower, higher, grown, hasNan, frameOver, Holds, EdgesOf}
-use Rattle.plotter.specs.Laws.Order.{order-same, order-trans, order-not, order-below}
+use Rattle.plotter.specs.Laws.Order.{order-same, order-trans, order-not, order-below, order-tie}
 
 -- ---- one edge
 
@@ -105,6 +105,24 @@ module _ (f g : Frame) (e : hasNan f ≡ false) (h : hasNan g ≡ false) where
         right = higher-other (f .right) (g .right) (number-right f e) (number-right g h);
         top = higher-other (f .top) (g .top) (number-top f e) (number-top g h);
       }
+
+-- "on a tie the frame's": an edge that is equal to the box's stays the frame's own, as 0.0 does beside -0.0
+module _ (f g : Frame) where
+  pub tie-left : eq (g .left) (f .left) ≡ true → grown f g .left ≡ f .left
+  unfolding grown
+  tie-left e = ap (λ (b : Bool). cond b (g .left) (f .left)) (order-tie (g .left) (f .left) e)
+
+  pub tie-bottom : eq (g .bottom) (f .bottom) ≡ true → grown f g .bottom ≡ f .bottom
+  unfolding grown
+  tie-bottom e = ap (λ (b : Bool). cond b (g .bottom) (f .bottom)) (order-tie (g .bottom) (f .bottom) e)
+
+  pub tie-right : eq (f .right) (g .right) ≡ true → grown f g .right ≡ f .right
+  unfolding grown
+  tie-right e = ap (λ (b : Bool). cond b (g .right) (f .right)) (order-tie (f .right) (g .right) e)
+
+  pub tie-top : eq (f .top) (g .top) ≡ true → grown f g .top ≡ f .top
+  unfolding grown
+  tie-top e = ap (λ (b : Bool). cond b (g .top) (f .top)) (order-tie (f .top) (g .top) e)
 
 holds-trans : {f g k : Frame} → Holds f g → Holds g k → Holds f k
 holds-trans {f} {g} {k} a b =

@@ -156,3 +156,30 @@ order-not (fin s m f) (fin t n d) p q e = most-at s (m * up f * down d) t (n * u
 pub order-below : (x y : Float) → lt x y ≡ true → le x y ≡ true
 unfolding le
 order-below x y e = ap (λ (b : Bool). b || eq x y) e
+
+-- ---- two that are equal: neither is below the other
+
+level-not : (s : Bool) (a : ℕ) (t : Bool) (b : ℕ) → level s a t b ≡ true → below s a t b ≡ false
+level-not false a false b e = le-ltb a b (omega (arith, eqb-true a b (and-left (eqb a b) true e)))
+level-not false a true b e = refl
+level-not true a false b e =
+    let f = eqb-true a b (and-left (eqb a b) (eqb a 0) e) in
+    let g = eqb-true a 0 (and-right (eqb a b) (eqb a 0) e) in
+    le-ltb 0 (a + b) (omega arith)
+level-not true a true b e = le-ltb b a (omega (arith, eqb-true a b (and-left (eqb a b) true e)))
+
+pub order-tie : (x y : Float) → eq x y ≡ true → lt x y ≡ false
+unfolding eq lt
+order-tie nan y e = refl
+order-tie (inf true) nan e = refl
+order-tie (inf false) nan e = refl
+order-tie (inf true) (inf true) e = refl
+order-tie (inf true) (inf false) e = clash (sym e)
+order-tie (inf false) (inf true) e = refl
+order-tie (inf false) (inf false) e = refl
+order-tie (inf true) (fin t n d) e = clash (sym e)
+order-tie (inf false) (fin t n d) e = refl
+order-tie (fin s m f) nan e = refl
+order-tie (fin s m f) (inf true) e = refl
+order-tie (fin s m f) (inf false) e = clash (sym e)
+order-tie (fin s m f) (fin t n d) e = level-not s (m * up f * down d) t (n * up d * down f) e
