@@ -69,7 +69,7 @@ pub fn frame_first(side: f64, code: u64) -> Framed
     }
     match code::cell_of(code) {
         Found::At(cell) => Framed::Edges(box_of(side, code::arrangement_of(code), cell)),
-        Found::Refused(refusal) => Framed::Refused(refusal),
+        Found::Refused(refusal) => Framed::Refused(refusal), // 4
     }
 }
 
