@@ -12,14 +12,14 @@ const SIDE: f64 = 10_007_557.2;
 pub fn run(plan: Plan, random: &mut Random) -> Vec<Row> {
     let count = plan.count(100_000);
     let codes = codes(random, count);
-    let sides = pair::<MarkCode>(Some(1.1), jgv_mark_code, mark_code, |entry, _| {
+    let sides = pair::<MarkCode>(None, jgv_mark_code, mark_code, |entry, _| {
         codes
             .iter()
             .fold(0, |sum, &code| entry(SIDE, code).fold(sum))
     });
     let work = Work::new("code to its box in metres, all resolutions", count);
     let mut rows = compare(plan, work, sides);
-    let sides = pair::<FrameGrow>(Some(1.1), jgv_frame_grow, frame_grow, |entry, _| {
+    let sides = pair::<FrameGrow>(None, jgv_frame_grow, frame_grow, |entry, _| {
         let mut frame = Frame {
             left: SIDE,
             bottom: 0.0,
