@@ -1,4 +1,7 @@
 // Whole numbers and fixes as people write them, in decimal digits.
+mod point;
+
+pub use point::fraction_in;
 ghost use mathlib.Core.Path.{_≡_};
 ghost use mathlib.Core.List.{_++_};
 ghost use Prim.Native.Nat.{_+_, _≤_, _<_};
@@ -14,6 +17,12 @@ pub enum Whole {
 // The same with a sign.
 pub enum Number {
     Is(i64),
+    Not,
+}
+
+// A fraction that some bytes write: a whole number over a power of ten.
+pub enum Fraction {
+    Is(u64, u64),
     Not,
 }
 
