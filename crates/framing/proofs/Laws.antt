@@ -1,0 +1,50 @@
+-- A double's bits have sixteen hexadecimal digits. Assumes nothing.
+use mathlib.Core.Path.{_≡_, refl, sym, ap, ap₂, _∙_}
+use mathlib.Core.Logic.{⊎-elim}
+use mathlib.Core.Bool.{Bool, true, false, _||_}
+use mathlib.Core.List.{List, [], _∷_, _++_}
+use Prim.Native.Nat.{ℕ, zero, suc, _+_, _-_, _/_, _%_, _^_, _≤_, _<_}
+use native.Mathlib.Nat.{pow-le-pow-right, zero-lt-suc}
+use native.Mathlib.Omega.{arith}
+use lib.ListN.{length, length-append}
+use lib.Ieee.{Float, isNan}
+use Rattle.io.specs.Digits.{glyph, digits, Fewest}
+use Rattle.logic.specs.Laws.Order.{lt-or}
+use Rattle.logic.specs.Laws.Bools.{or-left, or-right}
+use Rattle.plotter.specs.declared.Frame.{Frame}
+use Rattle.plotter.specs.Plotter.{hasNan}
+
+power-up : (i j : ℕ) → i ≤ j → 16 ^ i ≤ 16 ^ j
+power-up i j h = pow-le-pow-right (zero-lt-suc 15) h
+
+pub sixteen : (n r : ℕ) → Fewest 16 16 n r → n < 2 ^ 64 → r ≡ 16
+sixteen n r f h = ⊎-elim more (λ k. omega (arith, f .0)) (lt-or 16 r)
+  where
+    more : 16 < r → r ≡ 16
+    more k =
+        let p : 16 ^ 16 ≤ 16 ^ (r - 1) = power-up 16 (r - 1) (omega arith) in
+        absurd (omega (arith, f .2 k))
+
+pub digits-length : (b k n : ℕ) → length (digits b k n) ≡ k
+digits-length b zero n = refl
+digits-length b (suc k) n = length-append (digits b k (n / b)) (glyph (n % b) ∷ []) ∙ omega (arith, digits-length b k (n / b))
+
+-- ---- the edges of a frame whose edges are numbers
+
+module _ (f : Frame) (e : hasNan f ≡ false) where
+  pub left-number : isNan (f .left) ≡ false
+  unfolding hasNan
+  left-number = or-left (isNan (f .left)) (isNan (f .bottom) || (isNan (f .right) || isNan (f .top))) e
+
+  behind-left : (isNan (f .bottom) || (isNan (f .right) || isNan (f .top))) ≡ false
+  unfolding hasNan
+  behind-left = or-right (isNan (f .left)) (isNan (f .bottom) || (isNan (f .right) || isNan (f .top))) e
+
+  pub bottom-number : isNan (f .bottom) ≡ false
+  bottom-number = or-left (isNan (f .bottom)) (isNan (f .right) || isNan (f .top)) behind-left
+
+  pub right-number : isNan (f .right) ≡ false
+  right-number = or-left (isNan (f .right)) (isNan (f .top)) (or-right (isNan (f .bottom)) (isNan (f .right) || isNan (f .top)) behind-left)
+
+  pub top-number : isNan (f .top) ≡ false
+  top-number = or-right (isNan (f .right)) (isNan (f .top)) (or-right (isNan (f .bottom)) (isNan (f .right) || isNan (f .top)) behind-left)
