@@ -1,5 +1,5 @@
 -- A double's bits have sixteen hexadecimal digits. Assumes nothing.
-use mathlib.Core.Path.{_≡_, refl, sym, ap, ap₂, _∙_}
+use mathlib.Core.Path.{_≡_, refl, _∙_, subst}
 use mathlib.Core.Logic.{⊎-elim}
 use mathlib.Core.Bool.{Bool, true, false, _||_}
 use mathlib.Core.List.{List, [], _∷_, _++_}
@@ -11,6 +11,7 @@ use lib.Ieee.{Float, isNan}
 use Rattle.io.specs.Digits.{glyph, digits, Fewest}
 use Rattle.logic.specs.Laws.Order.{lt-or}
 use Rattle.logic.specs.Laws.Bools.{or-left, or-right}
+use Rattle.report.specs.Put.{Put}
 use Rattle.plotter.specs.declared.Frame.{Frame}
 use Rattle.plotter.specs.Plotter.{hasNan}
 
@@ -48,3 +49,7 @@ module _ (f : Frame) (e : hasNan f ≡ false) where
 
   pub top-number : isNan (f .top) ≡ false
   top-number = or-right (isNan (f .right)) (isNan (f .top)) (or-right (isNan (f .bottom)) (isNan (f .right) || isNan (f .top)) behind-left)
+
+-- the same bytes by another name
+pub put-as : {at : ℕ} {a b out later : List ℕ} {end : ℕ} → a ≡ b → Put at a out later end → Put at b out later end
+put-as {at} {out = out} {later = later} {end = end} e p = subst (λ (x : List ℕ). Put at x out later end) e p
