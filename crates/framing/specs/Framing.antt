@@ -1,8 +1,8 @@
--- What `coverage frame` reads and prints. Assumes nothing.
+-- What `coverage frame` reads and prints: the face side, and the frame around a text's whole cells. Assumes nothing.
 use mathlib.Core.Path.{_≡_}
 use mathlib.Core.Bool.{false}
 use mathlib.Core.List.{List, [], _∷_, _++_}
-use Prim.Native.Nat.{ℕ}
+use Prim.Native.Nat.{ℕ, zero, suc}
 use lib.IntN.{pos}
 use lib.Ieee.{Float, binary64, ofInt, div, fin, toBits}
 use Rattle.io.specs.Digits.{digits}
@@ -12,8 +12,11 @@ use Rattle.decimal.specs.Fraction.{fractionIn}
 use Rattle.plotter.specs.declared.Frame.{Frame}
 use Rattle.plotter.specs.declared.Around.{Around}
 use Rattle.plotter.specs.declared.Around.the-variants as around-as
-use Rattle.plotter.specs.Plotter.{hasNan}
+use Rattle.plotter.specs.Plotter.{hasNan, frameAround}
 use Rattle.report.specs.Lines.{numberLine}
+use Rattle.logic.specs.Refusal.{_otherwise_}
+use Rattle.metres.specs.Metres.{sideRefusal}
+use Rattle.listing.specs.List.{codesOf, listingRefusal}
 
 -- a fraction as a double: a quotient of two whole numbers below 2^53, rounded once, so the nearest to it; what is no fraction is 0, which is no side
 abbrev pub sideOf : Fraction → Float
@@ -44,3 +47,16 @@ abbrev pub Numbers : Around → Type 0
 Numbers (around-as.Edges f) = hasNan f ≡ false
 Numbers around-as.Nothing = Unit {0}
 Numbers (around-as.Refused r) = Unit {0}
+
+-- `coverage frame`: 19 of the side, then the text's refusal
+unfoldable pub frameRefusal : (side : Float) (t : List ℕ) (room : ℕ) → ℕ
+frameRefusal side t room = sideRefusal side otherwise listingRefusal t room
+
+-- the line of the frame around the text's cells, or the refusal number on a line
+abbrev pub lineWith : (refusal : ℕ) (side : Float) (t : List ℕ) → List ℕ
+lineWith zero side t = aroundLine (frameAround side (codesOf t))
+lineWith (suc r) side t = numberLine (suc r)
+
+unfoldable pub frameLine : (side : Float) (t : List ℕ) (room : ℕ) → List ℕ
+unfolding frameRefusal
+frameLine side t room = lineWith (frameRefusal side t room) side t

@@ -7,8 +7,9 @@ ghost use lib.Ieee.{isNan};
 ghost use lib.ListN.{length};
 ghost use Rattle.plotter.specs.Plotter.{hasNan};
 ghost use Rattle.report.specs.Put.{Put};
-ghost use Rattle.framing.specs.Framing.{sideIn, hexadecimal, edgesLine, aroundLine, Numbers};
+ghost use Rattle.framing.specs.Framing.{sideIn, hexadecimal, edgesLine, aroundLine, Numbers, frameRefusal, frameLine};
 use decimal::Fraction;
+use listing::Listed;
 use plotter::Around;
 use plotter::Frame;
 
@@ -60,5 +61,41 @@ pub fn put_around(around: Around, out: &mut [u8]) -> usize
         Around::Edges(frame) => put_edges(frame, out),
         Around::Nothing => 0,
         Around::Refused(refusal) => report::put_line(refusal, out),
+    }
+}
+
+// Where a line ends; and its refusal, 0 for none, with the place.
+pub struct LinePut {
+    pub end: usize,
+    pub refusal: u64,
+    pub place: u64,
+}
+
+// Puts the frame around a text's whole cells in one line, nothing where there is none, or the refusal number. The side is tested first.
+pub fn put_frame(text: &[u8], word: &[u8], codes: &mut [u64], out: &mut [u8]) -> LinePut
+    requires { ⌜ 68 ≤ length (now out) ⌝ }
+    ensures { λ r. ⌜ Put 0 (frameLine (sideIn (now (word .entry))) (now (text .entry)) (length (now (codes .entry)))) (now (out .entry)) (now (out .exit)) (r .end) ⌝ }
+    ensures { λ r. ⌜ r .refusal ≡ frameRefusal (sideIn (now (word .entry))) (now (text .entry)) (length (now (codes .entry))) ⌝ }
+    ensures { λ r. ⌜ r .end ≤ 68 ⌝ }
+{
+    let side = side_in(word);
+    if !metres::is_side(side) {
+        return LinePut {
+            end: report::put_line(19, out),
+            refusal: 19, // of the side
+            place: 0,
+        };
+    }
+    match listing::list(text, codes) {
+        Listed::Count(count) => LinePut {
+            end: put_around(plotter::frame_around(side, &codes[..count as usize]), out),
+            refusal: 0,
+            place: 0,
+        },
+        Listed::Refused { refusal, place } => LinePut {
+            end: report::put_line(refusal, out),
+            refusal,
+            place,
+        },
     }
 }
