@@ -14,8 +14,8 @@ use Rattle.decimal.specs.Fraction.{withPlaces, fractionIn}
 use Rattle.decimal.proofs.Laws.{from-on, take-ahead, ahead-le, drop-ahead}
 use Rattle.decimal.specs.Laws.Fraction.{whole-below, scaled-below}
 use Rattle.decimal.proofs.Places.{no-point, long-point, short-point, places-are}
-use Rattle.decimal.proofs.point.fraction_in.Statement.{statement}
-use Rattle.decimal.proofs.point.fraction_in.Tie as tie
+use Rattle.decimal.proofs.fraction_in.Statement.{statement}
+use Rattle.decimal.proofs.fraction_in.Tie as tie
 
 -- the point stands inside the text
 inside : (c : tie.Else1) → c .before .ahead-of .result + 1 ≤ length (c .before .before .before .args .text .now)

@@ -3,8 +3,8 @@ use mathlib.Core.Path.{sym, ap, _∙_}
 use native.Mathlib.Omega.{arith}
 use borrow.Author.Needs.{needs}
 use Rattle.decimal.proofs.Places.{long-whole, short-whole}
-use Rattle.decimal.proofs.point.whole_fraction.Statement.{statement}
-use Rattle.decimal.proofs.point.whole_fraction.Tie as tie
+use Rattle.decimal.proofs.whole_fraction.Statement.{statement}
+use Rattle.decimal.proofs.whole_fraction.Tie as tie
 
 returns : tie.Need-returns
 returns c = long-whole (c .before .before .args .text .now) (c .if1 .taken)

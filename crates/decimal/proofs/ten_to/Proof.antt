@@ -6,8 +6,8 @@ use native.Mathlib.Nat.{pow-suc}
 use native.Mathlib.Omega.{arith}
 use borrow.Author.Needs.{needs}
 use Rattle.decimal.proofs.Laws.{ten-le}
-use Rattle.decimal.proofs.point.ten_to.Statement.{statement}
-use Rattle.decimal.proofs.point.ten_to.Tie as tie
+use Rattle.decimal.proofs.ten_to.Statement.{statement}
+use Rattle.decimal.proofs.ten_to.Tie as tie
 
 abbrev Inv-loop : tie.InvT-loop
 Inv-loop places power₀ i₀ power i = (i ≤ places) × (power ≡ 10 ^ i)
