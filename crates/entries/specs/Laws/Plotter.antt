@@ -6,14 +6,17 @@ use mathlib.Core.Bool.{Bool, true, false, not, _||_}
 use mathlib.Core.List.{List, [], _∷_, _++_}
 use Prim.Native.Nat.{ℕ, zero, suc, _<_}
 use lib.IntN.{ℤ, pos, _+ℤ_, _-ℤ_}
-use lib.Ieee.{Float, nan, inf, fin, isNan}
+use native.Mathlib.Omega.{arith}
+use lib.Ieee.{Float, nan, inf, fin, eq, isNan}
+use borrow.Author.Tests.{not-false}
 use Rattle.logic.specs.Lists.{All}
 use Rattle.logic.specs.Refusal.{refuse, _otherwise_, given}
 use Rattle.logic.specs.Laws.Bools.{clash}
-use Rattle.logic.specs.Laws.Refusal.{both, given-value}
+use Rattle.logic.specs.Laws.Refusal.{passes, both, allowed, given-value}
 use Rattle.cell.specs.declared.Arrangement.{Arrangement}
 use Rattle.cell.specs.Cell.{arrangementRefusal}
 use Rattle.code.specs.Code.{cellOf, arrangementOf, codeRefusal}
+use Rattle.code.specs.Laws.Code.{a-code}
 use Rattle.code.specs.Laws.Exact.{NoCell}
 use Rattle.plane.specs.Plane.{leftOf, rightOf, topOf, bottomOf, squareOf, inImage, pointRefusal}
 use Rattle.metres.specs.Metres.{isSide, IsSide, sideRefusal, metresOf}
@@ -21,9 +24,12 @@ use Rattle.metres.specs.Laws.Metres.{side-exactly}
 use Rattle.plotter.specs.declared.Frame.{Frame}
 use Rattle.plotter.specs.declared.Mark.{Mark}
 use Rattle.plotter.specs.declared.Framed.{Framed}
-use Rattle.plotter.specs.Plotter.{mark, pointMark, markOfPoint, boxOf, boxIn, boxMark, boxRefusal, markOfCode, framed, firstFrame, grown, hasNan, growRefusal, grownFrame}
+use Rattle.plotter.specs.Plotter.{mark, pointMark, markOfPoint, boxOf, boxIn, boxMark, boxRefusal, markOfCode, framed, firstFrame, grown, hasNan, growRefusal, grownFrame, Holds, EdgesOf}
+use Rattle.plotter.specs.Laws.Frame.{grown-own, grown-other, over-edges, tie-left, tie-right}
+use Rattle.plotter.specs.Laws.Box.{code-box}
 use Rattle.entries.specs.declared.SquareAnswer.{SquareAnswer}
 use Rattle.entries.specs.declared.MarkAnswer.{MarkAnswer}
+use Rattle.entries.specs.declared.FrameAnswer.{FrameAnswer}
 use Rattle.entries.specs.Entries.{arrangement, placedAnswer, aSquare, noSquare, cellSquare}
 use Rattle.entries.specs.Order.{Chain, FirstOf, numbers, order, inOrder}
 use Rattle.entries.specs.Refusals.{OnImage}
@@ -158,3 +164,72 @@ pub point-metres : (s : Float) (n m : ℕ) (x y : ℤ) → pointMarked s n m x y
 unfolding pointMarked markOfPoint
 point-metres s n m x y e =
     ap (λ (r : ℕ). markNumbers (mark r (pointMark s x y))) (sym (mark-refusal (sideRefusal s otherwise pointRefusal (arrangement n m) 0 x y) (pointMark s x y) refl) ∙ e)
+
+-- ---- frames, over what the entries answer
+
+-- the edges in an answer, as a frame to hand in
+abbrev pub frameIn : FrameAnswer → Frame
+frameIn r = record { left = r .left; bottom = r .bottom; right = r .right; top = r .top }
+
+-- "The first frame is a cell's box": the four numbers that jgv_mark_code answers
+pub frame-box : (s : Float) (code : ℕ) → frameBegun s code .refusal ≡ 0 →
+    (codeMarked s code .refusal ≡ 0) × (codeMarked s code .numbers ≡ frameBegun s code .left ∷ frameBegun s code .bottom ∷ frameBegun s code .right ∷ frameBegun s code .top ∷ [])
+unfolding frameBegun firstFrame codeMarked markOfCode
+frame-box s code e = go (boxRefusal s code) (boxIn s code) e
+  where
+    go : (r : ℕ) (f : Frame) → frameNumbers (framed r f) .refusal ≡ 0 →
+        (markNumbers (mark r (boxMark f)) .refusal ≡ 0)
+        × (markNumbers (mark r (boxMark f)) .numbers
+        ≡ frameNumbers (framed r f) .left ∷ frameNumbers (framed r f) .bottom ∷ frameNumbers (framed r f) .right ∷ frameNumbers (framed r f) .top ∷ [])
+    go zero f e = (refl, refl)
+    go (suc r) f e = absurd (omega arith)
+
+-- "A frame grows to hold the box of each further cell": the answer holds the frame that was handed in, and the first frame of the code
+module _ (s : Float) (f : Frame) (code : ℕ) (e : frameGrown s f code .refusal ≡ 0) where
+  grow-passes : growRefusal s f code ≡ 0
+  unfolding frameGrown grownFrame
+  grow-passes = sym (frame-refusal (growRefusal s f code) (grown f (boxIn s code))) ∙ e
+
+  grown-is : frameIn (frameGrown s f code) ≡ grown f (boxIn s code)
+  unfolding frameGrown grownFrame
+  grown-is = ap (λ (r : ℕ). frameIn (frameNumbers (framed r (grown f (boxIn s code))))) grow-passes
+
+  begun-passes : boxRefusal s code ≡ 0
+  unfolding growRefusal boxRefusal
+  begun-passes =
+      let p = both (sideRefusal s) (refuse (hasNan f) 19 otherwise codeRefusal code) grow-passes in
+      passes (codeRefusal code) (p .0) ∙ both (refuse (hasNan f) 19) (codeRefusal code) (p .1) .1
+
+  begun-is : frameIn (frameBegun s code) ≡ boxIn s code
+  unfolding frameBegun firstFrame
+  begun-is = ap (λ (r : ℕ). frameIn (frameNumbers (framed r (boxIn s code)))) begun-passes
+
+  numbers-own : hasNan f ≡ false
+  unfolding growRefusal
+  numbers-own = allowed 18 (hasNan f) (both (refuse (hasNan f) 19) (codeRefusal code) (both (sideRefusal s) (refuse (hasNan f) 19 otherwise codeRefusal code) grow-passes .1) .0)
+
+  numbers-box : hasNan (boxIn s code) ≡ false
+  unfolding boxRefusal sideRefusal
+  numbers-box =
+      let p = both (sideRefusal s) (codeRefusal code) begun-passes in
+      code-box s code (not-false _ (allowed 18 (not (isSide s)) (p .0))) (a-code code (p .1))
+
+  pub grown-holds : Holds (frameIn (frameGrown s f code)) f × Holds (frameIn (frameGrown s f code)) (frameIn (frameBegun s code))
+  grown-holds = (
+    subst (λ (g : Frame). Holds g f) (sym grown-is) (grown-own f (boxIn s code) numbers-own numbers-box),
+    subst (λ (g : Frame). Holds g (frameIn (frameBegun s code))) (sym grown-is)
+        (subst (Holds (grown f (boxIn s code))) (sym begun-is) (grown-other f (boxIn s code) numbers-own numbers-box)),
+  )
+
+  -- and each of its edges is one of theirs
+  pub grown-edges : EdgesOf (frameIn (frameGrown s f code)) (f ∷ frameIn (frameBegun s code) ∷ [])
+  grown-edges =
+      subst (λ (g : Frame). EdgesOf g (f ∷ frameIn (frameBegun s code) ∷ [])) (sym grown-is)
+      (subst (λ (b : Frame). EdgesOf (grown f (boxIn s code)) (f ∷ b ∷ [])) (sym begun-is) (over-edges f (boxIn s code ∷ [])))
+
+  -- "on a tie the frame's"
+  pub grown-tie : eq (frameBegun s code .left) (f .left) ≡ true → frameGrown s f code .left ≡ f .left
+  grown-tie h = ap (λ (g : Frame). g .left) grown-is ∙ tie-left f (boxIn s code) (sym (ap (λ (g : Frame). eq (g .left) (f .left)) begun-is) ∙ h)
+
+  pub grown-tie-right : eq (f .right) (frameBegun s code .right) ≡ true → frameGrown s f code .right ≡ f .right
+  grown-tie-right h = ap (λ (g : Frame). g .right) grown-is ∙ tie-right f (boxIn s code) (sym (ap (λ (g : Frame). eq (f .right) (g .right)) begun-is) ∙ h)
