@@ -105,7 +105,9 @@ zeros = o ∷ o ∷ o ∷ o ∷ []
 
 pub asks : List Asks
 asks =
-    point (fin false 848388532111147 (negsuc 35)) 0 0 (pos 45570526) (negℤ (pos 7103840)) (0 ∷ 1 ∷ []) (fin false 2694387221317475 (negsuc 36) ∷ fin true 6720307145292615 (negsuc 40) ∷ o ∷ o ∷ []) ∷  -- 12345.678: the quotient first, a reciprocal or one rounding give other doubles for both
+    -- side 12345.678: the quotient first, a reciprocal or one rounding would give other doubles for both
+    point (fin false 848388532111147 (negsuc 35)) 0 0 (pos 45570526) (negℤ (pos 7103840)) (0 ∷ 1 ∷ [])
+    (fin false 2694387221317475 (negsuc 36) ∷ fin true 6720307145292615 (negsuc 40) ∷ o ∷ o ∷ []) ∷
     point one 0 0 (pos 0) (pos 0) (0 ∷ 1 ∷ []) zeros ∷  -- zero for zero
     point (fin false 1 (pos 30)) 0 0 (pos 28697814) (pos 0) (0 ∷ 1 ∷ []) (fin false 1 (pos 30) ∷ o ∷ o ∷ o ∷ []) ∷  -- 2^30
     point (fin false 4503599627370497 (negsuc 21)) 0 0 (pos 0) (pos 0) (19 ∷ 0 ∷ []) zeros ∷  -- the next double above 2^30

@@ -14,13 +14,15 @@ use Rattle.logic.specs.Refusal.{refuse, _otherwise_, given}
 use Rattle.logic.specs.Laws.Bools.{clash}
 use Rattle.logic.specs.Laws.Refusal.{passes, both, allowed, given-value}
 use Rattle.cell.specs.declared.Arrangement.{Arrangement}
-use Rattle.cell.specs.Cell.{arrangementRefusal}
+use Rattle.cell.specs.Cell.{IsArrangement, arrangementRefusal}
 use Rattle.code.specs.Code.{cellOf, arrangementOf, codeRefusal}
-use Rattle.code.specs.Laws.Code.{a-code}
+use Rattle.code.specs.Laws.Code.{a-code, code-is-cell, code-arranged}
 use Rattle.code.specs.Laws.Exact.{NoCell}
 use Rattle.plane.specs.Plane.{leftOf, rightOf, topOf, bottomOf, squareOf, inImage, pointRefusal}
-use Rattle.metres.specs.Metres.{isSide, IsSide, sideRefusal, metresOf}
-use Rattle.metres.specs.Laws.Metres.{side-exactly}
+use Rattle.plane.specs.Laws.Plane.{point-allowed, refused-outside}
+use Rattle.plane.specs.Laws.Small.{left-within, right-within, top-within, bottom-within, image-within}
+use Rattle.metres.specs.Metres.{isSide, IsSide, sideRefusal, metresOf, NearExact}
+use Rattle.metres.specs.Laws.Metres.{side-exactly, metres-near}
 use Rattle.plotter.specs.declared.Frame.{Frame}
 use Rattle.plotter.specs.declared.Mark.{Mark}
 use Rattle.plotter.specs.declared.Framed.{Framed}
@@ -72,6 +74,10 @@ one-nan x = record { holds = is-nan x; fails = λ e h. clash (sym (ap isNan h �
 nan-edge : (f : Frame) → Decides (hasNan f) (NanEdge f)
 unfolding hasNan
 nan-edge f = or-decides (one-nan (f .left)) (or-decides (one-nan (f .bottom)) (or-decides (one-nan (f .right)) (one-nan (f .top))))
+
+side-passed : (s : Float) → sideRefusal s ≡ 0 → isSide s ≡ true
+unfolding sideRefusal
+side-passed s e = not-false _ (allowed 18 (not (isSide s)) e)
 
 -- ---- the entries
 
@@ -233,3 +239,43 @@ module _ (s : Float) (f : Frame) (code : ℕ) (e : frameGrown s f code .refusal 
 
   pub grown-tie-right : eq (f .right) (frameBegun s code .right) ≡ true → frameGrown s f code .right ≡ f .right
   grown-tie-right h = ap (λ (g : Frame). g .right) grown-is ∙ tie-right f (boxIn s code) (sym (ap (λ (g : Frame). eq (f .right) (g .right)) begun-is) ∙ h)
+
+-- ---- each number "is within one part in 2^51 of the exact one", over what the entries answer
+
+module _ (s : Float) (n m : ℕ) (x y : ℤ) (e : pointMarked s n m x y .refusal ≡ 0) where
+  point-passes : (sideRefusal s ≡ 0) × (pointRefusal (arrangement n m) 0 x y ≡ 0)
+  unfolding pointMarked markOfPoint
+  point-passes =
+      both (sideRefusal s) (pointRefusal (arrangement n m) 0 x y)
+      (sym (mark-refusal (sideRefusal s otherwise pointRefusal (arrangement n m) 0 x y) (pointMark s x y) refl) ∙ e)
+
+  pub point-near : NearExact x s (metresOf x s) × NearExact y s (metresOf y s)
+  point-near =
+      let g = point-allowed (arrangement n m) 0 x y (point-passes .1) .0 in
+      let w = image-within g x y (inside g (inImage (arrangement n m) x y) refl) in
+      let i = side-passed s (point-passes .0) in
+      (metres-near x s (omega (arith, w .0)) i, metres-near y s (omega (arith, w .1)) i)
+    where
+      inside : IsArrangement (arrangement n m) → (b : Bool) → inImage (arrangement n m) x y ≡ b → b ≡ true
+      inside g true f = refl
+      inside g false f = let h = refused-outside {k = 0} x y g (omega arith) .1 f in absurd (omega (arith, point-passes .1))
+
+module _ (s : Float) (code : ℕ) (e : codeMarked s code .refusal ≡ 0) where
+  pub box-near :
+      let a = arrangementOf code in
+      let c = cellOf code in
+      NearExact (leftOf a c) s (metresOf (leftOf a c) s)
+      × NearExact (bottomOf c) s (metresOf (bottomOf c) s)
+      × NearExact (rightOf a c) s (metresOf (rightOf a c) s)
+      × NearExact (topOf c) s (metresOf (topOf c) s)
+  unfolding boxRefusal
+  box-near =
+      let p = both (sideRefusal s) (codeRefusal code) (allowed-box s code e) in
+      let i = side-passed s (p .0) in
+      let g = code-arranged code in
+      let v = code-is-cell code (a-code code (p .1)) in (
+        metres-near _ s (omega (arith, left-within g v)) i,
+        metres-near _ s (omega (arith, bottom-within v)) i,
+        metres-near _ s (omega (arith, right-within g v)) i,
+        metres-near _ s (omega (arith, top-within v)) i,
+      )
