@@ -6,24 +6,32 @@ use mathlib.Core.Bool.{Bool, true, false, not, _||_}
 use mathlib.Core.List.{List, [], _∷_, _++_}
 use Prim.Native.Nat.{ℕ, zero, suc, _<_}
 use lib.IntN.{ℤ, pos, _+ℤ_, _-ℤ_}
-use lib.Ieee.{Float, nan, inf, fin, isNan}
+use native.Mathlib.Omega.{arith}
+use lib.Ieee.{Float, nan, inf, fin, eq, isNan}
+use borrow.Author.Tests.{not-false}
 use Rattle.logic.specs.Lists.{All}
 use Rattle.logic.specs.Refusal.{refuse, _otherwise_, given}
 use Rattle.logic.specs.Laws.Bools.{clash}
-use Rattle.logic.specs.Laws.Refusal.{both, given-value}
+use Rattle.logic.specs.Laws.Refusal.{passes, both, allowed, given-value}
 use Rattle.cell.specs.declared.Arrangement.{Arrangement}
-use Rattle.cell.specs.Cell.{arrangementRefusal}
+use Rattle.cell.specs.Cell.{IsArrangement, arrangementRefusal}
 use Rattle.code.specs.Code.{cellOf, arrangementOf, codeRefusal}
+use Rattle.code.specs.Laws.Code.{a-code, code-is-cell, code-arranged}
 use Rattle.code.specs.Laws.Exact.{NoCell}
 use Rattle.plane.specs.Plane.{leftOf, rightOf, topOf, bottomOf, squareOf, inImage, pointRefusal}
-use Rattle.metres.specs.Metres.{isSide, IsSide, sideRefusal, metresOf}
-use Rattle.metres.specs.Laws.Metres.{side-exactly}
+use Rattle.plane.specs.Laws.Plane.{point-allowed, refused-outside}
+use Rattle.plane.specs.Laws.Small.{left-within, right-within, top-within, bottom-within, image-within}
+use Rattle.metres.specs.Metres.{isSide, IsSide, sideRefusal, metresOf, NearExact}
+use Rattle.metres.specs.Laws.Metres.{side-exactly, metres-near}
 use Rattle.plotter.specs.declared.Frame.{Frame}
 use Rattle.plotter.specs.declared.Mark.{Mark}
 use Rattle.plotter.specs.declared.Framed.{Framed}
-use Rattle.plotter.specs.Plotter.{mark, pointMark, markOfPoint, boxOf, boxIn, boxMark, boxRefusal, markOfCode, framed, firstFrame, grown, hasNan, growRefusal, grownFrame}
+use Rattle.plotter.specs.Plotter.{mark, pointMark, markOfPoint, boxOf, boxIn, boxMark, boxRefusal, markOfCode, framed, firstFrame, grown, hasNan, growRefusal, grownFrame, Holds, EdgesOf}
+use Rattle.plotter.specs.Laws.Frame.{grown-own, grown-other, over-edges, tie-left, tie-right}
+use Rattle.plotter.specs.Laws.Box.{code-box}
 use Rattle.entries.specs.declared.SquareAnswer.{SquareAnswer}
 use Rattle.entries.specs.declared.MarkAnswer.{MarkAnswer}
+use Rattle.entries.specs.declared.FrameAnswer.{FrameAnswer}
 use Rattle.entries.specs.Entries.{arrangement, placedAnswer, aSquare, noSquare, cellSquare}
 use Rattle.entries.specs.Order.{Chain, FirstOf, numbers, order, inOrder}
 use Rattle.entries.specs.Refusals.{OnImage}
@@ -66,6 +74,10 @@ one-nan x = record { holds = is-nan x; fails = λ e h. clash (sym (ap isNan h �
 nan-edge : (f : Frame) → Decides (hasNan f) (NanEdge f)
 unfolding hasNan
 nan-edge f = or-decides (one-nan (f .left)) (or-decides (one-nan (f .bottom)) (or-decides (one-nan (f .right)) (one-nan (f .top))))
+
+side-passed : (s : Float) → sideRefusal s ≡ 0 → isSide s ≡ true
+unfolding sideRefusal
+side-passed s e = not-false _ (allowed 18 (not (isSide s)) e)
 
 -- ---- the entries
 
@@ -158,3 +170,112 @@ pub point-metres : (s : Float) (n m : ℕ) (x y : ℤ) → pointMarked s n m x y
 unfolding pointMarked markOfPoint
 point-metres s n m x y e =
     ap (λ (r : ℕ). markNumbers (mark r (pointMark s x y))) (sym (mark-refusal (sideRefusal s otherwise pointRefusal (arrangement n m) 0 x y) (pointMark s x y) refl) ∙ e)
+
+-- ---- frames, over what the entries answer
+
+-- the edges in an answer, as a frame to hand in
+abbrev pub frameIn : FrameAnswer → Frame
+frameIn r = record { left = r .left; bottom = r .bottom; right = r .right; top = r .top }
+
+-- "The first frame is a cell's box": the four numbers that jgv_mark_code answers
+pub frame-box : (s : Float) (code : ℕ) → frameBegun s code .refusal ≡ 0 →
+    (codeMarked s code .refusal ≡ 0) × (codeMarked s code .numbers ≡ frameBegun s code .left ∷ frameBegun s code .bottom ∷ frameBegun s code .right ∷ frameBegun s code .top ∷ [])
+unfolding frameBegun firstFrame codeMarked markOfCode
+frame-box s code e = go (boxRefusal s code) (boxIn s code) e
+  where
+    go : (r : ℕ) (f : Frame) → frameNumbers (framed r f) .refusal ≡ 0 →
+        (markNumbers (mark r (boxMark f)) .refusal ≡ 0)
+        × (markNumbers (mark r (boxMark f)) .numbers
+        ≡ frameNumbers (framed r f) .left ∷ frameNumbers (framed r f) .bottom ∷ frameNumbers (framed r f) .right ∷ frameNumbers (framed r f) .top ∷ [])
+    go zero f e = (refl, refl)
+    go (suc r) f e = absurd (omega arith)
+
+-- "A frame grows to hold the box of each further cell": the answer holds the frame that was handed in, and the first frame of the code
+module _ (s : Float) (f : Frame) (code : ℕ) (e : frameGrown s f code .refusal ≡ 0) where
+  grow-passes : growRefusal s f code ≡ 0
+  unfolding frameGrown grownFrame
+  grow-passes = sym (frame-refusal (growRefusal s f code) (grown f (boxIn s code))) ∙ e
+
+  grown-is : frameIn (frameGrown s f code) ≡ grown f (boxIn s code)
+  unfolding frameGrown grownFrame
+  grown-is = ap (λ (r : ℕ). frameIn (frameNumbers (framed r (grown f (boxIn s code))))) grow-passes
+
+  begun-passes : boxRefusal s code ≡ 0
+  unfolding growRefusal boxRefusal
+  begun-passes =
+      let p = both (sideRefusal s) (refuse (hasNan f) 19 otherwise codeRefusal code) grow-passes in
+      passes (codeRefusal code) (p .0) ∙ both (refuse (hasNan f) 19) (codeRefusal code) (p .1) .1
+
+  begun-is : frameIn (frameBegun s code) ≡ boxIn s code
+  unfolding frameBegun firstFrame
+  begun-is = ap (λ (r : ℕ). frameIn (frameNumbers (framed r (boxIn s code)))) begun-passes
+
+  numbers-own : hasNan f ≡ false
+  unfolding growRefusal
+  numbers-own = allowed 18 (hasNan f) (both (refuse (hasNan f) 19) (codeRefusal code) (both (sideRefusal s) (refuse (hasNan f) 19 otherwise codeRefusal code) grow-passes .1) .0)
+
+  numbers-box : hasNan (boxIn s code) ≡ false
+  unfolding boxRefusal sideRefusal
+  numbers-box =
+      let p = both (sideRefusal s) (codeRefusal code) begun-passes in
+      code-box s code (not-false _ (allowed 18 (not (isSide s)) (p .0))) (a-code code (p .1))
+
+  pub grown-holds : Holds (frameIn (frameGrown s f code)) f × Holds (frameIn (frameGrown s f code)) (frameIn (frameBegun s code))
+  grown-holds = (
+    subst (λ (g : Frame). Holds g f) (sym grown-is) (grown-own f (boxIn s code) numbers-own numbers-box),
+    subst (λ (g : Frame). Holds g (frameIn (frameBegun s code))) (sym grown-is)
+        (subst (Holds (grown f (boxIn s code))) (sym begun-is) (grown-other f (boxIn s code) numbers-own numbers-box)),
+  )
+
+  -- and each of its edges is one of theirs
+  pub grown-edges : EdgesOf (frameIn (frameGrown s f code)) (f ∷ frameIn (frameBegun s code) ∷ [])
+  grown-edges =
+      subst (λ (g : Frame). EdgesOf g (f ∷ frameIn (frameBegun s code) ∷ [])) (sym grown-is)
+      (subst (λ (b : Frame). EdgesOf (grown f (boxIn s code)) (f ∷ b ∷ [])) (sym begun-is) (over-edges f (boxIn s code ∷ [])))
+
+  -- "on a tie the frame's"
+  pub grown-tie : eq (frameBegun s code .left) (f .left) ≡ true → frameGrown s f code .left ≡ f .left
+  grown-tie h = ap (λ (g : Frame). g .left) grown-is ∙ tie-left f (boxIn s code) (sym (ap (λ (g : Frame). eq (g .left) (f .left)) begun-is) ∙ h)
+
+  pub grown-tie-right : eq (f .right) (frameBegun s code .right) ≡ true → frameGrown s f code .right ≡ f .right
+  grown-tie-right h = ap (λ (g : Frame). g .right) grown-is ∙ tie-right f (boxIn s code) (sym (ap (λ (g : Frame). eq (f .right) (g .right)) begun-is) ∙ h)
+
+-- ---- each number "is within one part in 2^51 of the exact one", over what the entries answer
+
+module _ (s : Float) (n m : ℕ) (x y : ℤ) (e : pointMarked s n m x y .refusal ≡ 0) where
+  point-passes : (sideRefusal s ≡ 0) × (pointRefusal (arrangement n m) 0 x y ≡ 0)
+  unfolding pointMarked markOfPoint
+  point-passes =
+      both (sideRefusal s) (pointRefusal (arrangement n m) 0 x y)
+      (sym (mark-refusal (sideRefusal s otherwise pointRefusal (arrangement n m) 0 x y) (pointMark s x y) refl) ∙ e)
+
+  pub point-near : NearExact x s (metresOf x s) × NearExact y s (metresOf y s)
+  point-near =
+      let g = point-allowed (arrangement n m) 0 x y (point-passes .1) .0 in
+      let w = image-within g x y (inside g (inImage (arrangement n m) x y) refl) in
+      let i = side-passed s (point-passes .0) in
+      (metres-near x s (omega (arith, w .0)) i, metres-near y s (omega (arith, w .1)) i)
+    where
+      inside : IsArrangement (arrangement n m) → (b : Bool) → inImage (arrangement n m) x y ≡ b → b ≡ true
+      inside g true f = refl
+      inside g false f = let h = refused-outside {k = 0} x y g (omega arith) .1 f in absurd (omega (arith, point-passes .1))
+
+module _ (s : Float) (code : ℕ) (e : codeMarked s code .refusal ≡ 0) where
+  pub box-near :
+      let a = arrangementOf code in
+      let c = cellOf code in
+      NearExact (leftOf a c) s (metresOf (leftOf a c) s)
+      × NearExact (bottomOf c) s (metresOf (bottomOf c) s)
+      × NearExact (rightOf a c) s (metresOf (rightOf a c) s)
+      × NearExact (topOf c) s (metresOf (topOf c) s)
+  unfolding boxRefusal
+  box-near =
+      let p = both (sideRefusal s) (codeRefusal code) (allowed-box s code e) in
+      let i = side-passed s (p .0) in
+      let g = code-arranged code in
+      let v = code-is-cell code (a-code code (p .1)) in (
+        metres-near _ s (omega (arith, left-within g v)) i,
+        metres-near _ s (omega (arith, bottom-within v)) i,
+        metres-near _ s (omega (arith, right-within g v)) i,
+        metres-near _ s (omega (arith, top-within v)) i,
+      )
