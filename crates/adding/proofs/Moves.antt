@@ -9,6 +9,7 @@ use lib.Seq.{drop-cons, drop-at, take-take, take-set-le, set-split, getD-take, g
 use Rattle.logic.specs.Laws.Stores.{sets-append}
 use Rattle.walk.specs.Laws.Walk.{byte-at}
 use Rattle.adding.specs.Internal.Edit.{nested}
+use Rattle.adding.specs.Internal.EditLaws.{nested-count}
 
 -- ---- on
 
@@ -91,10 +92,6 @@ module _ (e : List ℕ) (from to count : ℕ) (a : from ≤ to) (b : to + count 
       }
 
 -- ---- each of the bytes in the list of the one before it
-
-nested-count : (b : ℕ) (bs : List ℕ) → length (nested (b ∷ bs)) ≡ 3 * length bs + 1
-nested-count b [] = refl
-nested-count b (c ∷ bs) = omega (arith, nested-count c bs, length-append (nested (c ∷ bs)) (41 ∷ []))
 
 module _ (name : List ℕ) (k : ℕ) (h : k < length name) where
   pub nested-length : length (nested (drop k name)) + 2 ≡ 3 * (length name - k)

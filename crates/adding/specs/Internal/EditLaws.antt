@@ -3,10 +3,10 @@ use mathlib.Core.Path.{_≡_, refl, sym, ap, ap₂, _∙_, subst}
 use mathlib.Core.Logic.{_⊎_, inl, inr, ⊎-elim}
 use mathlib.Core.Bool.{Bool, true, false, cond}
 use mathlib.Core.List.{List, [], _∷_, _++_, append-assoc, append-nil}
-use Prim.Native.Nat.{ℕ, zero, suc, _+_, _-_, _≤_, _<_}
+use Prim.Native.Nat.{ℕ, zero, suc, _+_, _-_, _*_, _≤_, _<_}
 use native.Mathlib.Omega.{arith}
-use lib.ListN.{length, take, drop, length-append, drop-of-length-le}
-use lib.Seq.{drop-at, take-at, drop-drop}
+use lib.ListN.{length, take, drop, length-append, length-drop, drop-of-length-le}
+use lib.Seq.{drop-at, take-at, drop-drop, length-take-le}
 use lib.Dec.{eqb, ltb}
 use borrow.Author.Tests.{ltb-true, ltb-false, eqb-true, eqb-false, eq-eqb, ne-eqb}
 use Rattle.logic.specs.Laws.Bools.{by-cond}
@@ -236,3 +236,29 @@ says-fits name t u stop n (Put i k) s = (omega (arith, ap length (s .2), length-
 says-fits name t u stop n (Cut i j) s =
     (omega (arith, s .4, s .5), omega (arith, ap length (s .3), length-append (s .0) (s .1 ++ s .2), length-append (s .1) (s .2), s .5))
 says-fits name t u stop n (Full e) s = tt
+
+-- ---- its length
+
+pub nested-count : (b : ℕ) (bs : List ℕ) → length (nested (b ∷ bs)) ≡ 3 * length bs + 1
+nested-count b [] = refl
+nested-count b (c ∷ bs) = omega (arith, nested-count c bs, length-append (nested (c ∷ bs)) (41 ∷ []))
+
+nested-most : (bs : List ℕ) → length bs ≤ 16 → length (nested bs) ≤ 46
+nested-most [] h = omega arith
+nested-most (b ∷ bs) h = omega (arith, nested-count b bs)
+
+-- at most 46 bytes more
+pub edited-length : (name t : List ℕ) (e : Edit) → EditFits (length t) (length name) e → length name ≤ 16 → length (edited name t e) ≤ length t + 46
+unfolding edited
+edited-length name t Covered f h = omega arith
+edited-length name t (Put i k) f h =
+    omega (
+      arith,
+      nested-most (drop k name) (omega (arith, length-drop k name)),
+      length-append (take i t) (nested (drop k name) ++ drop i t),
+      length-append (nested (drop k name)) (drop i t),
+      length-take-le i t (f .0),
+      length-drop i t,
+    )
+edited-length name t (Cut i j) f h = omega (arith, length-append (take i t) (drop j t), length-take-le i t (omega (arith, f .0, f .1)), length-drop j t, f .0, f .1)
+edited-length name t (Full e) f h = omega arith

@@ -30,6 +30,7 @@ use Rattle.reading.specs.Laws.Fits.{faces-of, render-faces}
 use Rattle.reading.specs.Laws.Built.{built-good, built-ground}
 use Rattle.reading.specs.Laws.TextReading.{reads-own, good-nodes, body-within, body-nodes}
 use Rattle.name.specs.Name.{digitBytes, nameOf}
+use Rattle.name.specs.Laws.Name.{length-name}
 use Rattle.adding.specs.declared.Edit.{Edit}
 use Rattle.adding.specs.Add.{textWith, keepsWith}
 use Rattle.adding.specs.Internal.Grow.{grow}
@@ -179,3 +180,6 @@ digit-bytes (d ∷ ds) = ap (λ (x : List ℕ). (48 + d) ∷ x) (digit-bytes ds)
 pub name-bytes : (c : Cell) → nameOf c ≡ cellBytes c
 unfolding nameOf
 name-bytes c = ap (λ (x : List ℕ). (78 + c .face) ∷ x) (sym (digit-bytes (cellDigits c)))
+
+pub bytes-length : (c : Cell) → length (cellBytes c) ≡ c .resolution + 1
+bytes-length c = sym (ap length (name-bytes c)) ∙ length-name c
