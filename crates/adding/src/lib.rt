@@ -88,7 +88,7 @@ fn put_from(text: &[u8], i: usize, k: usize, count: usize, wholes: usize) -> Edi
         return Edit::Put(i, k);
     }
     let after = run_at(text, i);
-    if wholes + 1 + after == 9 {
+    if wholes + 1 + after == 9 { // with it nine are whole
         return Edit::Full(i + after);
     }
     Edit::Put(i, k)
@@ -279,7 +279,7 @@ pub fn add(text: &mut [u8], end: usize, code: u64) -> Added
         return refused(13);
     }
     if end > text.len() {
-        return refused(8);
+        return refused(8); // not all lent
     }
     match reader::check(&text[..end]) {
         Checked::Refused { refusal, place } => Added::Refused { refusal, place },
