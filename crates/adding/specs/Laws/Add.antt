@@ -136,6 +136,10 @@ module _ (t : List ℕ) (e : isText t ≡ true) (c : Cell) (v : IsCell c) where
         edited-length (cellBytes c) t (textEdit t e c v) (edit-fits t e c v) (omega (arith, v .fine)),
       )
 
+-- a cell that was added is covered, so adding it again changes nothing
+pub with-again : (t : List ℕ) → isText t ≡ true → (c : Cell) → IsCell c → keepsWith t c ≡ true → textWith (textWith t c) c ≡ textWith t c
+with-again t e c v k = covered-same (textWith t c) (with-text t e c v k) c v (λ y f i. with-ground t e c v k y f .0 (inl i))
+
 -- ---- cells added one by one
 
 module _ (p : Profile) (n s : ℕ) (q : IsProfile p) (a : n ≤ 3) (b : s ≤ 3) (cells : List Cell) (w : Cells cells) (k : keeps p cells ≡ true) where

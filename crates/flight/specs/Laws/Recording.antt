@@ -1,0 +1,1 @@
+-- What a flight's text is.
