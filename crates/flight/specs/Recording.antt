@@ -4,7 +4,7 @@ use mathlib.Core.Path.{_≡_}
 use mathlib.Core.Logic.{_⊎_}
 use mathlib.Core.Bool.{Bool, true, cond}
 use mathlib.Core.List.{List, [], _∷_}
-use Prim.Native.Nat.{ℕ, zero, suc}
+use Prim.Native.Nat.{ℕ, zero, suc, _+_}
 use lib.Dec.{eqb, ltb}
 use lib.ListN.{length, take}
 use Rattle.cell.specs.declared.Cell.{Cell}
@@ -12,6 +12,7 @@ use Rattle.code.specs.declared.Coded.{Coded}
 use Rattle.code.specs.declared.Coded.the-variants as coded-as
 use Rattle.code.specs.Code.{cellOf, isCode}
 use Rattle.reading.specs.declared.Profile.the-variants as profile-as
+use Rattle.reading.specs.Ground.{Cells}
 use Rattle.reading.specs.Written.{writtenText}
 use Rattle.adding.specs.Add.{textWith, withRefusal, placed, Holding}
 use Rattle.flight.specs.declared.Setting.{Setting}
@@ -83,17 +84,22 @@ withCode room (coded-as.Refused r) f = withRefused r f
 abbrev pub withLine : Setting → (room : ℕ) → Flown → (line : List ℕ) → Flown
 withLine s room f line = withCode room (lineCode s line) f
 
--- before the first line: the text of no cell, of version 1
-abbrev pub noCell : Setting → List ℕ
-noCell s = writtenText profile-as.Full (s .arrangement .north) (s .arrangement .south) []
+-- how many lines that makes
+abbrev pub counted : Flown → ℕ
+counted f = f .fixes + f .full + f .bad
 
+-- the text of some cells, of version 1, in the setting's arrangement
+abbrev pub textFor : Setting → List Cell → List ℕ
+textFor s cells = writtenText profile-as.Full (s .arrangement .north) (s .arrangement .south) cells
+
+-- before the first line: the text of no cell
 abbrev pub started : Setting → Flown
-started s = record { text = noCell s; fixes = 0; full = 0; bad = 0 }
+started s = record { text = textFor s []; fixes = 0; full = 0; bad = 0 }
 
 -- ---- the same without texts: the cells of the fixes taken, the last one first. 13: "text longer than 65,536 bytes, .. to be written"
 
 abbrev pub tooLong : Setting → List Cell → Bool
-tooLong s cells = ltb 65536 (length (writtenText profile-as.Full (s .arrangement .north) (s .arrangement .south) cells))
+tooLong s cells = ltb 65536 (length (textFor s cells))
 
 abbrev pub withCell : Setting → Coded → List Cell → List Cell
 withCell s (coded-as.Code code) cells = cond (tooLong s (cellOf code ∷ cells)) cells (cellOf code ∷ cells)
@@ -101,6 +107,12 @@ withCell s (coded-as.Refused r) cells = cells
 
 abbrev pub cellsWith : Setting → List Cell → (line : List ℕ) → List Cell
 cellsWith s cells line = withCell s (lineCode s line) cells
+
+-- the flight's text is that of these cells, one for each fix taken
+pub record FlownFrom (s : Setting) (f : Flown) (qs : List Cell) : Type 0 where
+  pub text : f .text ≡ textFor s qs
+  pub cells : Cells qs
+  pub fixes : f .fixes ≡ length qs
 
 -- some line is a fix in this cell
 abbrev pub HasFix : Setting → (lines : List (List ℕ)) → Cell → Type 0
