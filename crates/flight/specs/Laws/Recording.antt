@@ -240,8 +240,8 @@ module _ (s : Setting) (u : UsableSetting s) (room : ℕ) (big : 65536 ≤ room)
   any-order xs ys y z h =
       let p = flown-text xs in
       let q = flown-text ys in
-      let to = λ (x : Cell) (m : Mem x (after (cellsWith s) [] xs)). fix-flown ys x z (h x .0 (flown-fix xs x m)) in
-      let back = λ (x : Cell) (m : Mem x (after (cellsWith s) [] ys)). fix-flown xs x y (h x .1 (flown-fix ys x m)) in
+      let to : (x : Cell) → Mem x (after (cellsWith s) [] xs) → Mem x (after (cellsWith s) [] ys) = λ x m. fix-flown ys x z (h x .0 (flown-fix xs x m)) in
+      let back : (x : Cell) → Mem x (after (cellsWith s) [] ys) → Mem x (after (cellsWith s) [] xs) = λ x m. fix-flown xs x y (h x .1 (flown-fix ys x m)) in
       p .text
       ∙ one-text profile-as.Full (s .arrangement .north) (s .arrangement .south) (after (cellsWith s) [] xs) (after (cellsWith s) [] ys) (p .cells) (q .cells)
       (λ x f. (same-covers (after (cellsWith s) [] xs) (after (cellsWith s) [] ys) to x, same-covers (after (cellsWith s) [] ys) (after (cellsWith s) [] xs) back x))
