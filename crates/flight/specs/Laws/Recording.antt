@@ -7,11 +7,12 @@ use mathlib.Core.List.{List, [], _∷_}
 use Prim.Native.Nat.{ℕ, zero, suc, _+_, _≤_, _<_}
 use native.Mathlib.Omega.{arith}
 use lib.Dec.{eqb, ltb}
-use lib.ListN.{length}
+use lib.ListN.{length, take, drop}
+use lib.Seq.{take-at}
 use borrow.Author.Tests.{le-ltb, ltb-false}
 use Rattle.logic.specs.Lists.{Any, Mem}
 use Rattle.logic.specs.Laws.Lists.{any-mem, mem-any}
-use Rattle.logic.specs.Refusal.{refuse, _otherwise_}
+use Rattle.logic.specs.Refusal.{refuse, _otherwise_, given}
 use Rattle.logic.specs.Laws.Bools.{by-cond}
 use Rattle.cell.specs.declared.Cell.{Cell}
 use Rattle.cell.specs.Cell.{IsCell}
@@ -25,17 +26,52 @@ use Rattle.reading.specs.Ground.{Covers, SameGround, Cells}
 use Rattle.reading.specs.Written.{writtenText, keeps}
 use Rattle.reading.specs.Laws.Fits.{good-fits}
 use Rattle.reading.specs.Laws.Written.{nodes-good, one-text}
-use Rattle.adding.specs.Add.{textWith, keepsWith, sizeRefusal, withRefusal}
+use Rattle.adding.specs.Add.{textWith, keepsWith, sizeRefusal, withRefusal, placed}
 use Rattle.adding.specs.Laws.Add.{with-written, keeps-written}
 use Rattle.lines.specs.Fold.{after}
 use Rattle.flight.specs.declared.Setting.{Setting}
 use Rattle.flight.specs.declared.Taken.{Taken}
+use Rattle.flight.specs.declared.Taken.the-variants as taken-as
 use Rattle.flight.specs.Setting.{UsableSetting}
 use Rattle.flight.specs.Flight.{lineCode}
-use Rattle.flight.specs.Recording.{fixTaken, taken, refusalIn, Flown, withFix, withRefused, decided, withCode, withLine}
+use Rattle.flight.specs.Recording.{fixTaken, taken, takenText, refusalIn, Flown, withFix, withRefused, decided, withCode, withLine}
 use Rattle.flight.specs.Recording.{textFor, started, tooLong, withCell, cellsWith, FlownFrom, HasFix, counted}
 use Rattle.flight.specs.Laws.Code.{line-is-code}
 use Rattle.flight.specs.Laws.Setting.{line-six}
+
+-- ---- what an answer of `flight::take_line` stands for
+
+abbrev pub flownAs : Taken → (later : List ℕ) → Flown → Flown
+flownAs (taken-as.Fix n) later f = withFix (take (n .length) later) f
+flownAs (taken-as.Refused r) later f = withRefused r f
+
+-- the flight after the line
+pub taken-flown : (a : Coded) (bytes : List ℕ) (f : Flown) → flownAs (taken a (length bytes) (f .text)) (takenText a bytes (f .text)) f ≡ withCode (length bytes) a f
+unfolding taken takenText fixTaken placed given
+taken-flown (coded-as.Code code) bytes f = go (withRefusal (f .text) (cellOf code) (length bytes))
+  where
+    u : List ℕ
+    u = textWith (f .text) (cellOf code)
+
+    go : (r : ℕ) → flownAs (fixTaken r (length u) code) (placed r u bytes) f ≡ decided r u f
+    go zero = ap (λ (t : List ℕ). withFix t f) (take-at u (drop (length u) bytes) (length u) refl)
+    go (suc r) = refl
+taken-flown (coded-as.Refused r) bytes f = refl
+
+-- a refused line changes no byte
+pub refused-bytes : (a : Coded) (bytes t : List ℕ) {r : ℕ} → taken-as.Refused r ≡ taken a (length bytes) t → takenText a bytes t ≡ bytes
+unfolding taken takenText fixTaken placed given
+refused-bytes (coded-as.Code code) bytes t {r} e = go (withRefusal t (cellOf code) (length bytes)) e
+  where
+    u : List ℕ
+    u = textWith t (cellOf code)
+
+    go : (q : ℕ) → taken-as.Refused r ≡ fixTaken q (length u) code → placed q u bytes ≡ bytes
+    go zero f = let z : _≡_ {A = ℕ} 0 1 = cc in absurd (omega arith)
+    go (suc q) f = refl
+refused-bytes (coded-as.Refused q) bytes t e = refl
+
+-- ---- the text of the cells taken
 
 full-fits : (cells : List Cell) → Cells cells → keeps profile-as.Full cells ≡ true
 full-fits cells w = good-fits _ _ _ 0 (nodes-good cells w)
