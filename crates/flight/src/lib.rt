@@ -126,7 +126,7 @@ pub fn begin(arrangement: Arrangement, text: &mut [u8]) -> Recording
     };
     Recording {
         length: length as usize,
-        last: u64::MAX,
+        last: u64::MAX, // no fix yet
     }
 }
 

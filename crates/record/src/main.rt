@@ -62,7 +62,7 @@ fn with_fix(flight: Flight, recording: Recording) -> Flight
         changed = true;
     }
     Flight {
-        recording,
+        recording, // with the fix
         fixes: flight.fixes + 1,
         full: flight.full,
         bad: flight.bad,
@@ -132,7 +132,7 @@ fn keep_text(path: &[u8], beside: &[u8], text: &[u8], flight: Flight) -> Flight
         fixes: flight.fixes,
         full: flight.full,
         bad: flight.bad,
-        changed: false,
+        changed: false, // it is in the file
     }
 }
 
