@@ -108,3 +108,10 @@ pub struct AskAnswer {
     pub place: u64,
     pub covered: u64,
 }
+
+#[repr(C)]
+pub struct AddAnswer {
+    pub refusal: u64,
+    pub place: u64,
+    pub length: u64,
+}
