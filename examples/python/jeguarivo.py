@@ -102,6 +102,7 @@ _Z = _struct("jgv_z", c_int64, "z")
 _Check = _struct("jgv_check", c_uint64, "place", "version", "depth", "n", "s", "cells", "size")
 _List = _struct("jgv_list", c_uint64, "place", "count")
 _Ask = _struct("jgv_ask", c_uint64, "place", "covered")
+_Add = _struct("jgv_add", c_uint64, "place", "length")
 
 
 class _U64:
@@ -167,6 +168,7 @@ _coverage_check = _entry("jgv_coverage_check", _Check, _BYTES, c_size_t)
 _coverage_list = _entry("jgv_coverage_list", _List, _BYTES, c_size_t, _CODES, c_size_t)
 _coverage_write = _entry("jgv_coverage_write", _Length, _U64, _U64, _U64, _U64, _CODES, c_size_t, _ROOM, c_size_t)
 _coverage_ask = _entry("jgv_coverage_ask", _Ask, _BYTES, c_size_t, _U64)
+_coverage_add = _entry("jgv_coverage_add", _Add, _ROOM, c_size_t, _U64, _U64)
 
 
 def cell_code(n: int, s: int, face: int, resolution: int, row: int, column: int) -> int:
@@ -297,3 +299,11 @@ def coverage_write(n: int, s: int, codes: Iterable[int], depth: Optional[int] = 
 def coverage_ask(text: bytes, code: int) -> bool:
     """Whether a text covers all finest cells of a cell of its arrangement."""
     return _coverage_ask(text, len(text), code).covered == 1
+
+
+def coverage_add(text: bytes, code: int) -> bytes:
+    """The text with one cell of its arrangement more. It is at most 46 bytes longer."""
+    size = len(text) + 46
+    room = ctypes.create_string_buffer(text, size)
+    length = _coverage_add(room, size, len(text), code).length
+    return room.raw[:length]

@@ -53,6 +53,7 @@ answers! {
     Check at place { version: u64, depth: u64, n: u64, s: u64, cells: u64, size: u64 }
     List at place { count: u64 }
     Ask at place { covered: u64 }
+    Add at place { length: u64 }
 }
 
 // Safe are those that take numbers alone: the library takes any.
@@ -82,6 +83,7 @@ unsafe extern "C" {
         version: u64, depth: u64, n: u64, s: u64, codes: *const u64, count: usize, text: *mut u8, room: usize,
     ) -> Length;
     pub fn jgv_coverage_ask(text: *const u8, length: usize, code: u64) -> Ask;
+    pub fn jgv_coverage_add(text: *mut u8, room: usize, length: u64, code: u64) -> Add;
 }
 
 /// The entries that take memory, on slices. Each is safe: the library reads and writes lent memory within its length only.
@@ -114,6 +116,10 @@ pub mod lent {
 
     pub fn coverage_ask(text: &[u8], code: u64) -> Ask {
         unsafe { jgv_coverage_ask(text.as_ptr(), text.len(), code) }
+    }
+
+    pub fn coverage_add(text: &mut [u8], length: u64, code: u64) -> Add {
+        unsafe { jgv_coverage_add(text.as_mut_ptr(), text.len(), length, code) }
     }
 }
 
@@ -227,4 +233,10 @@ pub fn coverage_write_handheld<'a>(depth: u64, n: u64, s: u64, codes: &[u64], te
 /// Refused with 14 where the code is of another arrangement than the text.
 pub fn coverage_ask(text: &[u8], code: u64) -> Answer<bool> {
     Ok(lent::coverage_ask(text, code).read()?.covered == 1)
+}
+
+/// Adds a cell to the text that the first `length` bytes are, in place, and answers the part that is the text then. It grows by at most 46 bytes.
+pub fn coverage_add(text: &mut [u8], length: usize, code: u64) -> Answer<&[u8]> {
+    let added = lent::coverage_add(text, length as u64, code).read()?;
+    Ok(&text[..added.length as usize])
 }
