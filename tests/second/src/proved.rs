@@ -4,7 +4,7 @@
 use crate::compare::Refusing;
 use crate::coverage::{Checked, Refused, TextAnswer};
 use crate::grid::{self, Answer, Place};
-use jeguarivo::{Ask, Cell, Check, Code, Count, Fix, Length, List, Name, Point, Shape, Size};
+use jeguarivo::{Add, Ask, Cell, Check, Code, Count, Fix, Length, List, Name, Point, Shape, Size};
 use jeguarivo::{Square, Vertices, Z};
 use std::fmt::Debug;
 
@@ -20,7 +20,7 @@ pub use jeguarivo::{
 /// The coverage entries.
 pub mod coverage {
     pub use jeguarivo::lent::{
-        coverage_ask as ask, coverage_check as check, coverage_list as list,
+        coverage_add as add, coverage_ask as ask, coverage_check as check, coverage_list as list,
         coverage_write as write,
     };
 }
@@ -71,6 +71,7 @@ like! {
     };
     List at place, TextAnswer<u64>, count => { count: count };
     Ask at place, TextAnswer<bool>, covered => { covered: u64::from(covered) };
+    Add at place, TextAnswer<u64>, length => { length: length };
 }
 
 /// An answer together with the lent bytes or codes after it.
