@@ -26,11 +26,11 @@ use Rattle.reading.specs.Prefix.{Name, numbersOf, Ahead, AheadAll, InOrd
 -- ---- the names rise
 
 -- it begins with this number or a later one
-abbrev From : ℕ → Name → Type 0
+abbrev pub From : ℕ → Name → Type 0
 From lo [] = ⊥
 From lo (x ∷ q) = lo ≤ x
 
-from-less : (lo hi : ℕ) → lo ≤ hi → (q : Name) → From hi q → From lo q
+pub from-less : (lo hi : ℕ) → lo ≤ hi → (q : Name) → From hi q → From lo q
 from-less lo hi h [] g = g
 from-less lo hi h (x ∷ q) g = omega arith
 
@@ -64,14 +64,14 @@ names-rise (listed c is ns) l d lo g =
 
 -- ---- numbers with zeros behind them, r numbers in all
 
-rank : ℕ → Name → ℕ
+unfoldable pub rank : ℕ → Name → ℕ
 rank r q = value 9 q * 9 ^ (r - length q)
 
 nine-rest : (r n : ℕ) → n ≤ r → 9 ^ n * 9 ^ (r - n) ≡ 9 ^ r
 nine-rest r n h = let s : n + (r - n) ≡ r = omega arith in sym (nine-add n (r - n)) ∙ ap (λ (x : ℕ). 9 ^ x) s
 
 -- the first number counts 9^r of the others
-rank-cons : (r a : ℕ) (q : Name) → length q ≤ r → rank (suc r) (a ∷ q) ≡ a * 9 ^ r + rank r q
+pub rank-cons : (r a : ℕ) (q : Name) → length q ≤ r → rank (suc r) (a ∷ q) ≡ a * 9 ^ r + rank r q
 unfolding rank value
 rank-cons r a q h =
     let n = length q in
@@ -80,7 +80,7 @@ rank-cons r a q h =
     ∙ add-mul (a * 9 ^ n) (value 9 q) (9 ^ (r - n))
     ∙ ap (λ (x : ℕ). x + value 9 q * 9 ^ (r - n)) (mul-assoc a (9 ^ n) (9 ^ (r - n)) ∙ ap (λ (x : ℕ). a * x) (nine-rest r n h))
 
-rank-end : (r : ℕ) (q : Name) → Below 9 q → length q ≤ r → rank r q + 9 ^ (r - length q) ≤ 9 ^ r
+pub rank-end : (r : ℕ) (q : Name) → Below 9 q → length q ≤ r → rank r q + 9 ^ (r - length q) ≤ 9 ^ r
 unfolding rank
 rank-end r q b h =
     let n = length q in
@@ -112,18 +112,18 @@ ahead-rank (suc r) (x ∷ q) (y ∷ p) b h k f =
 
 -- ---- the finest cells of a cell ahead come before the other's
 
-start-rank : (c : Cell) → IsCell c → startOf c ≡ rank 16 (numbersOf c)
+pub start-rank : (c : Cell) → IsCell c → startOf c ≡ rank 16 (numbersOf c)
 unfolding startOf pathOf rank numbersOf
 start-rank c v =
     let ds = digitsOf (c .resolution) (c .row) (c .column) in
     let n : length ds ≡ c .resolution = length-digits-of (c .resolution) (c .row) (c .column) in
     ap (λ (k : ℕ). c .face * 9 ^ 15 + value 9 ds * 9 ^ (15 - k)) (sym n) ∙ sym (rank-cons 15 (c .face) ds (omega (arith, v .fine)))
 
-length-name : (c : Cell) → length (numbersOf c) ≡ suc (c .resolution)
+pub length-name : (c : Cell) → length (numbersOf c) ≡ suc (c .resolution)
 unfolding numbersOf
 length-name c = ap suc (length-digits-of (c .resolution) (c .row) (c .column))
 
-name-below : (c : Cell) → IsCell c → Below 9 (numbersOf c)
+pub name-below : (c : Cell) → IsCell c → Below 9 (numbersOf c)
 unfolding numbersOf
 name-below c v = (omega (arith, v .faced), digits-of-below (c .resolution) (c .row) (c .column))
 
