@@ -7,14 +7,16 @@ use native.Mathlib.Nat.{add-mul, mul-assoc, suc-mul, mul-le-mul-right}
 use native.Mathlib.Omega.{arith}
 use lib.ListN.{length}
 use Rattle.logic.specs.Lists.{All, Pairwise}
+use Rattle.logic.specs.Rise.{Above, Rise}
 use Rattle.logic.specs.Laws.Lists.{all-append, all-map, all-each}
 use Rattle.ternary.specs.Digits.{value, Below}
 use Rattle.ternary.specs.Laws.Digits.{value-below}
 use Rattle.ternary.specs.Laws.Powers.{nine-add}
 use Rattle.cell.specs.declared.Cell.{Cell}
+use Rattle.cell.specs.declared.Arrangement.{Arrangement}
 use Rattle.cell.specs.Cell.{IsCell}
-use Rattle.code.specs.Code.{digitsOf, pathOf, cellCode, sizeOf}
-use Rattle.code.specs.Laws.Code.{length-digits-of, digits-of-below}
+use Rattle.code.specs.Code.{digitsOf, pathOf, cellCode, codeOf, sizeOf}
+use Rattle.code.specs.Laws.Code.{length-digits-of, digits-of-below, code-order}
 use Rattle.code.specs.Inside.{Inside, startOf, endOf}
 use Rattle.code.specs.Laws.Inside.{start-code, size-pos, inside-within}
 use Rattle.reading.specs.declared.Level.{Level}
@@ -165,3 +167,13 @@ rise-rising = rise-each (λ c x. cellCode c < cellCode x) code-before
 
 pub rise-apart : (qs : List Cell) → Cells qs → InOrder (map numbersOf qs) → Apart qs
 rise-apart = rise-each (λ c x. (Inside c x → ⊥) × (Inside x c → ⊥)) apart-before
+
+-- ---- and so do their codes, in an arrangement
+
+below-all : (a : Arrangement) (c : Cell) (cs : List Cell) → All (λ (p : Cell). cellCode c < cellCode p) cs → Above (codeOf a c) (map (codeOf a) cs)
+below-all a c [] h = tt
+below-all a c (p ∷ cs) h = (code-order a c p .1 (h .0), below-all a c cs (h .1))
+
+pub codes-rise : (a : Arrangement) (cs : List Cell) → Rising cs → Rise (map (codeOf a) cs)
+codes-rise a [] h = tt
+codes-rise a (c ∷ cs) h = (below-all a c cs (h .0), codes-rise a cs (h .1))
