@@ -181,7 +181,8 @@ returns-4 c =
     let a = c .before .before .before .before .before .before .before .before .before in
     let k = known a in
     let w = sym (c .before .whole-at .ensures) ∙ c .if5 .taken in
-    gives a (asks-yes (l .inv) h q (omega (arith, c .before .before .before .before .if2 .left, k .0)) (omega (arith, c .before .before .if4 .left, k .1)) (k .2) w) (omega (arith, l .inv .behind)) (omega arith)
+    let y = asks-yes (l .inv) h q (omega (arith, c .before .before .before .before .if2 .left, k .0)) (omega (arith, c .before .before .if4 .left, k .1)) (k .2) w in
+    gives a y (omega (arith, l .inv .behind)) (omega arith)
 
 add-i : tie.Need-add-i Inv-loop μ-loop
 add-i c = omega (arith, c .before .before .before .before .before .before .before .before .before .before .before .before .good)
