@@ -5,7 +5,7 @@ use mathlib.Core.Bool.{Bool, true, false, _&&_, _||_, not, cond}
 use mathlib.Core.List.{List, [], _∷_, _++_, append-nil, append-assoc}
 use Prim.Native.Nat.{ℕ, suc, _+_, _-_, _*_, _/_, _^_, _≤_, _<_}
 use native.Mathlib.Omega.{arith}
-use native.Mathlib.Nat.{pow-suc, add-mul, suc-mul, mul-assoc, mul-comm, mul-le-mul-right, lt-of-mul-lt-mul-right, le-of-mul-le-mul-right}
+use native.Mathlib.Nat.{pow-suc, add-mul, suc-mul, mul-assoc, mul-comm, mul-le-mul-right, lt-of-mul-lt-mul-right}
 use lib.ListN.{length, drop, getD, drop-of-length-le}
 use lib.Seq.{drop-drop, drop-append-add, drop-length}
 use lib.Dec.{leb, eqb}
@@ -32,8 +32,8 @@ use Rattle.walk.specs.Laws.Walk.{not-shut, whole-name, opens-nodes, byte-at}
 use Rattle.walk.specs.Laws.Past.{node-whole, node-listed}
 use Rattle.walk.specs.Laws.LetterWalk.{count-letter, count-open, count-shut}
 use Rattle.asking.specs.Internal.AskNodes.{anyIn, nodes-asked, in-short, in-behind, in-finer}
-use Rattle.asking.specs.Internal.CodeOrder.{comesBy}
-use Rattle.asking.specs.Internal.CountNodes.{inAll, upTo, up-most, count-nodes, text-count, text-all, text-up, comes-before, comes-around, up-behind, up-finer, up-all}
+use Rattle.asking.specs.Internal.CodeOrder.{noLater}
+use Rattle.asking.specs.Internal.CountNodes.{inAll, upTo, up-most, count-nodes, text-count, text-all, text-up, no-later-before, no-later-around, up-behind, up-finer, up-all}
 use Rattle.asking.specs.Internal.Reach.{Reaches}
 
 -- the byte at a place, where the bytes from there on are known
@@ -291,17 +291,17 @@ module _ {t : List ℕ} {from to : ℕ} {r : Bool} {above base before size i : �
   one-more c {bs} e = ap letterCount e ∙ count-letter c (v .level) bs
 
   -- which is counted
-  counted-here : (c : ℕ) {bs : List ℕ} → drop i t ≡ (first (v .level) + c) ∷ bs → comesBy from to starts (starts + size) ≡ true →
-      _≡_ {A = ℕ} (cond (comesBy from to (before + c * size) (before + c * size + size)) 1 0) 1
-  counted-here c e k = ap (λ (x : ℕ). cond {A = ℕ} (comesBy from to x (x + size)) 1 0) (sym (start-is c e)) ∙ ap (λ (b : Bool). cond {A = ℕ} b 1 0) k
+  counted-here : (c : ℕ) {bs : List ℕ} → drop i t ≡ (first (v .level) + c) ∷ bs → noLater from to starts (starts + size) ≡ true →
+      _≡_ {A = ℕ} (cond (noLater from to (before + c * size) (before + c * size + size)) 1 0) 1
+  counted-here c e k = ap (λ (x : ℕ). cond {A = ℕ} (noLater from to x (x + size)) 1 0) (sym (start-is c e)) ∙ ap (λ (b : Bool). cond {A = ℕ} b 1 0) k
 
   -- it ends before the asked one starts
   pub asks-past : from < to → starts + size ≤ from → Asks t from to r above base before size (i + nodeIn (drop i t))
   unfolding anyIn upTo
   asks-past m k = go (v .nodes) (v .left) (v .good) (v .same) (v .counts)
     where
-      sooner : comesBy from to starts (starts + size) ≡ true
-      sooner = comes-before from to starts (starts + size) (omega (arith, size-some))
+      sooner : noLater from to starts (starts + size) ≡ true
+      sooner = no-later-before from to starts (starts + size) (omega (arith, size-some))
 
       go :
           (ns : Nodes) → drop i t ≡ render (v .level) ns ++ v .rest → Good (v .level) (v .depth) (v .lo) ns → anyIn from to before size ns ≡ r →
@@ -386,8 +386,8 @@ module _ {t : List ℕ} {from to : ℕ} {r : Bool} {above base before size i : �
       ))
 
   module _ (a : starts ≤ from) (b : to ≤ starts + size) (m : from < to) where
-    around : comesBy from to starts (starts + size) ≡ true
-    around = comes-around from to starts (starts + size) a b
+    around : noLater from to starts (starts + size) ≡ true
+    around = no-later-around from to starts (starts + size) a b
 
     -- the nodes behind it are above
     none-behind : (c : ℕ) (ns : Nodes) {bs : List ℕ} → drop i t ≡ (first (v .level) + c) ∷ bs → Good (v .level) (v .depth) (suc c) ns → upTo from to before size ns ≡ 0

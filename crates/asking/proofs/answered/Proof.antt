@@ -1,10 +1,9 @@
 -- `asking::answered` meets its contract. Assumes nothing.
-use mathlib.Core.Path.{sym, ap, ap₂, _∙_}
+use mathlib.Core.Path.{ap, ap₂, _∙_}
 use mathlib.Core.Bool.{cond}
-use Prim.Native.Nat.{ℕ, _+_, _≤_}
+use Prim.Native.Nat.{ℕ, _+_}
 use lib.Dec.{ltb}
 use lib.ListN.{drop}
-use borrow.Author.Needs.{needs}
 use Rattle.reading.specs.Letters.{letterCount}
 use Rattle.asking.specs.declared.Asked.the-variants.{Answer}
 use Rattle.asking.specs.Ask.{asked}

@@ -1,11 +1,10 @@
--- Code order by finest cells: a cell is not above the asked one where it starts before it, or with it and is no smaller. Assumes nothing.
+-- Code order by finest cells: a cell is no later than the asked one where it starts before it, or with it and is no smaller. Assumes nothing.
 use mathlib.Core.Path.{_≡_, refl, sym, ap, ap₂, _∙_}
 use mathlib.Core.Logic.{⊎-elim}
 use mathlib.Core.Bool.{Bool, true, _&&_, _||_, cond}
 use mathlib.Core.List.{List, [], _∷_, _++_, map}
-use Prim.Native.Nat.{ℕ, _+_, _-_, _*_, _^_, _≤_, _<_}
+use Prim.Native.Nat.{ℕ, _+_, _-_, _*_}
 use native.Mathlib.Omega.{arith}
-use lib.ListN.{length, length-map}
 use lib.Dec.{leb, ltb, eqb}
 use borrow.Author.Tests.{le-leb, lt-leb, lt-ltb, le-ltb, eq-eqb, ne-eqb}
 use Rattle.logic.specs.Laws.Order.{lt-or, three-ways}
@@ -25,28 +24,28 @@ use Rattle.walk.specs.Walk.{spotOf}
 use Rattle.asking.specs.Settle.{notAbove}
 
 -- of the finest cells from s to before e, where those asked for are from `from` to before `to`
-abbrev pub comesBy : (from to s e : ℕ) → Bool
-comesBy from to s e = ltb s from || (eqb s from && leb to e)
+abbrev pub noLater : (from to s e : ℕ) → Bool
+noLater from to s e = ltb s from || (eqb s from && leb to e)
 
 -- of the cell where the walk stands
-unfoldable pub comes : (from to : ℕ) → Spot → Bool
-comes from to s = comesBy from to (startAs (s .resolution) (s .number)) (endAs (s .resolution) (s .number))
+unfoldable pub noLaterAt : (from to : ℕ) → Spot → Bool
+noLaterAt from to s = noLater from to (startAs (s .resolution) (s .number)) (endAs (s .resolution) (s .number))
 
 -- how many of these
-unfoldable pub howMany : (from to : ℕ) → List Spot → ℕ
-unfolding comes
-howMany from to [] = 0
-howMany from to (s ∷ ss) = cond (comes from to s) 1 0 + howMany from to ss
+unfoldable pub countNoLater : (from to : ℕ) → List Spot → ℕ
+unfolding noLaterAt
+countNoLater from to [] = 0
+countNoLater from to (s ∷ ss) = cond (noLaterAt from to s) 1 0 + countNoLater from to ss
 
-pub many-append : (from to : ℕ) (a b : List Spot) → howMany from to (a ++ b) ≡ howMany from to a + howMany from to b
-unfolding howMany
-many-append from to [] b = omega arith
-many-append from to (s ∷ a) b = omega (arith, many-append from to a b)
+pub count-append : (from to : ℕ) (a b : List Spot) → countNoLater from to (a ++ b) ≡ countNoLater from to a + countNoLater from to b
+unfolding countNoLater
+count-append from to [] b = omega arith
+count-append from to (s ∷ a) b = omega (arith, count-append from to a b)
 
 -- ---- it is the order of codes
 
 module _ (c x : Cell) (v : IsCell c) (w : IsCell x) where
-  code-test : leb (cellCode c) (cellCode x) ≡ comesBy (startOf x) (endOf x) (startOf c) (endOf c)
+  code-test : leb (cellCode c) (cellCode x) ≡ noLater (startOf x) (endOf x) (startOf c) (endOf c)
   unfolding endOf sizeOf
   code-test =
       let i = start-code c v in
@@ -72,11 +71,11 @@ module _ (c x : Cell) (v : IsCell c) (w : IsCell x) where
       ∙ sym (ap₂ (λ (a b : Bool). a || (b && leb (endOf x) (endOf c))) (le-ltb (startOf c) (startOf x) (omega arith)) (ne-eqb (startOf c) (startOf x) (omega arith)))))
       (three-ways (startOf c) (startOf x))
 
-  pub code-comes : leb (cellCode c) (cellCode x) ≡ comes (startOf x) (endOf x) (spotOf c)
-  unfolding comes
-  code-comes = code-test ∙ sym (ap₂ (λ (a b : ℕ). comesBy (startOf x) (endOf x) a b) (start-as c v) (end-as c v))
+  pub cell-no-later : leb (cellCode c) (cellCode x) ≡ noLaterAt (startOf x) (endOf x) (spotOf c)
+  unfolding noLaterAt
+  cell-no-later = code-test ∙ sym (ap₂ (λ (a b : ℕ). noLater (startOf x) (endOf x) a b) (start-as c v) (end-as c v))
 
--- a code of the asked code's arrangement is not above it where its cell comes by
+-- a code of the asked code's arrangement is not above it where its cell is no later
 code-above : {a : Arrangement} (c : Cell) (code : ℕ) → isCode code ≡ true → arrangementOf code ≡ a → leb (codeOf a c) code ≡ leb (cellCode c) (cellCode (cellOf code))
 unfolding codeOf
 code-above {a} c code t e =
@@ -88,10 +87,10 @@ code-above {a} c code t e =
     (lt-or (cellCode (cellOf code)) (cellCode c))
 
 module _ {a : Arrangement} (code : ℕ) (t : isCode code ≡ true) (e : arrangementOf code ≡ a) where
-  pub code-test-comes : (c : Cell) → IsCell c → leb (codeOf a c) code ≡ comes (startOf (cellOf code)) (endOf (cellOf code)) (spotOf c)
-  code-test-comes c v = code-above c code t e ∙ code-comes c (cellOf code) v (code-is-cell code t)
+  pub code-not-above : (c : Cell) → IsCell c → leb (codeOf a c) code ≡ noLaterAt (startOf (cellOf code)) (endOf (cellOf code)) (spotOf c)
+  code-not-above c v = code-above c code t e ∙ cell-no-later c (cellOf code) v (code-is-cell code t)
 
-  pub above-spots : (qs : List Cell) → Cells qs → notAbove code (map (codeOf a) qs) ≡ howMany (startOf (cellOf code)) (endOf (cellOf code)) (map spotOf qs)
-  unfolding notAbove howMany
+  pub above-spots : (qs : List Cell) → Cells qs → notAbove code (map (codeOf a) qs) ≡ countNoLater (startOf (cellOf code)) (endOf (cellOf code)) (map spotOf qs)
+  unfolding notAbove countNoLater
   above-spots [] k = refl
-  above-spots (q ∷ qs) k = ap₂ (λ (b : Bool) (n : ℕ). cond b 1 0 + n) (code-test-comes q (k .0)) (above-spots qs (k .1))
+  above-spots (q ∷ qs) k = ap₂ (λ (b : Bool) (n : ℕ). cond b 1 0 + n) (code-not-above q (k .0)) (above-spots qs (k .1))

@@ -1,18 +1,17 @@
--- Counting along the nodes of a text: all letters and digits, and those whose cells come by the asked one. Assumes nothing.
+-- Counting along the nodes of a text: all letters and digits, and those whose cells are no later than the asked one in code order. Assumes nothing.
 use mathlib.Core.Path.{_≡_, refl, sym, ap, ap₂, _∙_}
 use mathlib.Core.Logic.{⊎-elim}
 use mathlib.Core.Bool.{Bool, true, false, _&&_, _||_, cond}
-use mathlib.Core.List.{List, [], _∷_, _++_, map, append-nil, append-assoc}
+use mathlib.Core.List.{List, [], _∷_, _++_, append-nil, append-assoc}
 use Prim.Native.Nat.{ℕ, suc, _+_, _-_, _*_, _/_, _^_, _≤_, _<_}
 use native.Mathlib.Nat.{pow-suc, add-mul, suc-mul, mul-assoc, mul-comm, mul-le-mul-right, le-trans}
 use native.Mathlib.Omega.{arith}
 use lib.ListN.{length, drop, length-append, length-map}
-use lib.Dec.{leb, ltb, eqb}
+use lib.Dec.{leb, eqb}
 use borrow.Author.Tests.{le-leb, lt-leb, lt-ltb, le-ltb, eq-eqb, ne-eqb}
 use Rattle.logic.specs.Laws.Bools.{and-none}
 use Rattle.logic.specs.Laws.Order.{lt-or}
 use Rattle.ternary.specs.Laws.Powers.{nine-pos, nine-le}
-use Rattle.cell.specs.declared.Cell.{Cell}
 use Rattle.code.specs.Code.{codeOf, cellOf, arrangementOf, isCode}
 use Rattle.code.specs.Inside.{startOf, endOf}
 use Rattle.code.specs.Number.{startAs, endAs}
@@ -24,12 +23,11 @@ use Rattle.reading.specs.Letters.{letterCells, letterCodes, letterCount}
 use Rattle.reading.specs.Laws.Letters.{letter-cells}
 use Rattle.reading.specs.TextReading.{nodesOf, isText, bodyStart, textArrangement}
 use Rattle.reading.specs.Laws.TextReading.{reads-body, good-nodes, body-nodes}
-use Rattle.walk.specs.declared.Spot.{Spot}
-use Rattle.walk.specs.Walk.{spot, spotOf}
+use Rattle.walk.specs.Walk.{spotOf}
 use Rattle.walk.specs.LetterWalk.{lettersIn}
 use Rattle.walk.specs.Laws.LetterWalk.{count-letter, count-open, count-shut, letters-spots}
 use Rattle.asking.specs.Settle.{notAbove}
-use Rattle.asking.specs.Internal.CodeOrder.{comesBy, comes, howMany, many-append, above-spots}
+use Rattle.asking.specs.Internal.CodeOrder.{noLater, noLaterAt, countNoLater, count-append, above-spots}
 
 -- how many letters and digits
 unfoldable pub inAll : Nodes → ℕ
@@ -37,12 +35,12 @@ inAll end = 0
 inAll (whole c ns) = 1 + inAll ns
 inAll (listed c is ns) = 1 + (inAll is + inAll ns)
 
--- those that come by, in nodes of size z, of which the first starts at a
+-- those that are no later, in nodes of size z, of which the first starts at a
 unfoldable pub upTo : (from to a z : ℕ) → Nodes → ℕ
 upTo from to a z end = 0
-upTo from to a z (whole c ns) = cond (comesBy from to (a + c * z) (a + c * z + z)) 1 0 + upTo from to a z ns
+upTo from to a z (whole c ns) = cond (noLater from to (a + c * z) (a + c * z + z)) 1 0 + upTo from to a z ns
 upTo from to a z (listed c is ns) =
-    cond (comesBy from to (a + c * z) (a + c * z + z)) 1 0 + (upTo from to (a + c * z) (z / 9) is + upTo from to a z ns)
+    cond (noLater from to (a + c * z) (a + c * z + z)) 1 0 + (upTo from to (a + c * z) (z / 9) is + upTo from to a z ns)
 
 pub one-most : (b : Bool) → cond b 1 0 ≤ 1
 one-most true = omega arith
@@ -51,9 +49,9 @@ one-most false = omega arith
 pub up-most : (from to a z : ℕ) (ns : Nodes) → upTo from to a z ns ≤ inAll ns
 unfolding inAll upTo
 up-most from to a z end = omega arith
-up-most from to a z (whole c ns) = omega (arith, one-most (comesBy from to (a + c * z) (a + c * z + z)), up-most from to a z ns)
+up-most from to a z (whole c ns) = omega (arith, one-most (noLater from to (a + c * z) (a + c * z + z)), up-most from to a z ns)
 up-most from to a z (listed c is ns) =
-    omega (arith, one-most (comesBy from to (a + c * z) (a + c * z + z)), up-most from to (a + c * z) (z / 9) is, up-most from to a z ns)
+    omega (arith, one-most (noLater from to (a + c * z) (a + c * z + z)), up-most from to (a + c * z) (z / 9) is, up-most from to a z ns)
 
 -- ---- of the bytes and of the codes
 
@@ -84,23 +82,23 @@ all-letters (listed c is ns) k p =
 
 up-letters :
     (from to : ℕ) (ns : Nodes) (l : Level) (d lo k p : ℕ) → Good l d lo ns → k + d ≤ 15 →
-    upTo from to (p * 9 * 9 ^ (15 - k)) (9 ^ (15 - k)) ns ≡ howMany from to (lettersIn k p ns)
-unfolding upTo howMany comes lettersIn startAs endAs
+    upTo from to (p * 9 * 9 ^ (15 - k)) (9 ^ (15 - k)) ns ≡ countNoLater from to (lettersIn k p ns)
+unfolding upTo countNoLater noLaterAt lettersIn startAs endAs
 up-letters from to end l d lo k p g h = refl
 up-letters from to (whole c ns) l d lo k p g h =
     let z : ℕ = 9 ^ (15 - k) in
-    ap₂ (λ (x n : ℕ). cond (comesBy from to x (x + z)) 1 0 + n) (sym (add-mul (p * 9) c z)) (up-letters from to ns l d (suc c) k p (g .2) h)
+    ap₂ (λ (x n : ℕ). cond (noLater from to x (x + z)) 1 0 + n) (sym (add-mul (p * 9) c z)) (up-letters from to ns l d (suc c) k p (g .2) h)
 up-letters from to (listed c is ns) l d lo k p g h =
     let z : ℕ = 9 ^ (15 - k) in
     let y : ℕ = 9 ^ (15 - (k + 1)) in
     let u : z ≡ y * 9 = ap (λ (x : ℕ). 9 ^ x) (omega (arith, room-le l c d, g .2)) ∙ pow-suc 9 (15 - (k + 1)) in
     let s : p * 9 * z + c * z ≡ (p * 9 + c) * z = sym (add-mul (p * 9) c z) in
     let e : p * 9 * z + c * z ≡ (p * 9 + c) * 9 * y = s ∙ ap (λ (x : ℕ). (p * 9 + c) * x) (u ∙ mul-comm y 9) ∙ sym (mul-assoc (p * 9 + c) 9 y) in
-    let i : upTo from to (p * 9 * z + c * z) (z / 9) is ≡ howMany from to (lettersIn (k + 1) (p * 9 + c) is) =
+    let i : upTo from to (p * 9 * z + c * z) (z / 9) is ≡ countNoLater from to (lettersIn (k + 1) (p * 9 + c) is) =
     ap₂ (λ (a b : ℕ). upTo from to a b is) e (omega arith)
     ∙ up-letters from to is Digits (room l c d - 1) 0 (k + 1) (p * 9 + c) (g .5) (omega (arith, room-le l c d, g .2)) in
-    ap₂ (λ (x n : ℕ). cond (comesBy from to x (x + z)) 1 0 + n) s
-    (ap₂ _+_ i (up-letters from to ns l d (suc c) k p (g .6) h) ∙ sym (many-append from to (lettersIn (k + 1) (p * 9 + c) is) (lettersIn k p ns)))
+    ap₂ (λ (x n : ℕ). cond (noLater from to x (x + z)) 1 0 + n) s
+    (ap₂ _+_ i (up-letters from to ns l d (suc c) k p (g .6) h) ∙ sym (count-append from to (lettersIn (k + 1) (p * 9 + c) is) (lettersIn k p ns)))
 
 module _ (t : List ℕ) (e : isText t ≡ true) where
   pub text-count : letterCount (drop (bodyStart t) t) ≡ inAll (nodesOf t)
@@ -124,31 +122,31 @@ module _ (t : List ℕ) (e : isText t ≡ true) where
       let from : ℕ = startOf (cellOf code) in
       let to : ℕ = endOf (cellOf code) in
       up-letters from to (nodesOf t) Faces 15 0 0 0 (good-nodes t e) (omega arith)
-      ∙ ap (howMany from to) (letters-spots t e)
+      ∙ ap (countNoLater from to) (letters-spots t e)
       ∙ sym (above-spots code c a (letterCells (nodesOf t)) (letter-cells tt (omega arith) (reads-body t e) .0))
 
--- ---- nodes of which none comes by, and nodes of which all do
+-- ---- nodes of which none is counted, and nodes of which all are
 
 module _ (from to s e : ℕ) where
-  pub comes-behind : from < s → comesBy from to s e ≡ false
-  comes-behind h = ap₂ (λ (a b : Bool). a || (b && leb to e)) (le-ltb s from (omega arith)) (ne-eqb s from (omega arith))
+  pub later-behind : from < s → noLater from to s e ≡ false
+  later-behind h = ap₂ (λ (a b : Bool). a || (b && leb to e)) (le-ltb s from (omega arith)) (ne-eqb s from (omega arith))
 
-  comes-short : from ≤ s → e < to → comesBy from to s e ≡ false
-  comes-short h l = ap₂ (λ (a b : Bool). a || (eqb s from && b)) (le-ltb s from h) (lt-leb to e l) ∙ and-none (eqb s from)
+  later-short : from ≤ s → e < to → noLater from to s e ≡ false
+  later-short h l = ap₂ (λ (a b : Bool). a || (eqb s from && b)) (le-ltb s from h) (lt-leb to e l) ∙ and-none (eqb s from)
 
-  pub comes-before : s < from → comesBy from to s e ≡ true
-  comes-before h = ap (λ (a : Bool). a || (eqb s from && leb to e)) (lt-ltb s from h)
+  pub no-later-before : s < from → noLater from to s e ≡ true
+  no-later-before h = ap (λ (a : Bool). a || (eqb s from && leb to e)) (lt-ltb s from h)
 
   -- it starts no later, and ends no sooner
-  pub comes-around : s ≤ from → to ≤ e → comesBy from to s e ≡ true
-  comes-around h k =
-      ⊎-elim comes-before
+  pub no-later-around : s ≤ from → to ≤ e → noLater from to s e ≡ true
+  no-later-around h k =
+      ⊎-elim no-later-before
       (λ l. ap₂ (λ (a b : Bool). a || b) (le-ltb s from l) (ap₂ _&&_ (eq-eqb s from (omega arith)) (le-leb to e k)))
       (lt-or s from)
 
 -- it starts no sooner, and is smaller
-comes-finer : (from to s z : ℕ) → from ≤ s → from + z < to → comesBy from to s (s + z) ≡ false
-comes-finer from to s z h k = ⊎-elim (comes-behind from to s (s + z)) (λ l. comes-short from to s (s + z) h (omega arith)) (lt-or from s)
+later-finer : (from to s z : ℕ) → from ≤ s → from + z < to → noLater from to s (s + z) ≡ false
+later-finer from to s z h k = ⊎-elim (later-behind from to s (s + z)) (λ l. later-short from to s (s + z) h (omega arith)) (lt-or from s)
 
 module _ (from to : ℕ) where
   -- they start behind its start
@@ -157,10 +155,10 @@ module _ (from to : ℕ) where
   up-behind end l d lo a z g h = refl
   up-behind (whole c ns) l d lo a z g h =
       let k : from < a + c * z = omega (arith, mul-le-mul-right z (g .0)) in
-      ap₂ (λ (b : Bool) (n : ℕ). cond b 1 0 + n) (comes-behind from to (a + c * z) (a + c * z + z) k) (up-behind ns l d (suc c) a z (g .2) (omega (arith, suc-mul c z)))
+      ap₂ (λ (b : Bool) (n : ℕ). cond b 1 0 + n) (later-behind from to (a + c * z) (a + c * z + z) k) (up-behind ns l d (suc c) a z (g .2) (omega (arith, suc-mul c z)))
   up-behind (listed c is ns) l d lo a z g h =
       let k : from < a + c * z = omega (arith, mul-le-mul-right z (g .0)) in
-      ap₂ (λ (b : Bool) (n : ℕ). cond b 1 0 + n) (comes-behind from to (a + c * z) (a + c * z + z) k)
+      ap₂ (λ (b : Bool) (n : ℕ). cond b 1 0 + n) (later-behind from to (a + c * z) (a + c * z + z) k)
       (ap₂ _+_ (up-behind is Digits (room l c d - 1) 0 (a + c * z) (z / 9) (g .5) (omega arith)) (up-behind ns l d (suc c) a z (g .6) (omega (arith, suc-mul c z))))
 
   -- they start no sooner, and are smaller
@@ -169,10 +167,10 @@ module _ (from to : ℕ) where
   up-finer end l d lo a z g h f = refl
   up-finer (whole c ns) l d lo a z g h f =
       let k : from ≤ a + c * z = omega (arith, mul-le-mul-right z (g .0)) in
-      ap₂ (λ (b : Bool) (n : ℕ). cond b 1 0 + n) (comes-finer from to (a + c * z) z k f) (up-finer ns l d (suc c) a z (g .2) (omega (arith, suc-mul c z)) f)
+      ap₂ (λ (b : Bool) (n : ℕ). cond b 1 0 + n) (later-finer from to (a + c * z) z k f) (up-finer ns l d (suc c) a z (g .2) (omega (arith, suc-mul c z)) f)
   up-finer (listed c is ns) l d lo a z g h f =
       let k : from ≤ a + c * z = omega (arith, mul-le-mul-right z (g .0)) in
-      ap₂ (λ (b : Bool) (n : ℕ). cond b 1 0 + n) (comes-finer from to (a + c * z) z k f)
+      ap₂ (λ (b : Bool) (n : ℕ). cond b 1 0 + n) (later-finer from to (a + c * z) z k f)
       (ap₂ _+_ (up-finer is Digits (room l c d - 1) 0 (a + c * z) (z / 9) (g .5) (omega arith) (omega arith)) (up-finer ns l d (suc c) a z (g .6) (omega (arith, suc-mul c z)) f))
 
   -- they end before it starts
@@ -181,12 +179,12 @@ module _ (from to : ℕ) where
   up-all end l d lo a z g w h = refl
   up-all (whole c ns) l d lo a z g w h =
       let k : a + c * z < from = omega (arith, mul-le-mul-right z (g .1), suc-mul c z, nine-pos d) in
-      ap₂ (λ (b : Bool) (n : ℕ). cond b 1 0 + n) (comes-before from to (a + c * z) (a + c * z + z) k) (up-all ns l d (suc c) a z (g .2) w h)
+      ap₂ (λ (b : Bool) (n : ℕ). cond b 1 0 + n) (no-later-before from to (a + c * z) (a + c * z + z) k) (up-all ns l d (suc c) a z (g .2) w h)
   up-all (listed c is ns) l d lo a z g w h =
       let i : a + suc c * z ≤ from = omega (arith, mul-le-mul-right z (g .1)) in
       let k : a + c * z < from = omega (arith, suc-mul c z, nine-pos d) in
       let r : ℕ = room l c d - 1 in
       let e : 9 ^ suc r ≤ z = le-trans (nine-le {i = suc r} {j = d} (omega (arith, room-le l c d, g .2))) w in
       let j : 9 ^ r ≤ z / 9 = omega (arith, pow-suc 9 r) in
-      ap₂ (λ (b : Bool) (n : ℕ). cond b 1 0 + n) (comes-before from to (a + c * z) (a + c * z + z) k)
+      ap₂ (λ (b : Bool) (n : ℕ). cond b 1 0 + n) (no-later-before from to (a + c * z) (a + c * z + z) k)
       (ap₂ _+_ (up-all is Digits r 0 (a + c * z) (z / 9) (g .5) j (omega (arith, suc-mul c z))) (up-all ns l d (suc c) a z (g .6) w h))

@@ -39,7 +39,7 @@ use Rattle.asking.specs.Ask.{AllCovered, anyWithin, asked}
 use Rattle.asking.specs.Laws.Ask.{text-asked}
 use Rattle.asking.specs.Settle.{notAbove, settledBy, settled, counted}
 use Rattle.asking.specs.Internal.AskNodes.{holds, anyHolds, any-spots}
-use Rattle.asking.specs.Internal.CodeOrder.{comesBy, comes, code-comes, code-test-comes}
+use Rattle.asking.specs.Internal.CodeOrder.{noLater, noLaterAt, cell-no-later, code-not-above}
 
 -- ---- the letters and digits that are counted are the first ones
 
@@ -102,17 +102,17 @@ None from to ss = All (λ (s : Spot). holds from to s ≡ false) ss
 
 abbrev Tame : (from to : ℕ) → List Spot → Type 0
 Tame from to [] = Unit {0}
-Tame from to (s ∷ ss) = (comes from to s ≡ false → None from to (s ∷ ss)) × Tame from to ss
+Tame from to (s ∷ ss) = (noLaterAt from to s ≡ false → None from to (s ∷ ss)) × Tame from to ss
 
 -- how many are counted
 unfoldable stops : (from to : ℕ) → List Spot → ℕ
 stops from to [] = 0
-stops from to (s ∷ ss) = cond (comes from to s) (1 + stops from to ss) 1
+stops from to (s ∷ ss) = cond (noLaterAt from to s) (1 + stops from to ss) 1
 
 stops-none : (from to : ℕ) (ss : List Spot) → stops from to ss ≡ 0 → None from to ss × (length ss ≡ 0)
 unfolding stops
 stops-none from to [] e = (tt, refl)
-stops-none from to (s ∷ ss) e = absurd (go (comes from to s) e)
+stops-none from to (s ∷ ss) e = absurd (go (noLaterAt from to s) e)
   where
     go : (b : Bool) → cond b (1 + stops from to ss) 1 ≡ 0 → ⊥
     go true h = omega arith
@@ -172,7 +172,7 @@ module _ (from to : ℕ) where
 
   -- a letter or digit
   step :
-      (bs cs : List ℕ) (q : Spot) (r : ℕ) (w : Bool) → comes from to q ≡ w →
+      (bs cs : List ℕ) (q : Spot) (r : ℕ) (w : Bool) → noLaterAt from to q ≡ w →
       cond w (1 + stops from to (lettersFrom q bs)) 1 ≡ suc r → cond w (1 + stops from to (lettersFrom q cs)) 1 ≡ suc r →
       Tame from to (q ∷ lettersFrom q bs) → Tame from to (q ∷ lettersFrom q cs) →
       (stops from to (lettersFrom q bs) ≡ r → stops from to (lettersFrom q cs) ≡ r →
@@ -214,7 +214,7 @@ module _ (from to : ℕ) where
       go true y a c k m n = o (suc r) a c (g .1) k m n
       go false true a c k m n = o (suc r) a c (g .1) k m n
       go false false a c k m n =
-          step bs (through r bs ++ more) (after s b) r (comes from to (after s b)) refl a c m n
+          step bs (through r bs ++ more) (after s b) r (noLaterAt from to (after s b)) refl a c m n
           (λ v w. (opens-same bs more (after s b) r v w (g .1) k, o r v w (g .1) k (m .1) (n .1)))
 
   same-walk : (bs more : List ℕ) (s : Spot) (r : ℕ) → Alike bs more s r
@@ -224,8 +224,8 @@ module _ (from to : ℕ) where
 
 -- ---- a cell above the asked one in code does not hold it
 
-comes-holds : (from to s e : ℕ) → comesBy from to s e ≡ false → (leb s from && leb to e) ≡ false
-comes-holds from to s e h = go (ltb s from) (eqb s from) (leb to e) refl refl h
+later-not-holds : (from to s e : ℕ) → noLater from to s e ≡ false → (leb s from && leb to e) ≡ false
+later-not-holds from to s e h = go (ltb s from) (eqb s from) (leb to e) refl refl h
   where
     go : (x y z : Bool) → ltb s from ≡ x → eqb s from ≡ y → (x || (y && z)) ≡ false → (leb s from && z) ≡ false
     go true y z k l h = clash h
@@ -233,21 +233,21 @@ comes-holds from to s e h = go (ltb s from) (eqb s from) (leb to e) refl refl h
     go false true false k l h = and-none (leb s from)
     go false false z k l h = ap (λ (b : Bool). b && z) (lt-leb s from (omega (arith, ltb-false s from k, eqb-false s from l)))
 
-not-holds : (from to : ℕ) (s : Spot) → comes from to s ≡ false → holds from to s ≡ false
-unfolding comes
-not-holds from to s h = comes-holds from to (startAs (s .resolution) (s .number)) (endAs (s .resolution) (s .number)) h
+not-holds : (from to : ℕ) (s : Spot) → noLaterAt from to s ≡ false → holds from to s ≡ false
+unfolding noLaterAt
+not-holds from to s h = later-not-holds from to (startAs (s .resolution) (s .number)) (endAs (s .resolution) (s .number)) h
 
 module _ (x : Cell) (w : IsCell x) where
   none-spots : (qs : List Cell) → Cells qs → All (λ (p : Cell). cellCode x < cellCode p) qs → None (startOf x) (endOf x) (map spotOf qs)
   none-spots [] k h = tt
   none-spots (q ∷ qs) k h =
-      (not-holds _ _ (spotOf q) (sym (code-comes q x (k .0) w) ∙ lt-leb (cellCode q) (cellCode x) (h .0)), none-spots qs (k .1) (h .1))
+      (not-holds _ _ (spotOf q) (sym (cell-no-later q x (k .0) w) ∙ lt-leb (cellCode q) (cellCode x) (h .0)), none-spots qs (k .1) (h .1))
 
   tame-spots : (qs : List Cell) → Cells qs → Rising qs → Tame (startOf x) (endOf x) (map spotOf qs)
   tame-spots [] k g = tt
   tame-spots (q ∷ qs) k g = (
     (λ e.
-        let h : cellCode x < cellCode q = leb-false (cellCode q) (cellCode x) (code-comes q x (k .0) w ∙ e) in
+        let h : cellCode x < cellCode q = leb-false (cellCode q) (cellCode x) (cell-no-later q x (k .0) w ∙ e) in
         none-spots (q ∷ qs) k (h, all-each (λ (p : Cell). cellCode q < cellCode p) (λ (p : Cell). cellCode x < cellCode p) (λ p m. omega arith) qs (g .0))),
     tame-spots qs (k .1) (g .1),
   )
@@ -259,7 +259,7 @@ stops-spots :
     stopsAt code (map (codeOf a) qs) ≡ stops (startOf (cellOf code)) (endOf (cellOf code)) (map spotOf qs)
 unfolding stopsAt stops
 stops-spots code c a [] k = refl
-stops-spots code c a (q ∷ qs) k = ap₂ (λ (b : Bool) (n : ℕ). cond b (1 + n) 1) (code-test-comes code c a q (k .0)) (stops-spots code c a qs (k .1))
+stops-spots code c a (q ∷ qs) k = ap₂ (λ (b : Bool) (n : ℕ). cond b (1 + n) 1) (code-not-above code c a q (k .0)) (stops-spots code c a qs (k .1))
 
 module _ (t : List ℕ) (e : isText t ≡ true) where
   rise : (a : Arrangement) → Rise (letterCodes a (nodesOf t))
