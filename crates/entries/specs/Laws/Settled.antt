@@ -1,9 +1,14 @@
 -- What settles an answer (02, W-213), over what jgv_coverage_ask answers. Assumes nothing.
 use mathlib.Core.Path.{_≡_, refl, sym, ap, _∙_}
-use mathlib.Core.Bool.{true}
+use mathlib.Core.Bool.{Bool, true, false, cond}
 use mathlib.Core.List.{List, [], _∷_, map}
-use Prim.Native.Nat.{ℕ}
+use Prim.Native.Nat.{ℕ, zero, suc, _+_, _≤_}
+use native.Mathlib.Omega.{arith}
+use lib.Dec.{leb, ltb}
+use lib.ListN.{length, take, drop}
 use borrow.Author.Tests.{not-false}
+use Rattle.logic.specs.Lists.{All}
+use Rattle.logic.specs.Rise.{Above}
 use Rattle.logic.specs.Refusal.{_otherwise_}
 use Rattle.logic.specs.Laws.Refusal.{both, allowed}
 use Rattle.ternary.specs.Digits.{value}
@@ -12,7 +17,7 @@ use Rattle.code.specs.Code.{digitsOf, pathOf, cellCodeAt, cellCode, cellCoded, 
 use Rattle.code.specs.Laws.Code.{a-code, of-arrangement}
 use Rattle.code.specs.Inside.{startOf, endOf, liesWithin}
 use Rattle.reading.specs.Ground.{cellNamed, wholeCells}
-use Rattle.reading.specs.Letters.{letterCells, letterCodes}
+use Rattle.reading.specs.Letters.{letterCells, letterCodes, isLetter, through}
 use Rattle.reading.specs.Parse.{parse}
 use Rattle.reading.specs.Scan.{scan}
 use Rattle.reading.specs.Place.{placeOf}
@@ -23,11 +28,37 @@ use Rattle.reader.specs.Check.{otherVersion, textRefusal}
 use Rattle.reader.specs.Laws.Demand.{accepted-reads}
 use Rattle.asking.specs.Ask.{anyWithin, askRefusal, asked}
 use Rattle.asking.specs.Settle.{notAbove, settledBy, settled, counted}
-use Rattle.asking.specs.Laws.Settle.{same-answer}
+use Rattle.asking.specs.Laws.Settle.{counted-first, same-answer}
 use Rattle.entries.specs.Texts.{askNumbers}
 use Rattle.entries.specs.Laws.First.{ask-refusal}
 use Rattle.entries.specs.Laws.Texts.{askAnswer}
 use Rattle.entries.specs.declared.AskAnswer.{AskAnswer}
+
+-- "those .. whose codes are not above the asked one's, plus one if a later one exists", of the codes of all letters and digits as they stand: the first n
+-- are not above, the others are, and r is n, or one more where there are others. No other r is so.
+pub record Settles (code : ℕ) (codes : List ℕ) (r n : ℕ) : Type 0 where
+  pub within : n ≤ length codes
+  pub counts : All (λ (c : ℕ). c ≤ code) (take n codes)
+  pub later : Above code (drop n codes)
+  pub report : r ≡ n + cond (ltb n (length codes)) 1 0
+
+not-more : (code : ℕ) (cs : List ℕ) → notAbove code cs ≤ length cs
+unfolding notAbove
+not-more code [] = omega arith
+not-more code (c ∷ cs) = go (leb c code) (not-more code cs)
+  where
+    go : (b : Bool) → notAbove code cs ≤ length cs → cond b 1 0 + notAbove code cs ≤ suc (length cs)
+    go true h = omega arith
+    go false h = omega arith
+
+-- beside a refusal neither an answer nor a report
+pub ask-none : (t : List ℕ) (code : ℕ) → (askAnswer t code .refusal ≡ 0 → ⊥) → (askAnswer t code .covered ≡ 0) × (askAnswer t code .settled ≡ 0)
+unfolding asked
+ask-none t code h = go (askRefusal t code) h
+  where
+    go : (r : ℕ) → (askNumbers (asked r t code) .refusal ≡ 0 → ⊥) → (askNumbers (asked r t code) .covered ≡ 0) × (askNumbers (asked r t code) .settled ≡ 0)
+    go zero k = absurd (k refl)
+    go (suc r) k = (refl, refl)
 
 module _ (t : List ℕ) (code : ℕ) (e : askAnswer t code .refusal ≡ 0) where
   none : askRefusal t code ≡ 0
@@ -54,6 +85,14 @@ module _ (t : List ℕ) (code : ℕ) (e : askAnswer t code .refusal ≡ 0) where
   pub ask-settled : askAnswer t code .settled ≡ settled (textArrangement t) code (nodesOf t)
   unfolding asked
   ask-settled = ap (λ (a : AskAnswer). a .settled) answers
+
+  -- and the request's, over the codes of the letters and digits
+  pub ask-counts : (n : ℕ) × Settles code (letterCodes (textArrangement t) (nodesOf t)) (askAnswer t code .settled) n
+  unfolding settled settledBy
+  ask-counts =
+      let cs : List ℕ = letterCodes (textArrangement t) (nodesOf t) in
+      let k = counted-first t of-grammar code in
+      (notAbove code cs, record { within = not-more code cs; counts = k .0; later = k .1; report = ask-settled })
 
 -- "Show that another accepted text with the same heading, the same bytes through the last one counted and the same report gives the same answer." Of the
 -- headings nothing more is asked than that neither text is refused, so that both have the code's n and s.
@@ -103,3 +142,39 @@ unfolding
     northOf southOf isOf arrangementOf isCode isCellCode cellOf cellCoded rowIn columnIn anyWithin liesWithin startOf endOf sizeOf pathOf digitsOf wholeCells
     letterCells letterCodes cellNamed settled settledBy notAbove codeOf cellCode cellCodeAt value
 questions-asked = refl
+
+-- ---- "the bytes through the last one counted", behind the heading: a text, a code, how many settle the answer, and these bytes. Texts that differ
+-- behind them have the same ones, so `ask-settles` speaks of more than one text.
+
+pub data Lead : Type 0 where
+  lead-of : (bytes : List ℕ) (code many : ℕ) (first : List ℕ) → Lead
+
+unfoldable pub ledBy : Lead → List ℕ
+ledBy (lead-of bytes code many first) =
+    let a = askAnswer bytes code in a .refusal ∷ a .settled ∷ counted (a .settled) bytes
+
+unfoldable pub leadSaid : Lead → List ℕ
+leadSaid (lead-of bytes code many first) = 0 ∷ many ∷ first
+
+pub leads : List Lead
+leads =
+    lead-of (67 ∷ 86 ∷ 82 ∷ 0 ∷ 1 ∷ 48 ∷ 48 ∷ 80 ∷ 40 ∷ 51 ∷ 52 ∷ 40 ∷ 49 ∷ 41 ∷ 41 ∷ []) 0 1 (80 ∷ []) ∷  -- `P(34(1))`, N: P
+    lead-of (67 ∷ 86 ∷ 82 ∷ 0 ∷ 1 ∷ 48 ∷ 48 ∷ 80 ∷ 40 ∷ 51 ∷ 52 ∷ 40 ∷ 49 ∷ 41 ∷ 41 ∷ []) 122985636237870352 3 (80 ∷ 40 ∷ 51 ∷ 52 ∷ []) ∷  -- P3: through the 4
+    lead-of (67 ∷ 86 ∷ 82 ∷ 0 ∷ 1 ∷ 48 ∷ 48 ∷ 80 ∷ 40 ∷ 51 ∷ 52 ∷ 40 ∷ 50 ∷ 41 ∷ 41 ∷ []) 122985636237870352 3 (80 ∷ 40 ∷ 51 ∷ 52 ∷ []) ∷  -- another text with the same report and the same bytes so far
+    lead-of (67 ∷ 86 ∷ 82 ∷ 0 ∷ 1 ∷ 48 ∷ 48 ∷ 80 ∷ 40 ∷ 51 ∷ 52 ∷ 41 ∷ []) 122985636237870352 3 (80 ∷ 40 ∷ 51 ∷ 52 ∷ []) ∷  -- and one more
+    lead-of (67 ∷ 86 ∷ 82 ∷ 0 ∷ 1 ∷ 48 ∷ 48 ∷ 80 ∷ 40 ∷ 51 ∷ 52 ∷ 40 ∷ 49 ∷ 41 ∷ 41 ∷ []) 128842095106340368 4 (80 ∷ 40 ∷ 51 ∷ 52 ∷ 40 ∷ 49 ∷ []) ∷  -- P4: no
+    lead-of (67 ∷ 86 ∷ 82 ∷ 0 ∷ 1 ∷ 48 ∷ 48 ∷ 80 ∷ 40 ∷ 51 ∷ 52 ∷ 40 ∷ 49 ∷ 41 ∷ 41 ∷ []) 263540649081150720 4 (80 ∷ 40 ∷ 51 ∷ 52 ∷ 40 ∷ 49 ∷ []) ∷  -- S: the last digit, and no bracket behind it
+    lead-of (67 ∷ 86 ∷ 82 ∷ 0 ∷ 1 ∷ 48 ∷ 48 ∷ 80 ∷ 40 ∷ 51 ∷ 55 ∷ 56 ∷ 41 ∷ 81 ∷ []) 122985636237870352 3 (80 ∷ 40 ∷ 51 ∷ 55 ∷ []) ∷  -- P3: the last digits and letters are not counted
+    lead-of (67 ∷ 86 ∷ 82 ∷ 0 ∷ 1 ∷ 48 ∷ 48 ∷ []) 52708129816230144 0 ([]) ∷  -- the heading alone
+    lead-of (67 ∷ 86 ∷ 82 ∷ 0 ∷ 2 ∷ 49 ∷ 50 ∷ 99 ∷ 78 ∷ 80 ∷ 40 ∷ 51 ∷ 52 ∷ 40 ∷ 49 ∷ 41 ∷ 41 ∷ []) 6 2 (78 ∷ 80 ∷ []) ∷  -- version 2: behind its eight bytes
+    lead-of (67 ∷ 86 ∷ 82 ∷ 0 ∷ 2 ∷ 49 ∷ 50 ∷ 99 ∷ 78 ∷ 80 ∷ 40 ∷ 51 ∷ 52 ∷ 40 ∷ 49 ∷ 41 ∷ 41 ∷ []) 122985636237870358 4 (78 ∷ 80 ∷ 40 ∷ 51 ∷ 52 ∷ []) ∷  -- not all of version 2's
+    lead-of (67 ∷ 86 ∷ 82 ∷ 0 ∷ 2 ∷ 49 ∷ 50 ∷ 99 ∷ 78 ∷ 80 ∷ 40 ∷ 51 ∷ 52 ∷ 40 ∷ 50 ∷ 41 ∷ 41 ∷ []) 122985636237870358 4 (78 ∷ 80 ∷ 40 ∷ 51 ∷ 52 ∷ []) ∷  -- another
+    lead-of (67 ∷ 86 ∷ 82 ∷ 0 ∷ 2 ∷ 49 ∷ 50 ∷ 99 ∷ 78 ∷ 80 ∷ 40 ∷ 51 ∷ 52 ∷ 40 ∷ 49 ∷ 41 ∷ 41 ∷ []) 263540649081150726 5 (78 ∷ 80 ∷ 40 ∷ 51 ∷ 52 ∷ 40 ∷ 49 ∷ []) ∷  -- all of them, and none later
+    []
+
+pub leads-said : map ledBy leads ≡ map leadSaid leads
+unfolding
+    leads ledBy leadSaid counted through isLetter _otherwise_ asked askRefusal codeRefusal textRefusal otherVersion isText readText parse placeOf lead scan
+    nodesOf profileOf northOf southOf isOf arrangementOf isCode isCellCode cellOf cellCoded rowIn columnIn anyWithin liesWithin startOf endOf sizeOf pathOf
+    digitsOf wholeCells letterCells letterCodes cellNamed settled settledBy notAbove codeOf cellCode cellCodeAt value
+leads-said = refl
