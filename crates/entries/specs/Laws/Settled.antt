@@ -35,7 +35,7 @@ use Rattle.entries.specs.Laws.Texts.{askAnswer}
 use Rattle.entries.specs.declared.AskAnswer.{AskAnswer}
 
 -- "those .. whose codes are not above the asked one's, plus one if a later one exists", of the codes of all letters and digits as they stand: the first n
--- are not above, the others are, and r is n, or one more where there are others. No other r is so.
+-- are not above, the others are, and r is n, or one more where there are others.
 pub record Settles (code : ℕ) (codes : List ℕ) (r n : ℕ) : Type 0 where
   pub within : n ≤ length codes
   pub counts : All (λ (c : ℕ). c ≤ code) (take n codes)
