@@ -45,5 +45,5 @@ folds! {
     Z { z }
     Check { place, version, depth, n, s, cells, size }
     List { place, count }
-    Ask { place, covered }
+    Ask { place, covered, settled }
 }

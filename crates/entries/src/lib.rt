@@ -107,4 +107,5 @@ pub struct AskAnswer {
     pub refusal: u64,
     pub place: u64,
     pub covered: u64,
+    pub settled: u64,
 }

@@ -2,7 +2,7 @@
 //! in their form.
 
 use crate::compare::Refusing;
-use crate::coverage::{Checked, Refused, TextAnswer};
+use crate::coverage::{Asked, Checked, Refused, TextAnswer};
 use crate::grid::{self, Answer, Place};
 use jeguarivo::{Ask, Cell, Check, Code, Count, Fix, Length, List, Name, Point, Shape, Size};
 use jeguarivo::{Square, Vertices, Z};
@@ -70,7 +70,8 @@ like! {
         n: of.n, s: of.s, cells: of.cells, size: of.size
     };
     List at place, TextAnswer<u64>, count => { count: count };
-    Ask at place, TextAnswer<bool>, covered => { covered: u64::from(covered) };
+    Ask at place, TextAnswer<Asked>, of =>
+        { covered: u64::from(of.covered), settled: of.settled };
 }
 
 /// An answer together with the lent bytes or codes after it.
