@@ -23,8 +23,9 @@
  *   13  text longer than 65,536 bytes, read or to be written
  *   14  a question of another arrangement than the text's heading has, or a list with a code of another arrangement than the asked one
  *   15  list outside the profile of version 2: the fewest cells of its ground hold a part of N or S, or one deeper than the asked depth
+ *   19  a face side in metres out of range or not a number, a frame handed in with an edge that is not a number
  *
- * Where several apply, the order is 5, 2, 1, 3, 4, 6, 7, 12, 13, 10, 9, 14, 11, 15, 8; in
+ * Where several apply, the order is 19, 5, 2, 1, 3, 4, 6, 7, 12, 13, 10, 9, 14, 11, 15, 8; in
  * writing 13 comes after 15. Faces 0 to 5 are N, O, P, Q, R, S; N lies above face n of O to R and S below
  * face s, both from 0 to 3.
  *
@@ -57,6 +58,9 @@ typedef struct { uint64_t refusal; int64_t z; } jgv_z;
 typedef struct { uint64_t refusal, place, version, depth, n, s, cells, size; } jgv_check;
 typedef struct { uint64_t refusal, place, count; } jgv_list;
 typedef struct { uint64_t refusal, place, covered, settled; } jgv_ask;
+typedef struct { uint64_t refusal, kind; double numbers[4]; } jgv_mark_answer;
+typedef struct { double left, bottom, right, top; } jgv_frame;
+typedef struct { uint64_t refusal; double left, bottom, right, top; } jgv_frame_answer;
 
 /* The code of a cell in an arrangement. Refusals 5, 2, 1, 3. */
 jgv_code jgv_cell_code(uint64_t n, uint64_t s, uint64_t face, uint64_t resolution, uint64_t row, uint64_t column);
@@ -141,6 +145,22 @@ jgv_length jgv_coverage_write(uint64_t version, uint64_t depth, uint64_t n, uint
  * cells' codes are not above `code`, whole or not, and one more if a later one stands in the text. Any other accepted text with the same heading that has
  * the same bytes through the last of these, and as many of them, gives the same answer. Refusals 4, 13, 10, 9, 14. */
 jgv_ask jgv_coverage_ask(const uint8_t *text, size_t length, uint64_t code);
+
+/* A mark for the plotter at a point of the plane, in metres: kind 1, `numbers` x, y, 0, 0. Here and in the next three `side` is the face side
+ * in metres, from 1 to 2^30. Each number is the planar number times the side, then divided by 28,697,814, each step rounded once: within one
+ * part in 2^51 of the exact quotient, and 0 for 0. Beside a refusal the kind is 0. Refusals 19, 5, 7. */
+jgv_mark_answer jgv_mark_point(double side, uint64_t n, uint64_t s, int64_t x, int64_t y);
+
+/* A mark for the plotter of a cell, in metres: kind 2, a box; `numbers` left, bottom, right, top, the edges of the cell's square. Refusals 19,
+ * 4. */
+jgv_mark_answer jgv_mark_code(double side, uint64_t code);
+
+/* The first frame: a cell's box, in metres. Refusals 19, 4. */
+jgv_frame_answer jgv_frame_first(double side, uint64_t code);
+
+/* A frame grown to hold the box of a further cell, in metres: each edge becomes the one further out, on a tie the frame's, as -0.0 stays beside
+ * 0.0. An infinite edge is a number. Refusals 19, 4. */
+jgv_frame_answer jgv_frame_grow(double side, jgv_frame frame, uint64_t code);
 
 #ifdef __cplusplus
 }
