@@ -17,6 +17,7 @@ ghost use Rattle.writing.specs.Write.{asksFor, writeRefusal, textOf, textIn, wr
 ghost use Rattle.entries.specs.Entries.{arrangement, codedAnswer, codeAnswer, codeOfCell, codeCell, nameAnswer, writtenName, parentCode, childCode};
 ghost use Rattle.entries.specs.Entries.{cellSize, cellShape, cornerCount, cellSquare, cellNucleus, cellVertices, pointCode, neighbourCode, fixCode, groundFix};
 ghost use Rattle.entries.specs.Entries.{geodeticZ, geodeticCode, cornerCells};
+ghost use Rattle.entries.specs.Plotter.{markNumbers, frameNumbers, pointMarked, codeMarked, frameBegun, frameGrown};
 use adding::Added;
 use asking::Asked;
 use cell::Arrangement;
@@ -31,8 +32,10 @@ use entries::CheckAnswer;
 use entries::CodeAnswer;
 use entries::CountAnswer;
 use entries::FixAnswer;
+use entries::FrameAnswer;
 use entries::LengthAnswer;
 use entries::ListAnswer;
+use entries::MarkAnswer;
 use entries::NameAnswer;
 use entries::PointAnswer;
 use entries::ShapeAnswer;
@@ -42,6 +45,9 @@ use entries::VerticesAnswer;
 use entries::ZAnswer;
 use listing::Listed;
 use name::Named;
+use plotter::Frame;
+use plotter::Framed;
+use plotter::Mark;
 use reader::Checked;
 use writing::Written;
 
@@ -538,15 +544,17 @@ pub extern "C" fn jgv_coverage_ask(text: &[u8], code: u64) -> AskAnswer
     ensures { λ r. ⌜ r ≡ askNumbers (asked (askRefusal (now (text .entry)) code) (now (text .entry)) code) ⌝ }
 {
     match asking::ask(text, code) {
-        Asked::Covered(covered) => AskAnswer {
+        Asked::Answer { covered, settled } => AskAnswer {
             refusal: 0,
             place: 0,
             covered: as_number(covered),
+            settled,
         },
         Asked::Refused { refusal, place } => AskAnswer {
             refusal,
             place,
             covered: 0, // of a question that is refused
+            settled: 0, // by nothing
         },
     }
 }
@@ -577,4 +585,82 @@ fn as_number(yes: bool) -> u64
     ensures { λ r. ⌜ r ≡ cond yes 1 0 ⌝ }
 {
     if yes { 1 } else { 0 }
+}
+
+// A mark as numbers: kind 1 is a point, 2 a box, 0 nothing.
+fn mark_answer(mark: Mark) -> MarkAnswer
+    ensures { λ r. ⌜ r ≡ markNumbers mark ⌝ }
+{
+    match mark {
+        Mark::Point(x, y) => MarkAnswer {
+            refusal: 0,
+            kind: 1, // a point
+            numbers: [x, y, 0.0, 0.0],
+        },
+        Mark::Box(left, bottom, right, top) => MarkAnswer {
+            refusal: 0,
+            kind: 2, // a box
+            numbers: [left, bottom, right, top],
+        },
+        Mark::Nothing(refusal) => MarkAnswer {
+            refusal,
+            kind: 0, // nothing
+            numbers: [0.0; 4],
+        },
+    }
+}
+
+// Four edges as numbers.
+fn frame_answer(framed: Framed) -> FrameAnswer
+    ensures { λ r. ⌜ r ≡ frameNumbers framed ⌝ }
+{
+    match framed {
+        Framed::Edges(frame) => FrameAnswer {
+            refusal: 0,
+            left: frame.left,
+            bottom: frame.bottom,
+            right: frame.right,
+            top: frame.top,
+        },
+        Framed::Refused(refusal) => FrameAnswer {
+            refusal,
+            left: 0.0, // of no frame
+            bottom: 0.0, // and no bottom
+            right: 0.0, // and no right
+            top: 0.0, // and no top
+        },
+    }
+}
+
+// 19 where the side is not from 1 to 2^30, 5 where n or s is above 3, 7 where the point is outside the image (02 W-214).
+#[no_mangle]
+pub extern "C" fn jgv_mark_point(side: f64, n: u64, s: u64, x: i64, y: i64) -> MarkAnswer
+    ensures { λ r. ⌜ r ≡ pointMarked side n s x y ⌝ }
+{
+    let arrangement = Arrangement { north: n, south: s }; // `mark_point` tests it
+    mark_answer(plotter::mark_point(side, arrangement, x, y))
+}
+
+// 19 where the side is not from 1 to 2^30, 4 where the code is no cell's.
+#[no_mangle]
+pub extern "C" fn jgv_mark_code(side: f64, code: u64) -> MarkAnswer
+    ensures { λ r. ⌜ r ≡ codeMarked side code ⌝ }
+{
+    mark_answer(plotter::mark_code(side, code))
+}
+
+// 19 where the side is not from 1 to 2^30, 4 where the code is no cell's.
+#[no_mangle]
+pub extern "C" fn jgv_frame_first(side: f64, code: u64) -> FrameAnswer
+    ensures { λ r. ⌜ r ≡ frameBegun side code ⌝ }
+{
+    frame_answer(plotter::frame_first(side, code))
+}
+
+// 19 where the side is not from 1 to 2^30 or an edge of the frame is not a number, 4 where the code is no cell's.
+#[no_mangle]
+pub extern "C" fn jgv_frame_grow(side: f64, frame: Frame, code: u64) -> FrameAnswer
+    ensures { λ r. ⌜ r ≡ frameGrown side frame code ⌝ }
+{
+    frame_answer(plotter::frame_grow(side, frame, code))
 }

@@ -108,7 +108,7 @@ fn what_the_example_prints_is_the_second_programs() {
     wanted.push(cells.len().to_string());
     for command in commands.iter().filter(|command| command.contains(" ask ")) {
         let name = command.split(' ').nth(4).expect("a name");
-        let covered = ask(&text, code_of(0, 0, name.as_bytes())).expect("an accepted text");
+        let covered = ask(&text, code_of(0, 0, name.as_bytes())).expect("an accepted text").covered;
         wanted.push(if covered { "yes" } else { "no" }.to_string());
     }
     let flight = example("flight/flight.txt");

@@ -126,7 +126,7 @@ missed false d n = absurd (n (d .holds refl))
 
 -- ---- numbers that several entries give
 
-arrangement-first : (n s : ℕ) → FirstOf (arrangementTests n s) (arrangementRefusal (arrangement n s))
+pub arrangement-first : (n s : ℕ) → FirstOf (arrangementTests n s) (arrangementRefusal (arrangement n s))
 unfolding arrangementRefusal
 arrangement-first n s = twice 4 (lt-decides 3 n) (lt-decides 3 s)
 
@@ -171,7 +171,7 @@ unfolding nameAnswer
 name-refusal n s bs = code-refusal (arrangementRefusal (arrangement n s) otherwise nameRefusal bs) (nameCode (arrangement n s) bs)
 
 -- jgv_point_code
-image : (n s : ℕ) (x y : ℤ) → Decides (inImage (arrangement n s) x y) (OnImage n s x y)
+pub image : (n s : ℕ) (x y : ℤ) → Decides (inImage (arrangement n s) x y) (OnImage n s x y)
 unfolding inImage inBelt inNorth inSouth
 image n s x y =
     or-decides
