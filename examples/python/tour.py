@@ -149,6 +149,15 @@ def coverage():
             print(f"coverage_check: {body} -> refused with {refused.number} at place {refused.place}")
 
 
+def additions():
+    """A flight's cells go into its text one by one, in any order; the text is all that there is to keep."""
+    text = jgv.coverage_write(0, 0, map(code_of, ["P3", "P41"]))
+    for name in ("P40", "P4", "P418"):  # the second one's list gives way, and the third one is covered
+        before, text = text, jgv.coverage_add(text, code_of(name))
+        print(f"coverage_add: {before[7:].decode()}, {name} -> {text[7:].decode()}")
+    print(f"coverage_add: P(34), N6, n 1 -> {refusal(jgv.coverage_add, text, code_of('N6', 1, 0))}")
+
+
 def refusal(call, *values):
     """A call that should be refused, as the tour shows it."""
     try:
@@ -220,5 +229,5 @@ def plotter():
 
 
 if __name__ == "__main__":
-    for part in (codes_and_names, families, shapes, plane, ground, neighbours, corners, coverage, two_arrangements, handhelds, plotter):
+    for part in (codes_and_names, families, shapes, plane, ground, neighbours, corners, coverage, additions, two_arrangements, handhelds, plotter):
         part()

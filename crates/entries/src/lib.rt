@@ -125,3 +125,10 @@ pub struct FrameAnswer {
     pub right: f64,
     pub top: f64,
 }
+
+#[repr(C)]
+pub struct AddAnswer {
+    pub refusal: u64,
+    pub place: u64,
+    pub length: u64,
+}

@@ -203,6 +203,19 @@ fn coverage() -> Answer<()> {
     Ok(())
 }
 
+/// A flight's cells go into its text one by one, in any order; the text is all that there is to keep.
+fn additions() -> Answer<()> {
+    let mut text = [0; 64];
+    let mut length = coverage_write(0, 0, &[code_of("P3")?, code_of("P41")?], &mut text)?.len();
+    for name in ["P40", "P4", "P418"] {
+        let before = String::from_utf8_lossy(&text[7..length]).into_owned();
+        length = coverage_add(&mut text, length, code_of(name)?)?.len();
+        println!("coverage_add: {before}, {name} -> {}", String::from_utf8_lossy(&text[7..length]));
+    }
+    println!("coverage_add: P(34), N6, n 1 -> {}", refusal(coverage_add(&mut text, length, code_at(1, 0, "N6")?)));
+    Ok(())
+}
+
 /// An answer that should be a refusal, as the tour shows it.
 fn refusal<T>(answer: Answer<T>) -> String {
     answer.map_or_else(|refused| format!("refused with {}", refused.number), |_| "an answer".to_string())
@@ -293,6 +306,7 @@ fn main() -> Answer<()> {
     neighbours()?;
     corners()?;
     coverage()?;
+    additions()?;
     two_arrangements()?;
     handhelds()?;
     plotter()
