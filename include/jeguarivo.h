@@ -28,7 +28,7 @@
  *   19  a face side in metres out of range or not a number, a frame handed in with an edge that is not a number
  *
  * Where several apply, the order is 19, 5, 2, 1, 3, 4, 6, 7, 12, 13, 10, 9, 14, 11, 15, 8; in
- * writing 13 comes after 15. Faces 0 to 5 are N, O, P, Q, R, S; N lies above face n of O to R and S below
+ * writing 13 comes after 15; jgv_coverage_add has its own order. Faces 0 to 5 are N, O, P, Q, R, S; N lies above face n of O to R and S below
  * face s, both from 0 to 3.
  *
  * A coverage text is a heading and a body: the mark `CVR`, the version in two bytes (00 01 or 00 02), n and s as digits, at version 2 one
