@@ -153,7 +153,8 @@ holds {t} {name} {at} {k} {i} {w} v d h f = go (d .nodes) (d .left) (d .good) (d
 pub full-at : {t name : List ℕ} {at k e : ℕ} (v : Stands t name at k) → editOf at k 0 (v .number) (v .digits) (v .nodes) ≡ Full e → e ≡ at + length (render (v .level) (v .nodes))
 full-at {t} {name} {at} {k} {e} v q =
     subst
-    (λ (r : Edit). Says name (take at t ++ (render (v .level) (v .nodes) ++ v .rest)) (take at t ++ (render (v .level) (grow (v .number) (v .digits) (v .nodes)) ++ v .rest)) (at + length (render (v .level) (v .nodes))) (0 + wholes (grow (v .number) (v .digits) (v .nodes))) r)
+    (λ (r : Edit). Says name (take at t ++ (render (v .level) (v .nodes) ++ v .rest)) (take at t ++ (render (v .level) (grow (v .number) (v .digits) (v .nodes)) ++ v .rest))
+    (at + length (render (v .level) (v .nodes))) (0 + wholes (grow (v .number) (v .digits) (v .nodes))) r)
     q
     (says (v .nodes) (v .level) (v .depth) 0 (v .number) (v .digits) at k 0 name (take at t) (v .rest) (v .good) (omega arith) (omega arith) (v .small) (v .below)
     (λ z. v .few (omega arith)) (sym (length-take-le at t (v .within))) (v .named))

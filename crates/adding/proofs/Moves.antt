@@ -5,7 +5,8 @@ use Prim.Native.Nat.{ℕ, suc, _+_, _-_, _*_, _≤_, _<_}
 use native.Mathlib.Numerals.{add-one}
 use native.Mathlib.Omega.{arith}
 use lib.ListN.{length, take, drop, getD, set, length-set, length-drop, length-append, take-append-drop, drop-of-length-le}
-use lib.Seq.{drop-cons, drop-at, take-take, take-set-le, set-split, getD-take, getD-drop, getD-append-add, length-take-le, paste, paste-suc, paste-zero, length-paste, length-paste-head, sets, length-sets}
+use lib.Seq.{drop-cons, drop-at, take-take, take-set-le, set-split, getD-take, getD-drop, getD-append-add, length-take-le, paste, paste-suc, paste-zero, length-paste}
+use lib.Seq.{length-paste-head, sets, length-sets}
 use Rattle.logic.specs.Laws.Stores.{sets-append}
 use Rattle.walk.specs.Laws.Walk.{byte-at}
 use Rattle.adding.specs.Internal.Edit.{nested}

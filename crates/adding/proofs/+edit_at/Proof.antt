@@ -81,25 +81,37 @@ edit-at-returns t c =
     record { is = λ v. let d = landed t e v in c .put-from .ensures ∙ find-put v (d .0) (d .1) (λ q. eqb-no (c .before .before .stands-at .ensures) (not-true _ (c .before .if1 .taken)) q) }
 
 edit-at-whole-at-requires : (t : ℕ) → edit-at-lts.Need-whole-at-requires (for-edit-at t) (edit-at-at t) edit-at.Post
-edit-at-whole-at-requires t c κs = stands-inside (c .before .before .before .before .before .before .args .text .now) (c .before .before .skip .result .place) _ (byte-some (stood t (c .before .before .before .before .before .before))) (eqb-yes (c .before .stands-at .ensures) (not-false _ (c .if1 .left)))
+edit-at-whole-at-requires t c κs = stands-inside (c .before .before .before .before .before .before .args .text .now) (c .before .before .skip .result .place) _
+    (byte-some (stood t (c .before .before .before .before .before .before))) (eqb-yes (c .before .stands-at .ensures) (not-false _ (c .if1 .left)))
 
 edit-at-returns-2 : (t : ℕ) → edit-at-lts.Need-returns-2 (for-edit-at t) (edit-at-at t) edit-at.Post
 edit-at-returns-2 t c =
     let e = c .before .before .before .before in
-    record { is = λ v. find-covered v (landed t e v .0) (eqb-yes (c .before .before .before .stands-at .ensures) (not-false _ (c .before .before .if1 .left))) (sym (c .before .whole-at .ensures) ∙ c .if2 .taken) }
+    record {
+      is = λ v. find-covered v (landed t e v .0) (eqb-yes (c .before .before .before .stands-at .ensures) (not-false _ (c .before .before .if1 .left)))
+          (sym (c .before .whole-at .ensures) ∙ c .if2 .taken);
+    }
 
 edit-at-add-if3 : (t : ℕ) → edit-at-lts.Need-add-if3 (for-edit-at t) (edit-at-at t) edit-at.Post
 edit-at-add-if3 t c = search needs
 
 edit-at-past-node-requires : (t : ℕ) → edit-at-lts.Need-past-node-requires (for-edit-at t) (edit-at-at t) edit-at.Post
-edit-at-past-node-requires t c κs = stands-inside (c .before .before .before .before .before .before .before .before .before .args .text .now) (c .before .before .before .before .before .skip .result .place) _ (byte-some (stood t (c .before .before .before .before .before .before .before .before .before))) (eqb-yes (c .before .before .before .before .stands-at .ensures) (not-false _ (c .before .before .before .if1 .left)))
+edit-at-past-node-requires t c κs = stands-inside (c .before .before .before .before .before .before .before .before .before .args .text .now)
+    (c .before .before .before .before .before .skip .result .place) _ (byte-some (stood t (c .before .before .before .before .before .before .before .before .before)))
+    (eqb-yes (c .before .before .before .before .stands-at .ensures) (not-false _ (c .before .before .before .if1 .left)))
 
 edit-at-whole-from-requires : (t : ℕ) → edit-at-lts.Need-whole-from-requires (for-edit-at t) (edit-at-at t) edit-at.Post
 edit-at-whole-from-requires t c κs =
     let e = c .before .before .before .before .before .before in
     let v = stood t (e .before .before .before .before) in
-    let h = holds v (landed t e v .0) (eqb-yes (c .before .before .before .before .before .stands-at .ensures) (not-false _ (c .before .before .before .before .if1 .left))) (sym (c .before .before .before .whole-at .ensures) ∙ c .before .before .if2 .left) in
-    (omega (arith, c .past-node .ensures, past-is v h), omega (arith, c .past-node .ensures, past-fits v h), e .before .before .before .before .pre .1 .0, omega (arith, e .skip .ensures .few, e .before .before .before .before .pre .1 .0))
+    let h = holds v (landed t e v .0) (eqb-yes (c .before .before .before .before .before .stands-at .ensures) (not-false _ (c .before .before .before .before .if1 .left)))
+    (sym (c .before .before .before .whole-at .ensures) ∙ c .before .before .if2 .left) in (
+      omega (arith, c .past-node .ensures, past-is v h),
+      omega (arith, c .past-node .ensures, past-fits v h),
+      e .before .before .before .before .pre .1 .0,
+      omega
+          (arith, e .skip .ensures .few, e .before .before .before .before .pre .1 .0),
+    )
 
 edit-at-returns-3 : (t : ℕ) → edit-at-lts.Need-returns-3 (for-edit-at t) (edit-at-at t) edit-at.Post
 edit-at-returns-3 t c =
@@ -108,14 +120,19 @@ edit-at-returns-3 t c =
       is =
           λ v.
           c .whole-from .ensures
-          ∙ find-whole v (holds v (landed t e v .0) (eqb-yes (c .before .before .before .before .before .before .stands-at .ensures) (not-false _ (c .before .before .before .before .before .if1 .left))) (sym (c .before .before .before .before .whole-at .ensures) ∙ c .before .before .before .if2 .left)) (c .before .past-node .ensures) (sym (c .before .before .if3 .taken));
+          ∙ find-whole v (holds v (landed t e v .0) (eqb-yes (c .before .before .before .before .before .before .stands-at .ensures)
+          (not-false _ (c .before .before .before .before .before .if1 .left)))
+          (sym (c .before .before .before .before .whole-at .ensures) ∙ c .before .before .before .if2 .left)) (c .before .past-node .ensures)
+          (sym (c .before .before .if3 .taken));
     }
 
 edit-at-add-edit-at : (t : ℕ) → edit-at-lts.Need-add-edit-at (for-edit-at t) (edit-at-at t) edit-at.Post
 edit-at-add-edit-at t c =
     omega (
       arith,
-      stands-inside (c .before .before .before .before .before .before .before .before .before .args .text .now) (c .before .before .before .before .before .skip .result .place) _ (byte-some (stood t (c .before .before .before .before .before .before .before .before .before))) (eqb-yes (c .before .before .before .before .stands-at .ensures) (not-false _ (c .before .before .before .if1 .left))),
+      stands-inside (c .before .before .before .before .before .before .before .before .before .args .text .now) (c .before .before .before .before .before .skip .result .place) _
+          (byte-some (stood t (c .before .before .before .before .before .before .before .before .before)))
+          (eqb-yes (c .before .before .before .before .stands-at .ensures) (not-false _ (c .before .before .before .if1 .left))),
       c .before .before .before .before .before .before .before .before .before .pre .1 .0,
     )
 
@@ -126,15 +143,23 @@ edit-at-edit-at-requires : (t : ℕ) → edit-at-lts.Need-edit-at-requires (for-
 edit-at-edit-at-requires t c κs =
     let e = c .before .before .before .before .before in
     let v = stood t (e .before .before .before .before) in
-    let h = holds v (landed t e v .0) (eqb-yes (c .before .before .before .before .stands-at .ensures) (not-false _ (c .before .before .before .if1 .left))) (sym (c .before .before .whole-at .ensures) ∙ c .before .if2 .left) in
-    (omega (arith, e .before .before .before .before .pre .1 .1), (e .before .before .before .before .pre .1 .0, omega (arith, e .before .before .before .before .pre .1 .1), stands-in v h (λ q. c .if3 .left (sym q))))
+    let h = holds v (landed t e v .0) (eqb-yes (c .before .before .before .before .stands-at .ensures) (not-false _ (c .before .before .before .if1 .left)))
+    (sym (c .before .before .whole-at .ensures) ∙ c .before .if2 .left) in (
+      omega (arith, e .before .before .before .before .pre .1 .1),
+      (e .before .before .before .before .pre .1 .0, omega (arith, e .before .before .before .before .pre .1 .1), stands-in v h (λ q. c .if3 .left (sym q))),
+    )
 
 edit-at-over-list-requires : (t : ℕ) → edit-at-lts.Need-over-list-requires (for-edit-at t) (edit-at-at t) edit-at.Post
 edit-at-over-list-requires t c κs =
     let e = c .before .before .before .before .before .before in
     let v = stood t (e .before .before .before .before) in
-    let h = holds v (landed t e v .0) (eqb-yes (c .before .before .before .before .before .stands-at .ensures) (not-false _ (c .before .before .before .before .if1 .left))) (sym (c .before .before .before .whole-at .ensures) ∙ c .before .before .if2 .left) in
-    (e .before .before .before .before .pre .1 .0, omega (arith, e .skip .ensures .few, e .before .before .before .before .pre .1 .0), ends-in v h (λ q. c .before .if3 .left (sym q)) (c .edit-at .result) (c .edit-at .ensures))
+    let h = holds v (landed t e v .0) (eqb-yes (c .before .before .before .before .before .stands-at .ensures) (not-false _ (c .before .before .before .before .if1 .left)))
+    (sym (c .before .before .before .whole-at .ensures) ∙ c .before .before .if2 .left) in (
+      e .before .before .before .before .pre .1 .0,
+      omega (arith, e .skip .ensures .few, e .before .before .before .before .pre .1 .0),
+      ends-in v h
+          (λ q. c .before .if3 .left (sym q)) (c .edit-at .result) (c .edit-at .ensures),
+    )
 
 edit-at-returns-4 : (t : ℕ) → edit-at-lts.Need-returns-4 (for-edit-at t) (edit-at-at t) edit-at.Post
 edit-at-returns-4 t c =
@@ -143,7 +168,10 @@ edit-at-returns-4 t c =
       is =
           λ v.
           c .over-list .ensures
-          ∙ find-list v (holds v (landed t e v .0) (eqb-yes (c .before .before .before .before .before .before .stands-at .ensures) (not-false _ (c .before .before .before .before .before .if1 .left))) (sym (c .before .before .before .before .whole-at .ensures) ∙ c .before .before .before .if2 .left)) (λ q. c .before .before .if3 .left (sym q)) (c .before .edit-at .result) (c .before .edit-at .ensures);
+          ∙ find-list v (holds v (landed t e v .0) (eqb-yes (c .before .before .before .before .before .before .stands-at .ensures)
+          (not-false _ (c .before .before .before .before .before .if1 .left)))
+          (sym (c .before .before .before .before .whole-at .ensures) ∙ c .before .before .before .if2 .left)) (λ q. c .before .before .if3 .left (sym q))
+          (c .before .edit-at .result) (c .before .edit-at .ensures);
     }
 
 pub +edit-at-spec : {M : Type 1} → statement M

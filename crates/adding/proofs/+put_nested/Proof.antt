@@ -30,7 +30,8 @@ abbrev for-put-nested : ℕ → put-nested-lts.Claims
 for-put-nested t = (put-nested-below t, put-nested.Post)
 
 -- there are more bytes
-more : (t : ℕ) (c : put-nested-lts.Else1 (for-put-nested t) (put-nested-at t) put-nested.Post) → c .before .before .before .before .args .k + 1 < length (c .before .before .before .before .args .name .now)
+more : (t : ℕ) (c : put-nested-lts.Else1 (for-put-nested t) (put-nested-at t) put-nested.Post) → c .before .before .before .before .args .k + 1 < length
+    (c .before .before .before .before .args .name .now)
 more t c = omega (arith, c .before .before .before .before .pre .1 .0, c .if1 .left)
 
 put-nested-shared-slice-read-text : (t : ℕ) → put-nested-lts.Need-shared-slice-read-text (for-put-nested t) (put-nested-at t) put-nested.Post
@@ -75,7 +76,14 @@ put-nested-add-text t c = search needs
 put-nested-slice-write-text-2 : (t : ℕ) → put-nested-lts.Need-slice-write-text-2 (for-put-nested t) (put-nested-at t) put-nested.Post
 put-nested-slice-write-text-2 t c =
     let s = c .before .before .before .before in
-    omega (arith, more t c, s .pre .1 .1, length-set (s .args .text .now) (s .args .place) (getD (s .args .name .now) (s .args .k) 0), nested-length (c .before .before .before .before .args .name .now) (c .before .before .before .before .args .k) (c .before .before .before .before .pre .1 .0))
+    omega (
+      arith,
+      more t c,
+      s .pre .1 .1,
+      length-set (s .args .text .now) (s .args .place) (getD (s .args .name .now) (s .args .k) 0),
+      nested-length
+          (c .before .before .before .before .args .name .now) (c .before .before .before .before .args .k) (c .before .before .before .before .pre .1 .0),
+    )
 
 put-nested-add-put-nested : (t : ℕ) → put-nested-lts.Need-add-put-nested (for-put-nested t) (put-nested-at t) put-nested.Post
 put-nested-add-put-nested t c = search needs
@@ -88,8 +96,21 @@ put-nested-put-nested-requires t c κs =
     let s = c .before .before .before .before .before in
     let m = more t (c .before) in
     let n = nested-length (s .args .name .now) (s .args .k) (s .pre .1 .0) in
-    let o = nested-length (s .args .name .now) (s .args .k + 1) m in
-    (omega (arith, m), (m, omega (arith, n, o, s .pre .1 .1, length-set (s .args .text .now) (s .args .place) (getD (s .args .name .now) (s .args .k) 0), length-set (set (s .args .text .now) (s .args .place) (getD (s .args .name .now) (s .args .k) 0)) (s .args .place + 1) 40)))
+    let o = nested-length (s .args .name .now) (s .args .k + 1) m in (
+      omega (arith, m),
+      (
+        m,
+        omega (
+          arith,
+          n,
+          o,
+          s .pre .1 .1,
+          length-set (s .args .text .now) (s .args .place) (getD (s .args .name .now) (s .args .k) 0),
+          length-set
+              (set (s .args .text .now) (s .args .place) (getD (s .args .name .now) (s .args .k) 0)) (s .args .place + 1) 40,
+        ),
+      ),
+    )
 
 -- the text is as long as it was
 long :
@@ -97,7 +118,8 @@ long :
     length (c .put-nested .last .0) ≡ length (c .before .before .before .before .before .before .args .text .now)
 long t c =
     let s = c .before .before .before .before .before .before in
-    sets-long (s .args .text .now) (s .args .place) (getD (s .args .name .now) (s .args .k) 0) (s .args .place + 1) 40 (s .args .place + 2) (nested (drop (s .args .k + 1) (s .args .name .now))) (c .put-nested .ensures .0)
+    sets-long (s .args .text .now) (s .args .place) (getD (s .args .name .now) (s .args .k) 0) (s .args .place + 1) 40 (s .args .place + 2)
+    (nested (drop (s .args .k + 1) (s .args .name .now))) (c .put-nested .ensures .0)
 
 put-nested-slice-write-text-3 : (t : ℕ) → put-nested-lts.Need-slice-write-text-3 (for-put-nested t) (put-nested-at t) put-nested.Post
 put-nested-slice-write-text-3 t c =
@@ -122,8 +144,11 @@ put-nested-returns-2 t c =
     let m = more t (c .before .before .before .before) in
     let n = nested-length (s .args .name .now) (s .args .k) (s .pre .1 .0) in
     let o = nested-length (s .args .name .now) (s .args .k + 1) m in
-    let r = c .before .before .put-nested in
-    (sets-more (s .args .name .now) (s .args .k) (s .pre .1 .0) (s .args .text .now) (s .args .place) (s .args .place + 2) (r .result) (r .last .0) m refl (r .ensures .0) (r .ensures .1), omega (arith, n, o, r .ensures .1))
+    let r = c .before .before .put-nested in (
+      sets-more (s .args .name .now) (s .args .k) (s .pre .1 .0) (s .args .text .now) (s .args .place) (s .args .place + 2) (r .result) (r .last .0) m refl (r .ensures .0)
+          (r .ensures .1),
+      omega (arith, n, o, r .ensures .1),
+    )
 
 pub +put-nested-spec : {M : Type 1} → statement M
 +put-nested-spec = close μ-put-nested λ t. put-nested-lts.spec (for-put-nested t)

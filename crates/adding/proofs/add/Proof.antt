@@ -85,13 +85,21 @@ returns-4 : tie.Need-returns-4
 returns-4 c =
     let p = c .before .before .before .before in
     let a = c .before .before .before .before .before .before .before .before .before .before .before .before .before .args in
-    another (a .text .now) (a .end) (a .code) (code-passes (a .code) (a-code (c .before .before .before .before .before .before .before .before .before .before))) (omega (arith, c .before .before .before .before .before .before .before .before .before .if2 .left)) (omega (arith, c .before .before .before .before .before .before .before .before .if3 .left))
+    another (a .text .now) (a .end) (a .code) (code-passes (a .code) (a-code (c .before .before .before .before .before .before .before .before .before .before)))
+    (omega (arith, c .before .before .before .before .before .before .before .before .before .if2 .left))
+    (omega (arith, c .before .before .before .before .before .before .before .before .if3 .left))
     (read-in p) (c .refused4 .ensures) (sym (c .before .before .is-of .ensures) ∙ not-true _ (c .before .if4 .taken))
 
 add-to-requires : tie.Need-add-to-requires
 add-to-requires c κs =
     let r = read-in (c .before .before .before .before) in (
-      record { fits = omega (arith, c .before .before .before .before .before .before .before .before .if3 .left); small = omega (arith, c .before .before .before .before .before .before .before .before .before .if2 .left); text = r .text; profiled = sym (r .profile) },
+      record {
+        fits = omega (arith, c .before .before .before .before .before .before .before .before .if3 .left);
+        small = omega
+            (arith, c .before .before .before .before .before .before .before .before .before .if2 .left);
+        text = r .text;
+        profiled = sym (r .profile);
+      },
       a-code (c .before .before .before .before .before .before .before .before .before .before),
     )
 
@@ -101,7 +109,8 @@ same-length-2 c = search needs
 returns-5 : tie.Need-returns-5
 returns-5 c =
     let a = c .before .before .before .before .before .before .before .before .before .before .args in
-    not-read (a .text .now) (a .end) (a .code) (code-passes (a .code) (a-code (c .before .before .before .before .before .before .before))) (omega (arith, c .before .before .before .before .before .before .if2 .left)) (omega (arith, c .before .before .before .before .before .if3 .left))
+    not-read (a .text .now) (a .end) (a .code) (code-passes (a .code) (a-code (c .before .before .before .before .before .before .before)))
+    (omega (arith, c .before .before .before .before .before .before .if2 .left)) (omega (arith, c .before .before .before .before .before .if3 .left))
     (text-refused (take (a .end) (a .text .now)) (sym (c .before .refusal .given .1) ∙ c .before .before .before .check .ensures))
 
 same-length-3 : tie.Need-same-length-3
@@ -110,8 +119,12 @@ same-length-3 c = search needs
 returns-6 : tie.Need-returns-6
 returns-6 c =
     let a = c .before .before .before .before .before .before .before .before .before .before .before .before .before .before .before .before .args in
-    gained (a .text .now) (a .end) (a .code) (code-passes (a .code) (a-code (c .before .before .before .before .before .before .before .before .before .before .before .before .before))) (omega (arith, c .before .before .before .before .before .before .before .before .before .before .before .before .if2 .left)) (omega (arith, c .before .before .before .before .before .before .before .before .before .before .before .if3 .left))
-    (read-in (c .before .before .before .before .before .before .before)) (sym (c .before .before .before .before .before .is-of .ensures) ∙ not-false _ (c .before .before .before .before .if4 .left)) (c .before .before .add-to .ensures .0)
+    gained (a .text .now) (a .end) (a .code) (code-passes (a .code)
+    (a-code (c .before .before .before .before .before .before .before .before .before .before .before .before .before)))
+    (omega (arith, c .before .before .before .before .before .before .before .before .before .before .before .before .if2 .left))
+    (omega (arith, c .before .before .before .before .before .before .before .before .before .before .before .if3 .left))
+    (read-in (c .before .before .before .before .before .before .before))
+    (sym (c .before .before .before .before .before .is-of .ensures) ∙ not-false _ (c .before .before .before .before .if4 .left)) (c .before .before .add-to .ensures .0)
 
 pub add-spec : {M : Type 1} → statement M
 add-spec =

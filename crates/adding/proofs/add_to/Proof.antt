@@ -33,7 +33,8 @@ refused-requires : tie.Need-refused-requires
 refused-requires c κs = search needs
 
 returns : tie.Need-returns
-returns c = let s = c .before .before .before .before .before .before .before in absurd (not-nameless (s .args .code) (s .pre .1) (replicate 16 0) refl (c .before .before .before .before .code-name .ensures .0) (c .before .enum-told .given .1))
+returns c = let s = c .before .before .before .before .before .before .before in
+    absurd (not-nameless (s .args .code) (s .pre .1) (replicate 16 0) refl (c .before .before .before .before .code-name .ensures .0) (c .before .enum-told .given .1))
 
 heading-length-requires : tie.Need-heading-length-requires
 heading-length-requires c κs = search needs
@@ -97,7 +98,8 @@ change-requires c κs =
       s .pre .0 .fits,
       s .pre .0 .small,
       p .short,
-      add-fits (s .pre .0) (s .args .code) (s .pre .1) _ (p .is) (c .before .before .before .before .before .before .before .heading-length .ensures) (c .before .before .before .before .edit-at .ensures),
+      add-fits (s .pre .0) (s .args .code) (s .pre .1) _ (p .is) (c .before .before .before .before .before .before .before .heading-length .ensures)
+          (c .before .before .before .before .edit-at .ensures),
     )
 
 same-length-2 : tie.Need-same-length-2
@@ -107,8 +109,10 @@ returns-3 : tie.Need-returns-3
 returns-3 c =
     let s = c .before .before .before .before .before .before .before .before .before .before .before .before .before .before .before .before .before .before in
     let p = spelt (c .before .before .before .before .before .before .before .before .before .before .before .before) in
-    add-gains (s .pre .0) (s .args .code) (s .pre .1) _ (p .is) (c .before .before .before .before .before .before .before .before .before .before .heading-length .ensures) (c .before .before .before .before .before .before .before .edit-at .ensures)
-    (omega (arith, p .first)) (omega (arith, p .letters)) (c .before .before .before .before .before .before .breaks .ensures) (c .before .before .before .before .before .if1 .left) (c .before .before .change .ensures)
+    add-gains (s .pre .0) (s .args .code) (s .pre .1) _ (p .is) (c .before .before .before .before .before .before .before .before .before .before .heading-length .ensures)
+    (c .before .before .before .before .before .before .before .edit-at .ensures)
+    (omega (arith, p .first)) (omega (arith, p .letters)) (c .before .before .before .before .before .before .breaks .ensures)
+    (c .before .before .before .before .before .if1 .left) (c .before .before .change .ensures)
 
 pub add-to-spec : {M : Type 1} → statement M
 add-to-spec =

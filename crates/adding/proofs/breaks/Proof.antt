@@ -12,7 +12,8 @@ use Rattle.adding.proofs.breaks.Statement.{statement}
 use Rattle.adding.proofs.breaks.Tie as tie
 
 -- the room below the face
-roomy : (c : tie.After-room-below) → c .room-below .result ≡ room (levelOf (c .before .before .before .args .profile)) (c .before .before .before .args .face) (depthOf (c .before .before .before .args .profile))
+roomy : (c : tie.After-room-below) → c .room-below .result ≡ room (levelOf (c .before .before .before .args .profile)) (c .before .before .before .args .face)
+    (depthOf (c .before .before .before .args .profile))
 roomy c = c .room-below .ensures ∙ ap₂ (λ (l : Level) (d : ℕ). room l (c .before .before .before .args .face) d) (c .before .before .level-of .ensures) (c .before .depth-of .ensures)
 
 level-of-requires : tie.Need-level-of-requires

@@ -34,16 +34,30 @@ enum-known-edit : tie.Need-enum-known-edit
 enum-known-edit c = search needs
 
 sub-close-gap : tie.Need-sub-close-gap
-sub-close-gap c = omega (arith, cut-fits (c .before .before .before .before .before .before .args .end) (length (c .before .before .before .before .before .before .args .name .now)) (c .before .before .edit .given .1) (c .before .before .before .before .before .before .pre .3))
+sub-close-gap c = omega (
+  arith,
+  cut-fits (c .before .before .before .before .before .before .args .end)
+      (length (c .before .before .before .before .before .before .args .name .now)) (c .before .before .edit .given .1) (c .before .before .before .before .before .before .pre .3),
+)
 
 close-gap-requires : tie.Need-close-gap-requires
-close-gap-requires c κs = let f = cut-fits (c .before .before .before .before .before .before .args .end) (length (c .before .before .before .before .before .before .args .name .now)) (c .before .before .edit .given .1) (c .before .before .before .before .before .before .pre .3) in (f .0, omega (arith, f .1, c .before .before .before .before .before .before .pre .0))
+close-gap-requires c κs = let f = cut-fits (c .before .before .before .before .before .before .args .end)
+    (length (c .before .before .before .before .before .before .args .name .now)) (c .before .before .edit .given .1) (c .before .before .before .before .before .before .pre .3)
+    in (f .0, omega (arith, f .1, c .before .before .before .before .before .before .pre .0))
 
 sub-t13 : tie.Need-sub-t13
-sub-t13 c = omega (arith, cut-fits (c .before .before .before .before .before .before .before .before .before .args .end) (length (c .before .before .before .before .before .before .before .before .before .args .name .now)) (c .before .before .before .before .before .edit .given .1) (c .before .before .before .before .before .before .before .before .before .pre .3))
+sub-t13 c = omega (
+  arith,
+  cut-fits (c .before .before .before .before .before .before .before .before .before .args .end)
+      (length (c .before .before .before .before .before .before .before .before .before .args .name .now)) (c .before .before .before .before .before .edit .given .1)
+      (c .before .before .before .before .before .before .before .before .before .pre .3),
+)
 
 add-t14 : tie.Need-add-t14
-add-t14 c = let f = cut-fits (c .before .before .before .before .before .before .before .before .before .args .end) (length (c .before .before .before .before .before .before .before .before .before .args .name .now)) (c .before .before .before .before .before .edit .given .1) (c .before .before .before .before .before .before .before .before .before .pre .3) in omega (arith, f .0, f .1, c .before .before .before .before .before .before .before .before .before .pre .1)
+add-t14 c = let f = cut-fits (c .before .before .before .before .before .before .before .before .before .args .end)
+    (length (c .before .before .before .before .before .before .before .before .before .args .name .now)) (c .before .before .before .before .before .edit .given .1)
+    (c .before .before .before .before .before .before .before .before .before .pre .3) in
+    omega (arith, f .0, f .1, c .before .before .before .before .before .before .before .before .before .pre .1)
 
 enum-known-edit-2 : tie.Need-enum-known-edit-2
 enum-known-edit-2 c = search needs
@@ -58,13 +72,15 @@ returns : tie.Need-returns
 unfolding edited
 returns c =
     let s = c .before .before .before .before in
-    of-case (s .args .name .now) (take (s .args .end) (s .args .text .now)) (s .args .text .now) (c .enum-told .given .1) (becomes-same (s .args .name .now) (s .args .text .now) (s .args .end) (s .pre .0) (s .pre .1) refl)
+    of-case (s .args .name .now) (take (s .args .end) (s .args .text .now)) (s .args .text .now) (c .enum-told .given .1)
+    (becomes-same (s .args .name .now) (s .args .text .now) (s .args .end) (s .pre .0) (s .pre .1) refl)
 
 returns-2 : tie.Need-returns-2
 unfolding edited
 returns-2 c =
     let s = c .before .before .before .before in
-    of-case (s .args .name .now) (take (s .args .end) (s .args .text .now)) (s .args .text .now) (c .enum-told2 .given .1) (becomes-same (s .args .name .now) (s .args .text .now) (s .args .end) (s .pre .0) (s .pre .1) refl)
+    of-case (s .args .name .now) (take (s .args .end) (s .args .text .now)) (s .args .text .now) (c .enum-told2 .given .1)
+    (becomes-same (s .args .name .now) (s .args .text .now) (s .args .end) (s .pre .0) (s .pre .1) refl)
 
 same-length : tie.Need-same-length
 same-length c = search needs
@@ -72,9 +88,12 @@ same-length c = search needs
 returns-3 : tie.Need-returns-3
 returns-3 c =
     let s = c .before .before .before .before .before .before .before .before .before in
-    let f = cut-fits (c .before .before .before .before .before .before .before .before .before .args .end) (length (c .before .before .before .before .before .before .before .before .before .args .name .now)) (c .before .before .before .before .before .edit .given .1) (c .before .before .before .before .before .before .before .before .before .pre .3) in
+    let f = cut-fits (c .before .before .before .before .before .before .before .before .before .args .end)
+    (length (c .before .before .before .before .before .before .before .before .before .args .name .now)) (c .before .before .before .before .before .edit .given .1)
+    (c .before .before .before .before .before .before .before .before .before .pre .3) in
     of-case (s .args .name .now) (take (s .args .end) (s .args .text .now)) (s .args .text .now) (c .before .before .before .before .before .edit .given .1)
-    (becomes-cut (s .args .name .now) (s .args .text .now) (s .args .end) (s .pre .0) (s .pre .1) (c .before .before .before .before .before .edit .given .0 .0) (c .before .before .before .before .before .edit .given .0 .1 .0) (f .0) (f .1) (c .before .before .close-gap .ensures))
+    (becomes-cut (s .args .name .now) (s .args .text .now) (s .args .end) (s .pre .0) (s .pre .1) (c .before .before .before .before .before .edit .given .0 .0)
+    (c .before .before .before .before .before .edit .given .0 .1 .0) (f .0) (f .1) (c .before .before .close-gap .ensures))
 
 same-length-2 : tie.Need-same-length-2
 same-length-2 c = search needs

@@ -19,7 +19,8 @@ add-whole-from : tie.Need-add-whole-from
 add-whole-from c = omega (arith, ends-in _ _ (c .before .edit .given .1) (c .before .before .before .before .pre .2))
 
 whole-from-requires : tie.Need-whole-from-requires
-whole-from-requires c κs = let a = ends-in _ _ (c .before .edit .given .1) (c .before .before .before .before .pre .2) in (omega (arith, a .0), omega (arith, a .1), c .before .before .before .before .pre .0, c .before .before .before .before .pre .1)
+whole-from-requires c κs = let a = ends-in _ _ (c .before .edit .given .1) (c .before .before .before .before .pre .2) in
+    (omega (arith, a .0), omega (arith, a .1), c .before .before .before .before .pre .0, c .before .before .before .before .pre .1)
 
 enum-told : tie.Need-enum-told
 enum-told c = search needs

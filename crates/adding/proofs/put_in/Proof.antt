@@ -15,8 +15,10 @@ use Rattle.adding.proofs.put_in.Tie as tie
 gap-is : (c : tie.Start) → length (nested (drop (c .args .k) (c .args .name .now))) ≡ 3 * (length (c .args .name .now) - c .args .k) - 2
 gap-is c = omega (arith, nested-length (c .args .name .now) (c .args .k) (c .pre .4))
 
-long : (c : tie.Start) → length (edited (c .args .name .now) (take (c .args .end) (c .args .text .now)) (Put (c .args .at) (c .args .k))) ≡ c .args .end + (3 * (length (c .args .name .now) - c .args .k) - 2)
-long c = put-long (c .args .name .now) (c .args .text .now) (c .args .end) (c .pre .0) (c .pre .1) (c .args .at) (c .args .k) (3 * (length (c .args .name .now) - c .args .k) - 2) (c .pre .3) (gap-is c)
+long : (c : tie.Start) → length (edited (c .args .name .now) (take (c .args .end) (c .args .text .now)) (Put (c .args .at) (c .args .k))) ≡ c .args .end +
+    (3 * (length (c .args .name .now) - c .args .k) - 2)
+long c = put-long (c .args .name .now) (c .args .text .now) (c .args .end) (c .pre .0) (c .pre .1) (c .args .at) (c .args .k) (3 * (length (c .args .name .now) - c .args .k) - 2)
+    (c .pre .3) (gap-is c)
 
 sub-gap : tie.Need-sub-gap
 sub-gap c = search needs
@@ -43,15 +45,26 @@ refused-requires-2 : tie.Need-refused-requires-2
 refused-requires-2 c κs = search needs
 
 returns-2 : tie.Need-returns-2
-returns-2 c = let s = c .before .before .before .before .before in becomes-8 _ _ (c .refused2 .ensures) (omega (arith, long s, c .before .before .if1 .left)) (omega (arith, long s, c .before .if2 .taken))
+returns-2 c = let s = c .before .before .before .before .before in
+    becomes-8 _ _ (c .refused2 .ensures) (omega (arith, long s, c .before .before .if1 .left)) (omega (arith, long s, c .before .if2 .taken))
 
 open-gap-requires : tie.Need-open-gap-requires
 open-gap-requires c κs = search needs
 
 put-nested-requires : tie.Need-put-nested-requires
 put-nested-requires c κs =
-    let s = c .before .before .before .before .before .before .before .before .before in
-    (s .pre .4, omega (arith, gap-is s, s .pre .3, c .before .before .before .before .before .if2 .left, opened-long (s .args .text .now) (s .args .at) (s .args .end) (3 * (length (s .args .name .now) - s .args .k) - 2) (s .pre .3) (omega (arith, c .before .before .before .before .before .if2 .left)) (c .before .before .before .open-gap .ensures)))
+    let s = c .before .before .before .before .before .before .before .before .before in (
+      s .pre .4,
+      omega (
+        arith,
+        gap-is s,
+        s .pre .3,
+        c .before .before .before .before .before .if2 .left,
+        opened-long (s .args .text .now) (s .args .at) (s .args .end)
+            (3 * (length (s .args .name .now) - s .args .k) - 2) (s .pre .3) (omega (arith, c .before .before .before .before .before .if2 .left))
+            (c .before .before .before .open-gap .ensures),
+      ),
+    )
 
 add-t9 : tie.Need-add-t9
 add-t9 c = search needs
@@ -63,7 +76,9 @@ returns-3 : tie.Need-returns-3
 returns-3 c =
     let s = c .before .before .before .before .before .before .before .before .before .before .before .before in
     becomes-put (s .args .name .now) (s .args .text .now) (s .args .end) (s .pre .0) (s .pre .1) (s .args .at) (s .args .k) (3 * (length (s .args .name .now) - s .args .k) - 2) (s .pre .3) (gap-is s)
-    (omega (arith, c .before .before .before .before .before .before .before .before .before .if1 .left)) (omega (arith, c .before .before .before .before .before .before .before .before .if2 .left)) (c .before .before .before .before .before .before .open-gap .ensures) (c .before .before .put-nested .ensures .0)
+    (omega (arith, c .before .before .before .before .before .before .before .before .before .if1 .left))
+    (omega (arith, c .before .before .before .before .before .before .before .before .if2 .left)) (c .before .before .before .before .before .before .open-gap .ensures)
+    (c .before .before .put-nested .ensures .0)
 
 pub put-in-spec : {M : Type 1} → statement M
 put-in-spec =

@@ -58,7 +58,8 @@ loop-less-2 c =
 loop-again-2 : tie.Need-loop-again-2 Inv-loop μ-loop
 loop-again-2 c =
     rw (c .past-node .ensures)
-    (skips-list (c .before .before .before .before .before .before .before .loop .inv) (c .before .before .before .before .before .before .loop-test .taken) (c .before .before .before .before .if1 .left)
+    (skips-list (c .before .before .before .before .before .before .before .loop .inv) (c .before .before .before .before .before .before .loop-test .taken)
+    (c .before .before .before .before .if1 .left)
     (omega (arith, c .before .before .before .if2 .left)) (sym (c .before .before .whole-at .ensures) ∙ c .before .if3 .left))
 
 returns-3 : tie.Need-returns-3 Inv-loop μ-loop

@@ -108,7 +108,8 @@ module _ (t : List ℕ) (e : isText t ≡ true) (c : Cell) (v : IsCell c) where
       within : ltb (room (levelOf p) (c .face) (depthOf p)) (c .resolution) ≡ false → Allows p c
       within h = allows-room p c v .1 (ltb-false (room (levelOf p) (c .face) (depthOf p)) (c .resolution) h)
 
-      by-edit : (x : Edit) → keepsWith t c ≡ true → breaks p (c .face) (c .resolution) x ≡ false → (x ≡ edit-as.Covered → AllCovered (wholeCells (nodesOf t)) c) → Allows p c ⊎ AllCovered (wholeCells (nodesOf t)) c
+      by-edit : (x : Edit) → keepsWith t c ≡ true → breaks p (c .face) (c .resolution) x ≡ false → (x ≡ edit-as.Covered → AllCovered (wholeCells (nodesOf t)) c) →
+          Allows p c ⊎ AllCovered (wholeCells (nodesOf t)) c
       by-edit edit-as.Covered k h g = inr (g refl)
       by-edit (edit-as.Put i j) k h g = inl (within h)
       by-edit (edit-as.Cut i j) k h g = inl (within h)

@@ -36,8 +36,11 @@ returns : tie.Need-returns
 returns c =
     let a = c .before .before .before .before .before .before .before .before .before .before .before .args in
     let x = c .before .before .before .before .before .before .before .copy in
-    let y = c .before .before .copy2 in
-    (put-both (a .path .now) (46 ∷ 112 ∷ 97 ∷ 114 ∷ 116 ∷ []) (a .room .now) (x .last .1 .0) (y .last .1 .0) (x .result) (y .result) (length (x .last .1 .0) - x .result) (x .ensures .0) (y .ensures .0) (x .ensures .1) _ (y .ensures .1), search needs)
+    let y = c .before .before .copy2 in (
+      put-both (a .path .now) (46 ∷ 112 ∷ 97 ∷ 114 ∷ 116 ∷ []) (a .room .now) (x .last .1 .0) (y .last .1 .0) (x .result) (y .result) (length (x .last .1 .0) - x .result)
+          (x .ensures .0) (y .ensures .0) (x .ensures .1) _ (y .ensures .1),
+      search needs,
+    )
 
 pub beside-spec : {M : Type 1} → statement M
 beside-spec =

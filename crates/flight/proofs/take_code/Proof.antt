@@ -38,7 +38,8 @@ same-length-2 c = search needs
 returns-3 : tie.Need-returns-3
 returns-3 c =
     let s = c .before .before .before .before .before .before .before .before .before .before in
-    takes-refused (s .args .text .now) (s .args .recording) (s .pre .0) (s .args .code) (s .pre .1) (subst (Gains _ _ _ _) (c .before .refusal .given .1) (c .before .before .before .before .before .add-to .ensures .0))
+    takes-refused (s .args .text .now) (s .args .recording) (s .pre .0) (s .args .code) (s .pre .1)
+    (subst (Gains _ _ _ _) (c .before .refusal .given .1) (c .before .before .before .before .before .add-to .ensures .0))
 
 pub take-code-spec : {M : Type 1} → statement M
 take-code-spec =

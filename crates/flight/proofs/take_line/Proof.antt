@@ -16,7 +16,8 @@ enum-known-code : tie.Need-enum-known-code
 enum-known-code c = search needs
 
 take-code-requires : tie.Need-take-code-requires
-take-code-requires c κs = let s = c .before .before .before .before .before .before .before in (s .pre, line-is-code _ _ _ (sym (c .before .before .before .before .line-code .ensures) ∙ c .before .before .code .given .1))
+take-code-requires c κs = let s = c .before .before .before .before .before .before .before in
+    (s .pre, line-is-code _ _ _ (sym (c .before .before .before .before .line-code .ensures) ∙ c .before .before .code .given .1))
 
 enum-known-refusal : tie.Need-enum-known-refusal
 enum-known-refusal c = search needs
@@ -28,7 +29,8 @@ returns : tie.Need-returns
 returns c =
     let a = c .before .before .before .before .before .before .before .before .before .before .args in
     let d = c .before .before .take-code in
-    subst (λ (x : Coded). Takes x (a .text .now) (a .recording) (d .result) (d .last .0)) (sym (c .before .before .before .before .before .code .given .1) ∙ c .before .before .before .before .before .before .before .line-code .ensures) (d .ensures)
+    subst (λ (x : Coded). Takes x (a .text .now) (a .recording) (d .result) (d .last .0))
+    (sym (c .before .before .before .before .before .code .given .1) ∙ c .before .before .before .before .before .before .before .line-code .ensures) (d .ensures)
 
 returns-2 : tie.Need-returns-2
 returns-2 c =

@@ -53,10 +53,12 @@ array-share-prefix-beside : tie.Need-array-share-prefix-beside
 array-share-prefix-beside c = path-given _ _ _ _ (c .before .before .before .before .before .before .file-given .ensures) (c .before .before .length .given .1) .1
 
 slice-aggregate-record-flight-2 : tie.Need-slice-aggregate-record-flight-2
-slice-aggregate-record-flight-2 c = sym (length-take-le _ _ (path-given _ _ _ _ (c .before .before .before .before .before .before .before .file-given .ensures) (c .before .before .before .length .given .1) .1))
+slice-aggregate-record-flight-2 c = sym (length-take-le _ _ (path-given _ _ _ _ (c .before .before .before .before .before .before .before .file-given .ensures)
+    (c .before .before .before .length .given .1) .1))
 
 record-flight-requires : tie.Need-record-flight-requires
-record-flight-requires c κs = setting-used _ (c .before .before .before .before .before .before .before .before .before .before .before .before .before .setting-in .ensures) (c .before .before .before .before .before .before .before .before .before .before .before .setting .given .1)
+record-flight-requires c κs = setting-used _ (c .before .before .before .before .before .before .before .before .before .before .before .before .before .setting-in .ensures)
+    (c .before .before .before .before .before .before .before .before .before .before .before .setting .given .1)
 
 enum-told-2 : tie.Need-enum-told-2
 enum-told-2 c = search needs
@@ -74,7 +76,8 @@ slice-aggregate-record-flight-4 : tie.Need-slice-aggregate-record-flight-4
 slice-aggregate-record-flight-4 c = search needs
 
 record-flight-requires-2 : tie.Need-record-flight-requires-2
-record-flight-requires-2 c κs = setting-used _ (c .before .before .before .before .before .before .before .before .before .before .before .before .setting-in .ensures) (c .before .before .before .before .before .before .before .before .before .before .setting .given .1)
+record-flight-requires-2 c κs = setting-used _ (c .before .before .before .before .before .before .before .before .before .before .before .before .setting-in .ensures)
+    (c .before .before .before .before .before .before .before .before .before .before .setting .given .1)
 
 enum-told-3 : tie.Need-enum-told-3
 enum-told-3 c = search needs

@@ -26,7 +26,12 @@ abbrev μ-loop : tie.MeasureT-loop
 
 -- the room of a line is large enough for a fix
 roomy : (c : tie.After-next-line Inv-loop μ-loop) → 43 ≤ length (c .next-line .last .1 .1 .1 .1 .0)
-roomy c = omega (arith, c .next-line .kept .1 .1 .1 .1 .0, c .before .before .before .before .before .loop .inv .4, c .before .before .before .before .before .before .before .before .before .before .before .pre .0)
+roomy c = omega (
+  arith,
+  c .next-line .kept .1 .1 .1 .1 .0,
+  c .before .before .before .before .before .loop .inv .4,
+  c .before .before .before .before .before .before .before .before .before .before .before .pre .0,
+)
 
 loop-holds : tie.Need-loop-holds Inv-loop μ-loop
 loop-holds c =
@@ -39,7 +44,8 @@ loop-holds c =
       refl,
       refl,
       omega (arith, ap counted e),
-      subst (OfEnded (withLine (s .args .setting) (length (s .args .text .now))) (started (s .args .setting))) (sym e) (no-line (withLine (s .args .setting) (length (s .args .text .now))) (started (s .args .setting))),
+      subst (OfEnded (withLine (s .args .setting) (length (s .args .text .now))) (started (s .args .setting))) (sym e)
+          (no-line (withLine (s .args .setting) (length (s .args .text .now))) (started (s .args .setting))),
     )
 
 add-number : tie.Need-add-number Inv-loop μ-loop
@@ -58,7 +64,8 @@ slice-reshare-prefix-record-line : tie.Need-slice-reshare-prefix-record-line Inv
 slice-reshare-prefix-record-line c = line-length _ _ _ (c .before .before .before .before .before .before .before .next-line .ensures) _ _ _ (c .before .length .given .1)
 
 slice-aggregate-record-line : tie.Need-slice-aggregate-record-line Inv-loop μ-loop
-slice-aggregate-record-line c = sym (length-take-le _ _ (line-length _ _ _ (c .before .before .before .before .before .before .before .before .next-line .ensures) _ _ _ (c .before .before .length .given .1)))
+slice-aggregate-record-line c = sym (length-take-le _ _ (line-length _ _ _ (c .before .before .before .before .before .before .before .before .next-line .ensures) _ _ _
+    (c .before .before .length .given .1)))
 
 record-line-requires : tie.Need-record-line-requires Inv-loop μ-loop
 record-line-requires c κs = let l = c .before .before .before .before .before .before .before .before .before .before .before .before .before .before .loop in (l .inv .2, omega (arith, l .inv .6))
@@ -98,7 +105,8 @@ slice-reshare-prefix-record-line-2 : tie.Need-slice-reshare-prefix-record-line-2
 slice-reshare-prefix-record-line-2 c = last-length _ _ _ (c .before .before .before .before .before .before .before .next-line .ensures) _ (c .before .length2 .given .1)
 
 slice-aggregate-record-line-2 : tie.Need-slice-aggregate-record-line-2 Inv-loop μ-loop
-slice-aggregate-record-line-2 c = sym (length-take-le _ _ (last-length _ _ _ (c .before .before .before .before .before .before .before .before .next-line .ensures) _ (c .before .before .length2 .given .1)))
+slice-aggregate-record-line-2 c = sym (length-take-le _ _ (last-length _ _ _ (c .before .before .before .before .before .before .before .before .next-line .ensures) _
+    (c .before .before .length2 .given .1)))
 
 record-line-requires-2 : tie.Need-record-line-requires-2 Inv-loop μ-loop
 record-line-requires-2 c κs = let l = c .before .before .before .before .before .before .before .before .before .before .before .before .before .before .loop in (l .inv .2, omega (arith, l .inv .6))
