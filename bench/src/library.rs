@@ -49,7 +49,7 @@ folds! {
     Z { z }
     Check { place, version, depth, n, s, cells, size }
     List { place, count }
-    Ask { place, covered }
+    Ask { place, covered, settled }
 }
 
 /// Doubles by their bits.

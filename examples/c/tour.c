@@ -237,7 +237,26 @@ static size_t write_text(const char *const *names, size_t count, uint8_t *text, 
 static void print_ask(const uint8_t *text, size_t length, const char *name) {
     jgv_ask answer = jgv_coverage_ask(text, length, code_of(name));
     expect_answer(answer.refusal);
-    printf("coverage_ask: %s, %s -> %s\n", "P(34(1))", name, answer.covered ? "yes" : "no");
+    printf("coverage_ask: %s, %s -> %s, settled by %" PRIu64 "\n", "P(34(1))", name, answer.covered ? "yes" : "no", answer.settled);
+}
+
+/* Adds a cell to a text of version 1 and shows its body before and after; answers its length. */
+static size_t add_cell(uint8_t *text, size_t room, size_t length, const char *name) {
+    printf("coverage_add: %.*s, %s", (int)length - 7, (const char *)text + 7, name);
+    jgv_add added = jgv_coverage_add(text, room, length, code_of(name));
+    expect_answer(added.refusal);
+    printf(" -> %.*s\n", (int)added.length - 7, (const char *)text + 7);
+    return (size_t)added.length;
+}
+
+/* A flight's cells go into its text one by one, in any order; the text is all that there is to keep. */
+static void additions(void) {
+    uint8_t text[64] = {'C', 'V', 'R', 0, 1, '0', '0', 'P', '(', '3', '4', '(', '1', ')', ')'};
+    size_t length = add_cell(text, sizeof text, 15, "P40");
+    length = add_cell(text, sizeof text, length, "P4"); /* the list gives way */
+    length = add_cell(text, sizeof text, length, "P418"); /* covered already */
+    jgv_add other = jgv_coverage_add(text, sizeof text, length, code_at(1, 0, "N6"));
+    printf("coverage_add: P(34), N6, n 1 -> refused with %" PRIu64 "\n", other.refusal);
 }
 
 /* One place flown by two crews, in two arrangements: N8 in the first is N6 in the second. Codes of two arrangements are not taken together. */
@@ -389,6 +408,7 @@ int main(void) {
     neighbours();
     corners();
     coverage();
+    additions();
     two_arrangements();
     handhelds();
     plotter();

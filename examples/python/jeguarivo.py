@@ -83,6 +83,11 @@ class Check(NamedTuple):
     size: int
 
 
+class Ask(NamedTuple):
+    covered: bool
+    settled: int
+
+
 class PointInMetres(NamedTuple):
     x: float
     y: float
@@ -119,7 +124,8 @@ _Fix = _struct("jgv_fix", c_int64, "longitude", "z")
 _Z = _struct("jgv_z", c_int64, "z")
 _Check = _struct("jgv_check", c_uint64, "place", "version", "depth", "n", "s", "cells", "size")
 _List = _struct("jgv_list", c_uint64, "place", "count")
-_Ask = _struct("jgv_ask", c_uint64, "place", "covered")
+_Ask = _struct("jgv_ask", c_uint64, "place", "covered", "settled")
+_Add = _struct("jgv_add", c_uint64, "place", "length")
 _FrameAnswer = _struct("jgv_frame_answer", c_double, *Frame._fields)
 
 
@@ -194,6 +200,7 @@ _coverage_check = _entry("jgv_coverage_check", _Check, _BYTES, c_size_t)
 _coverage_list = _entry("jgv_coverage_list", _List, _BYTES, c_size_t, _CODES, c_size_t)
 _coverage_write = _entry("jgv_coverage_write", _Length, _U64, _U64, _U64, _U64, _CODES, c_size_t, _ROOM, c_size_t)
 _coverage_ask = _entry("jgv_coverage_ask", _Ask, _BYTES, c_size_t, _U64)
+_coverage_add = _entry("jgv_coverage_add", _Add, _ROOM, c_size_t, _U64, _U64)
 _mark_point = _entry("jgv_mark_point", _MarkAnswer, c_double, _U64, _U64, _I64, _I64)
 _mark_code = _entry("jgv_mark_code", _MarkAnswer, c_double, _U64)
 _frame_first = _entry("jgv_frame_first", _FrameAnswer, c_double, _U64)
@@ -325,9 +332,18 @@ def coverage_write(n: int, s: int, codes: Iterable[int], depth: Optional[int] = 
     return room.raw[:length]
 
 
-def coverage_ask(text: bytes, code: int) -> bool:
-    """Whether a text covers all finest cells of a cell of its arrangement."""
-    return _coverage_ask(text, len(text), code).covered == 1
+def coverage_ask(text: bytes, code: int) -> Ask:
+    """Whether a text covers all finest cells of a cell of its arrangement, and how many letters and digits of the text settle that."""
+    got = _coverage_ask(text, len(text), code)
+    return Ask(got.covered == 1, got.settled)
+
+
+def coverage_add(text: bytes, code: int) -> bytes:
+    """The text with one cell of its arrangement more. It is at most 46 bytes longer."""
+    size = len(text) + 46
+    room = ctypes.create_string_buffer(text, size)
+    length = _coverage_add(room, size, len(text), code).length
+    return room.raw[:length]
 
 
 def _mark(got) -> Mark:

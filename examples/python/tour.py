@@ -138,8 +138,8 @@ def coverage():
     print_check(text)
     print("coverage_list: P(34(1)) ->", *map(code_name, jgv.coverage_list(text)))
     for name in ("P3", "P41", "P418", "P4"):  # P4 is covered in part only: no
-        covered = jgv.coverage_ask(text, code_of(name))
-        print(f"coverage_ask: P(34(1)), {name} -> {'yes' if covered else 'no'}")
+        asked = jgv.coverage_ask(text, code_of(name))
+        print(f"coverage_ask: P(34(1)), {name} -> {'yes' if asked.covered else 'no'}, settled by {asked.settled}")
 
     # A text that is not of the grammar is refused with 9; `place` says how much of it some good text begins with.
     for body in ("O()", "O(012345678)"):
@@ -147,6 +147,15 @@ def coverage():
             print(f"coverage_check: {body} -> {jgv.coverage_check(b'CVR' + bytes([0, 1]) + b'00' + body.encode())}")
         except jgv.Refused as refused:
             print(f"coverage_check: {body} -> refused with {refused.number} at place {refused.place}")
+
+
+def additions():
+    """A flight's cells go into its text one by one, in any order; the text is all that there is to keep."""
+    text = jgv.coverage_write(0, 0, map(code_of, ["P3", "P41"]))
+    for name in ("P40", "P4", "P418"):  # the second one's list gives way, and the third one is covered
+        before, text = text, jgv.coverage_add(text, code_of(name))
+        print(f"coverage_add: {before[7:].decode()}, {name} -> {text[7:].decode()}")
+    print(f"coverage_add: P(34), N6, n 1 -> {refusal(jgv.coverage_add, text, code_of('N6', 1, 0))}")
 
 
 def refusal(call, *values):
@@ -220,5 +229,5 @@ def plotter():
 
 
 if __name__ == "__main__":
-    for part in (codes_and_names, families, shapes, plane, ground, neighbours, corners, coverage, two_arrangements, handhelds, plotter):
+    for part in (codes_and_names, families, shapes, plane, ground, neighbours, corners, coverage, additions, two_arrangements, handhelds, plotter):
         part()

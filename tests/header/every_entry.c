@@ -39,7 +39,8 @@ ANSWER(jgv_z, 16); SIGNED(jgv_z, z, 8);
 ANSWER(jgv_check, 64); UNSIGNED(jgv_check, place, 8); UNSIGNED(jgv_check, version, 16); UNSIGNED(jgv_check, depth, 24);
 UNSIGNED(jgv_check, n, 32); UNSIGNED(jgv_check, s, 40); UNSIGNED(jgv_check, cells, 48); UNSIGNED(jgv_check, size, 56);
 ANSWER(jgv_list, 24); UNSIGNED(jgv_list, place, 8); UNSIGNED(jgv_list, count, 16);
-ANSWER(jgv_ask, 24); UNSIGNED(jgv_ask, place, 8); UNSIGNED(jgv_ask, covered, 16);
+ANSWER(jgv_ask, 32); UNSIGNED(jgv_ask, place, 8); UNSIGNED(jgv_ask, covered, 16); UNSIGNED(jgv_ask, settled, 24);
+ANSWER(jgv_add, 24); UNSIGNED(jgv_add, place, 8); UNSIGNED(jgv_add, length, 16);
 ANSWER(jgv_mark_answer, 48); UNSIGNED(jgv_mark_answer, kind, 8); DOUBLE(jgv_mark_answer, numbers[0], 16); DOUBLE(jgv_mark_answer, numbers[3], 40);
 ASSERT(sizeof(jgv_frame) == 32); DOUBLE(jgv_frame, left, 0); DOUBLE(jgv_frame, bottom, 8); DOUBLE(jgv_frame, right, 16); DOUBLE(jgv_frame, top, 24);
 ANSWER(jgv_frame_answer, 40); DOUBLE(jgv_frame_answer, left, 8); DOUBLE(jgv_frame_answer, bottom, 16); DOUBLE(jgv_frame_answer, right, 24);
@@ -876,12 +877,13 @@ static void coverage_write(void) {
     CHECK_ONE(jgv_length, length, jgv_coverage_write(1, 15, 0, 0, &many[0], 1, NULL, 0), 8, 0);
 }
 
-#define ASK(call, want_refusal, want_place, want_covered)      \
-    do {                                                       \
-        jgv_ask got = (call);                                  \
-        CHECK(got.refusal, want_refusal, #call ": refusal");   \
-        CHECK(got.place, want_place, #call ": place");         \
-        CHECK(got.covered, want_covered, #call ": covered");   \
+#define ASK(call, want_refusal, want_place, want_covered, want_settled) \
+    do {                                                                \
+        jgv_ask got = (call);                                           \
+        CHECK(got.refusal, want_refusal, #call ": refusal");            \
+        CHECK(got.place, want_place, #call ": place");                  \
+        CHECK(got.covered, want_covered, #call ": covered");            \
+        CHECK(got.settled, want_settled, #call ": settled");            \
     } while (0)
 
 static jgv_ask asked(const uint8_t *text, size_t length, uint64_t of) {
@@ -893,35 +895,103 @@ static jgv_ask asked(const uint8_t *text, size_t length, uint64_t of) {
 }
 
 static void coverage_ask(void) {
-    ASK(asked(TEXT(HEAD "P(34(1))"), code("P3")), 0, 0, 1);
-    ASK(asked(TEXT(HEAD "P(34(1))"), code("P41")), 0, 0, 1);
-    ASK(asked(TEXT(HEAD "P(34(1))"), code("P418")), 0, 0, 1);
-    ASK(asked(TEXT(HEAD "P(34(1))"), code("P4")), 0, 0, 0); /* covered in part */
-    ASK(asked(TEXT(HEAD "P(34(1))"), code("P")), 0, 0, 0);
-    ASK(asked(TEXT(HEAD "P(34(1))"), code("P40")), 0, 0, 0);
-    ASK(asked(TEXT(HEAD), 0), 0, 0, 0);
-    ASK(asked(TEXT("CVR\0\1" "33" "NS"), GREATEST), 0, 0, 1);
-    ASK(asked(TEXT("CVR\0\1" "32" "P(34(1))"), code_at(3, 2, "P418")), 0, 0, 1);
-    ASK(asked(TEXT("CVR\0\1" "32" "P(34(1))"), code_at(3, 2, "P4")), 0, 0, 0); /* the order is 4, 13, 10, 9, 14 */
-    ASK(asked(TEXT(HEAD "O()"), no_code), 4, 0, 0);
-    ASK(asked(TEXT(HEAD "P"), code("P") + WIDE), 4, 0, 0);
-    ASK(jgv_coverage_ask(long_text, LONGEST + 1, no_code), 4, 0, 0);
-    ASK(jgv_coverage_ask(long_text, LONGEST + 1, code_at(1, 0, "P")), 13, 0, 0);
-    ASK(asked(TEXT("CVR\0\3" "00P"), code_at(1, 0, "P")), 10, 0, 0);
-    ASK(asked(TEXT("CVR\0\2" "00P"), code_at(1, 0, "P")), 9, 7, 0); /* version 2 without its letter */
-    ASK(asked(TEXT(HEAD_2 "c" "NP(34(1))"), code("P418")), 0, 0, 1);
-    ASK(asked(TEXT(HEAD_2 "c" "NP(34(1))"), code("N8")), 0, 0, 1);
-    ASK(asked(TEXT(HEAD_2 "c" "NP(34(1))"), code("P4")), 0, 0, 0);
-    ASK(asked(TEXT(HEAD_2 "b" "NP(34(1))"), code("P4")), 9, 13, 0);
-    ASK(asked(TEXT("CVR\0\2" "12p" "P"), code_at(2, 1, "P")), 14, 0, 0); /* 14 compares n and s */
-    ASK(asked(TEXT(HEAD "O()"), code_at(1, 0, "P")), 9, 9, 0);
-    ASK(asked(TEXT(HEAD "O(012345678)"), code("P")), 9, 18, 0);
-    ASK(asked(TEXT(HEAD "P"), code_at(1, 0, "P")), 14, 0, 0);
-    ASK(asked(TEXT(HEAD "P"), code_at(0, 1, "P")), 14, 0, 0);
-    ASK(asked(TEXT("CVR\0\1" "12" "P"), code_at(2, 1, "P")), 14, 0, 0);
+    ASK(asked(TEXT(HEAD "P(34(1))"), code("P3")), 0, 0, 1, 3);
+    ASK(asked(TEXT(HEAD "P(34(1))"), code("P41")), 0, 0, 1, 4);
+    ASK(asked(TEXT(HEAD "P(34(1))"), code("P418")), 0, 0, 1, 4);
+    ASK(asked(TEXT(HEAD "P(34(1))"), code("P4")), 0, 0, 0, 4); /* covered in part */
+    ASK(asked(TEXT(HEAD "P(34(1))"), code("P")), 0, 0, 0, 2);
+    ASK(asked(TEXT(HEAD "P(34(1))"), code("P40")), 0, 0, 0, 4);
+    ASK(asked(TEXT(HEAD), 0), 0, 0, 0, 0);
+    ASK(asked(TEXT("CVR\0\1" "33" "NS"), GREATEST), 0, 0, 1, 2);
+    ASK(asked(TEXT("CVR\0\1" "32" "P(34(1))"), code_at(3, 2, "P418")), 0, 0, 1, 4);
+    ASK(asked(TEXT("CVR\0\1" "32" "P(34(1))"), code_at(3, 2, "P4")), 0, 0, 0, 4); /* the order is 4, 13, 10, 9, 14 */
+    ASK(asked(TEXT(HEAD "O()"), no_code), 4, 0, 0, 0);
+    ASK(asked(TEXT(HEAD "P"), code("P") + WIDE), 4, 0, 0, 0);
+    ASK(jgv_coverage_ask(long_text, LONGEST + 1, no_code), 4, 0, 0, 0);
+    ASK(jgv_coverage_ask(long_text, LONGEST + 1, code_at(1, 0, "P")), 13, 0, 0, 0);
+    ASK(asked(TEXT("CVR\0\3" "00P"), code_at(1, 0, "P")), 10, 0, 0, 0);
+    ASK(asked(TEXT("CVR\0\2" "00P"), code_at(1, 0, "P")), 9, 7, 0, 0); /* version 2 without its letter */
+    ASK(asked(TEXT(HEAD_2 "c" "NP(34(1))"), code("P418")), 0, 0, 1, 5);
+    ASK(asked(TEXT(HEAD_2 "c" "NP(34(1))"), code("N8")), 0, 0, 1, 2);
+    ASK(asked(TEXT(HEAD_2 "c" "NP(34(1))"), code("P4")), 0, 0, 0, 5);
+    ASK(asked(TEXT(HEAD_2 "b" "NP(34(1))"), code("P4")), 9, 13, 0, 0);
+    ASK(asked(TEXT("CVR\0\2" "12p" "P"), code_at(2, 1, "P")), 14, 0, 0, 0); /* 14 compares n and s */
+    ASK(asked(TEXT(HEAD "O()"), code_at(1, 0, "P")), 9, 9, 0, 0);
+    ASK(asked(TEXT(HEAD "O(012345678)"), code("P")), 9, 18, 0, 0);
+    ASK(asked(TEXT(HEAD "P"), code_at(1, 0, "P")), 14, 0, 0, 0);
+    ASK(asked(TEXT(HEAD "P"), code_at(0, 1, "P")), 14, 0, 0, 0);
+    ASK(asked(TEXT("CVR\0\1" "12" "P"), code_at(2, 1, "P")), 14, 0, 0, 0);
     for (uint64_t both = 0; both < 16; both++)
-        ASK(asked(TEXT("CVR\0\1" "12" "P"), code_at(both / 4, both % 4, "P3")), both == 6 ? 0 : 14, 0, both == 6);
-    ASK(jgv_coverage_ask(NULL, 0, code("P")), 9, 0, 0);
+        ASK(asked(TEXT("CVR\0\1" "12" "P"), code_at(both / 4, both % 4, "P3")), both == 6 ? 0 : 14, 0, both == 6, both == 6);
+    ASK(jgv_coverage_ask(NULL, 0, code("P")), 9, 0, 0, 0);
+}
+
+/* Lends the text in a room and adds a code; behind the text, or with a refusal everywhere, the bytes have to stay as they are. */
+static void adds(const uint8_t *text, size_t length, uint64_t of, const uint8_t *then, size_t longer) {
+    for (size_t spare = 0; spare <= 1; spare++) {
+        memcpy(lend(), text, length);
+        jgv_add got = jgv_coverage_add(lent + GUARD, spare ? (size_t)ROOM : (longer > length ? longer : length), length, of);
+        CHECK(got.refusal, 0, "jgv_coverage_add: refusal");
+        CHECK(got.place, 0, "jgv_coverage_add: place");
+        CHECK(got.length, longer, "jgv_coverage_add: length");
+        CHECK(memcmp(lent + GUARD, then, longer), 0, "jgv_coverage_add: the text");
+        if (longer < length) /* what stood behind the new end stays */
+            CHECK(memcmp(lent + GUARD + longer, text + longer, length - longer), 0, "jgv_coverage_add: bytes behind the text");
+        CHECK(strays(longer > length ? longer : length), 0, "jgv_coverage_add: bytes about the text");
+    }
+}
+
+static void adds_nothing(const uint8_t *text, size_t lends, size_t room, uint64_t length, uint64_t of, uint64_t refusal, uint64_t place) {
+    memcpy(lend(), text, lends);
+    jgv_add got = jgv_coverage_add(lent + GUARD, room, length, of);
+    CHECK(got.refusal, refusal, "jgv_coverage_add: refusal");
+    CHECK(got.place, place, "jgv_coverage_add: place");
+    CHECK(got.length, 0, "jgv_coverage_add: length");
+    CHECK(memcmp(lent + GUARD, text, lends), 0, "jgv_coverage_add: the text afterwards");
+    CHECK(strays(lends), 0, "jgv_coverage_add: bytes about the text");
+}
+
+/* The same of a text with all its bytes lent, and no room behind it. */
+static void adds_none(const uint8_t *text, size_t length, uint64_t of, uint64_t refusal, uint64_t place) {
+    adds_nothing(text, length, length, length, of, refusal, place);
+}
+
+static void coverage_add(void) {
+    adds(TEXT(HEAD), code("P3"), TEXT(HEAD "P(3)"));
+    adds(TEXT(HEAD "P(3)"), code("P41"), TEXT(HEAD "P(34(1))"));
+    adds(TEXT(HEAD "P(34(1))"), code("P40"), TEXT(HEAD "P(34(01))"));
+    adds(TEXT(HEAD "P(34(1))"), code("P4"), TEXT(HEAD "P(34)")); /* a list gives way */
+    adds(TEXT(HEAD "P(34(1))"), code("P3"), TEXT(HEAD "P(34(1))")); /* covered */
+    adds(TEXT(HEAD "P(34(1))"), code("P"), TEXT(HEAD "P"));
+    adds(TEXT(HEAD "P(01234567)"), code("P8"), TEXT(HEAD "P")); /* nine whole siblings are their parent */
+    adds(TEXT(HEAD "P(01234(01235678)5678)R"), code("P44"), TEXT(HEAD "PR")); /* and so on upwards */
+    adds(TEXT(HEAD "OPQRS"), code("N"), TEXT(HEAD "NOPQRS")); /* six faces do not merge */
+    adds(TEXT("CVR\0\1" "33"), GREATEST, TEXT("CVR\0\1" "33S(8(8(8(8(8(8(8(8(8(8(8(8(8(8(8)))))))))))))))")); /* 46 bytes */
+    adds(TEXT(HEAD_2 "b" "P(3)"), code("P4"), TEXT(HEAD_2 "b" "P(34)"));
+    adds(TEXT(HEAD_2 "b" "P(3)"), code("P31"), TEXT(HEAD_2 "b" "P(3)")); /* too deep, but covered */
+    adds(TEXT(HEAD_2 "b" "NP(3)"), code("N8"), TEXT(HEAD_2 "b" "NP(3)"));
+    adds(TEXT(HEAD_2 "a" "P"), code("N"), TEXT(HEAD_2 "a" "NP"));
+    /* the order is 4, 13, 8, 10, 9, 14, 15, 13, 8 */
+    adds_none(TEXT(HEAD "O()"), no_code, 4, 0);
+    adds_none(TEXT(HEAD "P"), code("P") + WIDE, 4, 0);
+    adds_nothing(TEXT(HEAD "O()"), 10, LONGEST + 1, code_at(1, 0, "P"), 13, 0);
+    adds_nothing(TEXT(HEAD "O()"), 10, UINT64_MAX, code_at(1, 0, "P"), 13, 0);
+    adds_nothing(TEXT(HEAD "O()"), 10, WIDE + 10, code_at(1, 0, "P"), 13, 0);
+    adds_nothing(TEXT(HEAD "O()"), 9, 10, code_at(1, 0, "P"), 8, 0); /* not all lent */
+    adds_nothing(TEXT(HEAD "O()"), 0, LONGEST, code_at(1, 0, "P"), 8, 0);
+    adds_none(TEXT("CVR\0\3" "00O()"), code_at(1, 0, "P"), 10, 0);
+    adds_none(TEXT(HEAD "O()"), code_at(1, 0, "P"), 9, 9);
+    adds_none(TEXT(HEAD_2 "a" "N(0)"), code_at(1, 0, "N1"), 9, 9);
+    adds_nothing(TEXT(HEAD "P(34(1))"), ROOM, 14, code("P"), 9, 14); /* the last bracket is not of it */
+    adds_none(TEXT(HEAD_2 "a" "P"), code_at(1, 0, "N1"), 14, 0);
+    adds_none(TEXT(HEAD_2 "a" "P"), code("N1"), 15, 0);
+    adds_none(TEXT(HEAD_2 "p" "P"), code("S8"), 15, 0);
+    adds_none(TEXT(HEAD_2 "b" "P(3)"), code("P41"), 15, 0);
+    adds_none(TEXT(HEAD "P(3)"), code("P41"), 8, 0); /* four bytes short */
+    adds_nothing(TEXT(HEAD "P(3)"), 14, 11, code("P41"), 8, 0); /* one byte short */
+    adds_nothing(TEXT(HEAD "P(3)"), 0, 0, code("P41"), 9, 0);
+    jgv_add none = jgv_coverage_add(NULL, 0, 0, code("P"));
+    CHECK(none.refusal, 9, "jgv_coverage_add of no memory: refusal");
 }
 
 /* Finest cells of N without the last child of any: nothing merges, each eight take eleven bytes and more, `d(01234567)`. */
@@ -1102,6 +1172,7 @@ int main(void) {
     coverage_write();
     handheld_write();
     coverage_ask();
+    coverage_add();
     mark_point();
     mark_code();
     frame_first();

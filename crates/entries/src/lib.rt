@@ -107,6 +107,7 @@ pub struct AskAnswer {
     pub refusal: u64,
     pub place: u64,
     pub covered: u64,
+    pub settled: u64,
 }
 
 #[repr(C)]
@@ -123,4 +124,11 @@ pub struct FrameAnswer {
     pub bottom: f64,
     pub right: f64,
     pub top: f64,
+}
+
+#[repr(C)]
+pub struct AddAnswer {
+    pub refusal: u64,
+    pub place: u64,
+    pub length: u64,
 }

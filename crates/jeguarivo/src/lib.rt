@@ -2,27 +2,30 @@
 // zeros for the other answers, and no lent byte changed.
 ghost use mathlib.Core.Path.{_≡_};
 ghost use mathlib.Core.Bool.{cond};
-ghost use lib.ListN.{length};
+ghost use lib.ListN.{length, take};
 ghost use Rattle.logic.specs.Refusal.{given};
 ghost use Rattle.cell.specs.Cell.{IsCell};
-ghost use Rattle.code.specs.Code.{codeOf, arrangementOf, Placed, foundCode};
+ghost use Rattle.code.specs.Code.{codeOf, cellOf, arrangementOf, Placed, foundCode};
 ghost use Rattle.name.specs.Name.{codeNameRefusal, nameIn};
 ghost use Rattle.corner.specs.List.{cornerMemory};
 ghost use Rattle.reader.specs.Check.{checkedOf};
 ghost use Rattle.listing.specs.List.{listingRefusal, listed, codesIn};
 ghost use Rattle.asking.specs.Ask.{askRefusal, asked};
-ghost use Rattle.entries.specs.Texts.{checkNumbers, listNumbers, askNumbers, writtenNumbers};
+ghost use Rattle.adding.specs.Add.{textWith, addRefusal, added, placed};
+ghost use Rattle.entries.specs.Texts.{checkNumbers, listNumbers, askNumbers, writtenNumbers, addNumbers};
 ghost use Rattle.writing.specs.Write.{asksFor, writeRefusal, textOf, textIn, written};
 ghost use Rattle.entries.specs.Entries.{arrangement, codedAnswer, codeAnswer, codeOfCell, codeCell, nameAnswer, writtenName, parentCode, childCode};
 ghost use Rattle.entries.specs.Entries.{cellSize, cellShape, cornerCount, cellSquare, cellNucleus, cellVertices, pointCode, neighbourCode, fixCode, groundFix};
 ghost use Rattle.entries.specs.Entries.{geodeticZ, geodeticCode, cornerCells};
 ghost use Rattle.entries.specs.Plotter.{markNumbers, frameNumbers, pointMarked, codeMarked, frameBegun, frameGrown};
+use adding::Added;
 use asking::Asked;
 use cell::Arrangement;
 use cell::Cell;
 use cell::Found;
 use code::Coded;
 use corner::Cornered;
+use entries::AddAnswer;
 use entries::AskAnswer;
 use entries::CellAnswer;
 use entries::CheckAnswer;
@@ -541,15 +544,38 @@ pub extern "C" fn jgv_coverage_ask(text: &[u8], code: u64) -> AskAnswer
     ensures { λ r. ⌜ r ≡ askNumbers (asked (askRefusal (now (text .entry)) code) (now (text .entry)) code) ⌝ }
 {
     match asking::ask(text, code) {
-        Asked::Covered(covered) => AskAnswer {
+        Asked::Answer { covered, settled } => AskAnswer {
             refusal: 0,
             place: 0,
             covered: as_number(covered),
+            settled,
         },
         Asked::Refused { refusal, place } => AskAnswer {
             refusal,
             place,
             covered: 0, // of a question that is refused
+            settled: 0, // by nothing
+        },
+    }
+}
+
+// The first `length` of the lent bytes are said to be a text. 4 where the code is no cell's, 13 where that is longer than 65,536 bytes, 8 where it is
+// longer than the room, 10, 9 and 14 as in asking, 15 where the text with the cell would be outside its profile, 13 and 8 where it would be too long.
+#[no_mangle]
+pub extern "C" fn jgv_coverage_add(text: &mut [u8], length: u64, code: u64) -> AddAnswer
+    ensures { λ r. ⌜ r ≡ addNumbers (added (addRefusal (now (text .entry)) length code) (take length (now (text .entry))) code) ⌝ }
+    ensures { λ r. ⌜ now (text .exit) ≡ placed (addRefusal (now (text .entry)) length code) (textWith (take length (now (text .entry))) (cellOf code)) (now (text .entry)) ⌝ }
+{
+    match adding::add(text, length as usize, code) {
+        Added::Length(length) => AddAnswer {
+            refusal: 0,
+            place: 0, // of a text
+            length: length as u64,
+        },
+        Added::Refused { refusal, place } => AddAnswer {
+            refusal,
+            place,
+            length: 0, // of a cell that is refused
         },
     }
 }

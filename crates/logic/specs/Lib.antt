@@ -3,3 +3,4 @@ pub mod Laws
 pub mod Lists
 pub mod Refusal
 pub mod Rise
+pub mod Table

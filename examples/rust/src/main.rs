@@ -190,8 +190,8 @@ fn coverage() -> Answer<()> {
     let names = listed.iter().map(|&code| name_of(code)).collect::<Answer<Vec<String>>>()?;
     println!("coverage_list: P(34(1)) -> {}", names.join(" "));
     for name in ["P3", "P41", "P418", "P4"] {
-        let covered = coverage_ask(text, code_of(name)?)?; // P4 is covered in part only: no
-        println!("coverage_ask: P(34(1)), {name} -> {}", if covered { "yes" } else { "no" });
+        let Ask { covered, settled, .. } = coverage_ask(text, code_of(name)?)?; // P4 is covered in part only: no
+        println!("coverage_ask: P(34(1)), {name} -> {}, settled by {settled}", if covered == 1 { "yes" } else { "no" });
     }
     // A text that is not of the grammar is refused with 9; `place` says how much of it some good text begins with.
     for body in ["O()", "O(012345678)"] {
@@ -200,6 +200,19 @@ fn coverage() -> Answer<()> {
             Err(Refused { number, place }) => println!("coverage_check: {body} -> refused with {number} at place {place}"),
         }
     }
+    Ok(())
+}
+
+/// A flight's cells go into its text one by one, in any order; the text is all that there is to keep.
+fn additions() -> Answer<()> {
+    let mut text = [0; 64];
+    let mut length = coverage_write(0, 0, &[code_of("P3")?, code_of("P41")?], &mut text)?.len();
+    for name in ["P40", "P4", "P418"] {
+        let before = String::from_utf8_lossy(&text[7..length]).into_owned();
+        length = coverage_add(&mut text, length, code_of(name)?)?.len();
+        println!("coverage_add: {before}, {name} -> {}", String::from_utf8_lossy(&text[7..length]));
+    }
+    println!("coverage_add: P(34), N6, n 1 -> {}", refusal(coverage_add(&mut text, length, code_at(1, 0, "N6")?)));
     Ok(())
 }
 
@@ -293,6 +306,7 @@ fn main() -> Answer<()> {
     neighbours()?;
     corners()?;
     coverage()?;
+    additions()?;
     two_arrangements()?;
     handhelds()?;
     plotter()

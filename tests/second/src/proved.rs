@@ -2,10 +2,10 @@
 //! in their form.
 
 use crate::compare::Refusing;
-use crate::coverage::{Checked, Refused, TextAnswer};
+use crate::coverage::{Asked, Checked, Refused, TextAnswer};
 use crate::grid::{self, Answer, Place};
 use crate::plotter::{Edges, Mark};
-use jeguarivo::{Ask, Cell, Check, Code, Count, Fix, Length, List, Name, Point, Shape, Size};
+use jeguarivo::{Add, Ask, Cell, Check, Code, Count, Fix, Length, List, Name, Point, Shape, Size};
 use jeguarivo::{Frame, FrameAnswer, MarkAnswer, Square, Vertices, Z};
 use std::fmt::Debug;
 
@@ -35,7 +35,7 @@ pub fn frame_grow(side: f64, frame: Edges, code: u64) -> FrameAnswer {
 /// The coverage entries.
 pub mod coverage {
     pub use jeguarivo::lent::{
-        coverage_ask as ask, coverage_check as check, coverage_list as list,
+        coverage_add as add, coverage_ask as ask, coverage_check as check, coverage_list as list,
         coverage_write as write,
     };
 }
@@ -85,7 +85,9 @@ like! {
         n: of.n, s: of.s, cells: of.cells, size: of.size
     };
     List at place, TextAnswer<u64>, count => { count: count };
-    Ask at place, TextAnswer<bool>, covered => { covered: u64::from(covered) };
+    Ask at place, TextAnswer<Asked>, of =>
+        { covered: u64::from(of.covered), settled: of.settled };
+    Add at place, TextAnswer<u64>, length => { length: length };
 }
 
 /// An answer together with the lent bytes or codes after it.

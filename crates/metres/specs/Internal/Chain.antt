@@ -54,8 +54,10 @@ chain {a} {c} {b} {d} {e} {f} M P n q =
     let Z = e * (c * M) * d in
     let X = b * c * f in
     let Y = a * f * d in
-    let zu : Z * 2 ^ 53 ≤ X * (2 ^ 53 + 1) = le-trans (le-of-eq (simp (mul-assoc, mul-comm, mul-left-comm))) (le-trans (mul-le-mul-right c (q .above)) (le-of-eq (simp (mul-assoc, mul-comm, mul-left-comm)))) in
-    let xu : X * 2 ^ 53 ≤ Y * (2 ^ 53 + 1) = le-trans (le-of-eq (simp (mul-assoc, mul-comm, mul-left-comm))) (le-trans (mul-le-mul-right f (n .above)) (le-of-eq (simp (mul-assoc, mul-comm, mul-left-comm)))) in
+    let zu : Z * 2 ^ 53 ≤ X * (2 ^ 53 + 1) = le-trans (le-of-eq (simp (mul-assoc, mul-comm, mul-left-comm)))
+    (le-trans (mul-le-mul-right c (q .above)) (le-of-eq (simp (mul-assoc, mul-comm, mul-left-comm)))) in
+    let xu : X * 2 ^ 53 ≤ Y * (2 ^ 53 + 1) = le-trans (le-of-eq (simp (mul-assoc, mul-comm, mul-left-comm)))
+    (le-trans (mul-le-mul-right f (n .above)) (le-of-eq (simp (mul-assoc, mul-comm, mul-left-comm)))) in
     let zd : X * 2 ^ 53 ≤ Z * 2 ^ 53 + X =
     le-trans (le-of-eq (simp (mul-assoc, mul-comm, mul-left-comm)))
     (le-trans (mul-le-mul-right c (q .below)) (le-of-eq (add-mul (e * (d * M) * 2 ^ 53) (b * f) c ∙ simp (mul-assoc, mul-comm, mul-left-comm)))) in

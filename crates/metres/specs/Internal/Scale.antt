@@ -2,7 +2,8 @@
 use mathlib.Core.Path.{_≡_, refl, sym, ap, _∙_, subst}
 use mathlib.Core.Bool.{Bool, true, false, not, Bool·beq, cond}
 use Prim.Native.Nat.{ℕ, zero, suc, _+_, _-_, _*_, _/_, _^_, _≤_, _<_, zero-le}
-use native.Mathlib.Nat.{le-trans, le-of-eq, le-of-lt, lt-of-le-of-lt, lt-of-lt-of-le, mul-comm, mul-assoc, mul-left-comm, mul-right-comm, add-mul, mul-add, mul-one, one-mul, zero-mul, mul-le-mul-right, mul-le-mul-left, le-of-mul-le-mul-right, mul-pos, mul-le-mul, le-mul-of-pos-right}
+use native.Mathlib.Nat.{le-trans, le-of-eq, le-of-lt, lt-of-le-of-lt, lt-of-lt-of-le, mul-comm, mul-assoc, mul-left-comm, mul-right-comm, add-mul, mul-add, mul-one, one-mul}
+use native.Mathlib.Nat.{zero-mul, mul-le-mul-right, mul-le-mul-left, le-of-mul-le-mul-right, mul-pos, mul-le-mul, le-mul-of-pos-right}
 use native.Mathlib.Omega.{arith}
 use lib.Dec.{T, lit<, lit≤}
 use lib.IntN.{ℤ, pos, negsuc, natAbs}
@@ -125,7 +126,8 @@ div-close (fin t m e) {s} h lo hi =
     (le-trans (le-of-eq (mul-left-comm 28697814 (m * up e) 2)) (le-trans (mul-le-mul-left {m = 28697814 * 2} {n = 2 ^ 30} (m * up e) (lit≤ tt)) (le-of-eq (ap (λ (z : ℕ). z * 2 ^ 30) (sym a1))))) in
     let top3 : a ≤ c * 2 ^ 60 =
     le-trans (le-of-eq a1)
-    (le-trans hi (le-trans (mul-le-mul-left {m = 2 ^ 58} {n = 28697814 * 2 ^ 60} (down e) (lit≤ tt)) (le-of-eq (mul-left-comm (down e) 28697814 (2 ^ 60) ∙ sym (mul-assoc 28697814 (down e) (2 ^ 60)))))) in
+    (le-trans hi (le-trans (mul-le-mul-left {m = 2 ^ 58} {n = 28697814 * 2 ^ 60} (down e) (lit≤ tt))
+    (le-of-eq (mul-left-comm (down e) 28697814 (2 ^ 60) ∙ sym (mul-assoc 28697814 (down e) (2 ^ 60)))))) in
     let r : Close s a c (round binary64 (unlike t false) a c) = subst (λ (b : Bool). Close s a c (round binary64 b a c)) (sym (like t ∙ h .0)) (round-close s a c C low2 top3) in
     record { value = r .value; near = near-of C (ap (λ (z : ℕ). z * (down e * 28697814)) a1 ∙ ap (λ (z : ℕ). m * up e * z) (mul-comm (down e) 28697814)) (r .near) }
 
