@@ -1,0 +1,4 @@
+pub mod Cover
+pub mod Grammar
+pub mod Portions
+pub mod Sums
