@@ -34,8 +34,11 @@ pastChild c (some (whole b ns)) = cond (eqb b c) (some ns) (some (whole b ns))
 pastChild c (some (listed b is ns)) = cond (eqb b c) (some ns) (some (listed b is ns))
 
 -- one of the texts has a list for the cell
+abbrev pub divides : (i j : ℕ) → Bool
+divides i j = eqb i 2 || eqb j 2
+
 abbrev pub divided : Portion → Portion → Bool
-divided x y = eqb (portionNumber x) 2 || eqb (portionNumber y) 2
+divided x y = divides (portionNumber x) (portionNumber y)
 
 -- the first has, or has not, all of a cell that is not divided, as p says, and the second as q says: 1 for what it has, 0 for what it has not
 abbrev pub wanted : (p q : ℕ) → Portion → Portion → Bool
