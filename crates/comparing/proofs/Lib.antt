@@ -1,3 +1,4 @@
 pub mod Cells
 pub mod Children
 pub mod Steps
+pub mod Texts
