@@ -76,11 +76,14 @@ texts-found {t} {u} {one} {two} {lent} {later} {r} v w l =
     let two-only = n 0 1 (omega arith) (omega arith) in
     let both = n 1 1 (omega arith) (omega arith) in
     record {
-      firsts = listed-count (shared 1 0 a b) one-only (v .arranged) (f .adds .firsts);
-      seconds = listed-count (shared 0 1 a b) two-only (v .arranged) (f .adds .seconds);
-      boths = listed-count (shared 1 1 a b) both (v .arranged) (f .adds .boths);
-      size = omega (arith, f .adds .size, spots-size (shared 1 1 a b) both);
-      put-firsts = listed-put (shared 1 0 a b) one-only (v .arranged) (f .adds .firsts);
-      put-seconds = listed-put (shared 0 1 a b) two-only (v .arranged) (f .adds .seconds);
-      put-boths = listed-put (shared 1 1 a b) both (v .arranged) (f .adds .boths);
+      measured =
+          record {
+            firsts = listed-count (shared 1 0 a b) one-only (v .arranged) (f .adds .firsts);
+            seconds = listed-count (shared 0 1 a b) two-only (v .arranged) (f .adds .seconds);
+            boths = listed-count (shared 1 1 a b) both (v .arranged) (f .adds .boths);
+            size = omega (arith, f .adds .size, spots-size (shared 1 1 a b) both);
+          };
+      firsts = listed-put (shared 1 0 a b) one-only (v .arranged) (f .adds .firsts);
+      seconds = listed-put (shared 0 1 a b) two-only (v .arranged) (f .adds .seconds);
+      boths = listed-put (shared 1 1 a b) both (v .arranged) (f .adds .boths);
     }

@@ -8,7 +8,7 @@ ghost use Rattle.cell.specs.Cell.{IsArrangement};
 ghost use Rattle.code.specs.Number.{codeAs};
 ghost use Rattle.comparing.specs.Shared.{divides};
 ghost use Rattle.comparing.specs.Compare.{lists, arrangementsDiffer, Compares};
-ghost use Rattle.comparing.specs.Internal.Found.{pastOf, weight, ChildIs, CellFound, NodeFound, ListFound, WasRead, TextsFound};
+ghost use Rattle.comparing.specs.Internal.Found.{pastOf, weight, ChildIs, CellFound, NodeFound, ListFound, WasRead, TextsMeasured, TextsFound, tiedUp};
 use cell::Arrangement;
 use reader::Checked;
 
@@ -312,6 +312,25 @@ fn list_texts(
     )
 }
 
+// How long the three listings of two texts are, and the sizes of what is in both: the pass has no room, so nothing is stored.
+fn measure_texts(first: &[u8], second: &[u8], one: Read, two: Read) -> Cursor
+    requires { ⌜ WasRead (now first) one × WasRead (now second) two ⌝ }
+    ensures { λ r. ⌜ TextsMeasured (now (first .entry)) (now (second .entry)) r ⌝ }
+{
+    let mut firsts = [0u64; 0];
+    let mut seconds = [0u64; 0];
+    let mut boths = [0u64; 0];
+    list_texts(
+        first,
+        second,
+        one,
+        two,
+        &mut firsts,
+        &mut seconds,
+        &mut boths,
+    )
+}
+
 // Whether any room is short.
 fn is_short(found: Cursor, firsts: usize, seconds: usize, boths: usize) -> bool
     ensures { λ r. ⌜ r ≡ (ltb firsts (found .firsts) || (ltb seconds (found .seconds) || ltb boths (found .boths))) ⌝ }
@@ -325,7 +344,28 @@ fn is_short(found: Cursor, firsts: usize, seconds: usize, boths: usize) -> bool
     boths < found.boths
 }
 
-// The three listings of two texts of one arrangement: 8 where a room is short. The first pass has no room, so nothing is stored.
+// How long the listings are, and their sizes: what is in both and what is in one only make up that one, so two sizes follow from the third.
+fn listings(found: Cursor, first: u64, second: u64) -> Compared
+    requires { ⌜ (found .size ≤ first) × (found .size ≤ second) ⌝ }
+    ensures { λ r. ⌜ r ≡ tiedUp found first second ⌝ }
+{
+    Compared::Listings {
+        first: Listing {
+            count: found.firsts as u64,
+            size: first - found.size,
+        },
+        second: Listing {
+            count: found.seconds as u64,
+            size: second - found.size,
+        },
+        both: Listing {
+            count: found.boths as u64,
+            size: found.size,
+        },
+    }
+}
+
+// The three listings of two texts of one arrangement: 8 where a room is short.
 fn list_both(
     first: &[u8],
     second: &[u8],
@@ -338,15 +378,7 @@ fn list_both(
     requires { ⌜ WasRead (now first) one × WasRead (now second) two × (arrangementsDiffer (now first) (now second) ≡ false) ⌝ }
     ensures { λ r. ⌜ Compares (now (first .entry)) (now (second .entry)) (lists (now (firsts .entry)) (now (seconds .entry)) (now (boths .entry))) (lists (now (firsts .exit)) (now (seconds .exit)) (now (boths .exit))) r ⌝ }
 {
-    let found = list_texts(
-        first,
-        second,
-        one,
-        two,
-        &mut firsts[..0],
-        &mut seconds[..0],
-        &mut boths[..0],
-    );
+    let found = measure_texts(first, second, one, two);
     if is_short(found, firsts.len(), seconds.len(), boths.len()) {
         return Compared::Refused {
             refusal: 8,
@@ -354,20 +386,7 @@ fn list_both(
         };
     }
     list_texts(first, second, one, two, firsts, seconds, boths);
-    Compared::Listings {
-        first: Listing {
-            count: found.firsts as u64,
-            size: one.size - found.size, // the sums tie up
-        },
-        second: Listing {
-            count: found.seconds as u64,
-            size: two.size - found.size,
-        },
-        both: Listing {
-            count: found.boths as u64,
-            size: found.size,
-        },
-    }
+    listings(found, one.size, two.size)
 }
 
 // The three listings, where the first text was read: the second text's refusal, then 14, then 8.

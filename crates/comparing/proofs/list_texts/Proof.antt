@@ -8,7 +8,7 @@ use Rattle.comparing.proofs.list_texts.Statement.{statement}
 use Rattle.comparing.proofs.list_texts.Tie as tie
 
 list-children-requires : tie.Need-list-children-requires
-list-children-requires c κs = 
+list-children-requires c κs =
     let p = c .before .before .before .before .before .before .before .before .before .pre in
     (subst IsArrangement (sym (p .0 .arranged)) (text-arranged _ (p .0 .text)), (omega arith, omega arith, omega arith, omega arith, omega arith))
 

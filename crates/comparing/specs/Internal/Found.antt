@@ -21,6 +21,8 @@ use Rattle.listing.specs.Laws.List.{spotCode}
 use Rattle.comparing.specs.declared.Child.{Child}
 use Rattle.comparing.specs.declared.Cursor.{Cursor}
 use Rattle.comparing.specs.declared.Read.{Read}
+use Rattle.comparing.specs.declared.Compared.{Compared}
+use Rattle.comparing.specs.declared.Compared.the-variants.{Listings}
 use Rattle.comparing.specs.Shared.{Portion, none, all, some, portionNumber, ofChild, pastChild, divided, wanted, sideShared, belowShared}
 use Rattle.comparing.specs.Compare.{ThreeLists, sharedCodes, inBoth}
 use Rattle.comparing.specs.Internal.Portions.{GoodPortion, GoodInside}
@@ -128,12 +130,22 @@ pub record WasRead (t : List ℕ) (r : Read) : Type 0 where
   pub size : r .size ≡ sizeSum (wholeCells (nodesOf t))
   pub body : r .body ≡ bodyStart t
 
--- two texts gone over from their bodies on
-pub record TextsFound (t u : List ℕ) (lent later : ThreeLists) (r : Cursor) : Type 0 where
+-- two texts gone over from their bodies on: how long the listings are, and the sum of sizes of what is in both
+pub record TextsMeasured (t u : List ℕ) (r : Cursor) : Type 0 where
   pub firsts : r .firsts ≡ length (sharedCodes t u .firsts)
   pub seconds : r .seconds ≡ length (sharedCodes t u .seconds)
   pub boths : r .boths ≡ length (sharedCodes t u .boths)
   pub size : r .size ≡ sizeSum (inBoth (nodesOf t) (nodesOf u))
-  pub put-firsts : later .firsts ≡ sets (lent .firsts) 0 (sharedCodes t u .firsts)
-  pub put-seconds : later .seconds ≡ sets (lent .seconds) 0 (sharedCodes t u .seconds)
-  pub put-boths : later .boths ≡ sets (lent .boths) 0 (sharedCodes t u .boths)
+
+-- and their codes, as far as there is room
+pub record TextsFound (t u : List ℕ) (lent later : ThreeLists) (r : Cursor) : Type 0 where
+  pub measured : TextsMeasured t u r
+  pub firsts : later .firsts ≡ sets (lent .firsts) 0 (sharedCodes t u .firsts)
+  pub seconds : later .seconds ≡ sets (lent .seconds) 0 (sharedCodes t u .seconds)
+  pub boths : later .boths ≡ sets (lent .boths) 0 (sharedCodes t u .boths)
+
+-- what is answered of the counts, where the two texts have these sums of sizes
+abbrev pub tiedUp : Cursor → (first second : ℕ) → Compared
+tiedUp c first second =
+    Listings (record { count = c .firsts; size = first - c .size }) (record { count = c .seconds; size = second - c .size })
+    (record { count = c .boths; size = c .size })
