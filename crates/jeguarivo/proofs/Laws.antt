@@ -14,7 +14,7 @@ use Rattle.cell.specs.Laws.Found.{found-refused}
 use Rattle.code.specs.Code.{codeOf, cellOf, arrangementOf, codeRefusal, coded, foundCode}
 use Rattle.code.specs.Laws.Code.{code-arranged, found-coded}
 use Rattle.code.specs.Laws.Decoded.{Decoded, decoded}
-use Rattle.jeguarivo.specs.Entries.{codeAnswer, codedAnswer, placedAnswer}
+use Rattle.entries.specs.Entries.{codeAnswer, codedAnswer, placedAnswer}
 
 -- ---- codes as answers
 

@@ -11,131 +11,36 @@ ghost use Rattle.corner.specs.List.{cornerMemory};
 ghost use Rattle.reader.specs.Check.{checkedOf};
 ghost use Rattle.listing.specs.List.{listingRefusal, listed, codesIn};
 ghost use Rattle.asking.specs.Ask.{askRefusal, asked};
-ghost use Rattle.jeguarivo.specs.Texts.{checkNumbers, listNumbers, askNumbers, writtenNumbers};
+ghost use Rattle.entries.specs.Texts.{checkNumbers, listNumbers, askNumbers, writtenNumbers};
 ghost use Rattle.writing.specs.Write.{asksFor, writeRefusal, textOf, textIn, written};
-ghost use Rattle.jeguarivo.specs.Entries.{arrangement, codedAnswer, codeAnswer, codeOfCell, codeCell, nameAnswer, writtenName, parentCode, childCode};
-ghost use Rattle.jeguarivo.specs.Entries.{cellSize, cellShape, cornerCount, cellSquare, cellNucleus, cellVertices, pointCode, neighbourCode, fixCode, groundFix};
-ghost use Rattle.jeguarivo.specs.Entries.{geodeticZ, geodeticCode, cornerCells};
+ghost use Rattle.entries.specs.Entries.{arrangement, codedAnswer, codeAnswer, codeOfCell, codeCell, nameAnswer, writtenName, parentCode, childCode};
+ghost use Rattle.entries.specs.Entries.{cellSize, cellShape, cornerCount, cellSquare, cellNucleus, cellVertices, pointCode, neighbourCode, fixCode, groundFix};
+ghost use Rattle.entries.specs.Entries.{geodeticZ, geodeticCode, cornerCells};
 use asking::Asked;
 use cell::Arrangement;
 use cell::Cell;
 use cell::Found;
 use code::Coded;
 use corner::Cornered;
+use entries::AskAnswer;
+use entries::CellAnswer;
+use entries::CheckAnswer;
+use entries::CodeAnswer;
+use entries::CountAnswer;
+use entries::FixAnswer;
+use entries::LengthAnswer;
+use entries::ListAnswer;
+use entries::NameAnswer;
+use entries::PointAnswer;
+use entries::ShapeAnswer;
+use entries::SizeAnswer;
+use entries::SquareAnswer;
+use entries::VerticesAnswer;
+use entries::ZAnswer;
 use listing::Listed;
 use name::Named;
 use reader::Checked;
 use writing::Written;
-
-#[repr(C)]
-pub struct CodeAnswer {
-    pub refusal: u64,
-    pub code: u64,
-}
-
-#[repr(C)]
-pub struct CellAnswer {
-    pub refusal: u64,
-    pub n: u64,
-    pub s: u64,
-    pub face: u64,
-    pub resolution: u64,
-    pub row: u64,
-    pub column: u64,
-}
-
-#[repr(C)]
-pub struct NameAnswer {
-    pub refusal: u64,
-    pub n: u64,
-    pub s: u64,
-    pub length: u64,
-}
-
-#[repr(C)]
-pub struct LengthAnswer {
-    pub refusal: u64,
-    pub length: u64,
-}
-
-#[repr(C)]
-pub struct SizeAnswer {
-    pub refusal: u64,
-    pub size: u64,
-}
-
-#[repr(C)]
-pub struct ShapeAnswer {
-    pub refusal: u64,
-    pub shape: u64,
-}
-
-#[repr(C)]
-pub struct CountAnswer {
-    pub refusal: u64,
-    pub count: u64,
-}
-
-#[repr(C)]
-pub struct SquareAnswer {
-    pub refusal: u64,
-    pub left: i64,
-    pub top: i64,
-    pub side: i64,
-}
-
-#[repr(C)]
-pub struct PointAnswer {
-    pub refusal: u64,
-    pub x: i64,
-    pub y: i64,
-}
-
-#[repr(C)]
-pub struct ZAnswer {
-    pub refusal: u64,
-    pub z: i64,
-}
-
-#[repr(C)]
-pub struct FixAnswer {
-    pub refusal: u64,
-    pub longitude: i64,
-    pub z: i64,
-}
-
-#[repr(C)]
-pub struct VerticesAnswer {
-    pub refusal: u64,
-    pub x: [i64; 4],
-    pub y: [i64; 4],
-}
-
-#[repr(C)]
-pub struct CheckAnswer {
-    pub refusal: u64,
-    pub place: u64,
-    pub version: u64,
-    pub depth: u64,
-    pub n: u64,
-    pub s: u64,
-    pub cells: u64,
-    pub size: u64,
-}
-
-#[repr(C)]
-pub struct ListAnswer {
-    pub refusal: u64,
-    pub place: u64,
-    pub count: u64,
-}
-
-#[repr(C)]
-pub struct AskAnswer {
-    pub refusal: u64,
-    pub place: u64,
-    pub covered: u64,
-}
 
 // A code, or its refusal, as numbers.
 fn coded_answer(coded: Coded) -> CodeAnswer

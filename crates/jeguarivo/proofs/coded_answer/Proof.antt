@@ -1,6 +1,6 @@
 -- `coded_answer` meets its contract. Assumes nothing.
 use mathlib.Core.Path.{sym, ap}
-use Rattle.jeguarivo.specs.Entries.{codedAnswer}
+use Rattle.entries.specs.Entries.{codedAnswer}
 use borrow.Author.Needs.{needs}
 use Rattle.jeguarivo.proofs.coded_answer.Statement.{statement}
 use Rattle.jeguarivo.proofs.coded_answer.Tie as tie

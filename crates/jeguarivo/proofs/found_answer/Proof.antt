@@ -1,6 +1,6 @@
 -- `found_answer` meets its contract. Assumes nothing.
 use mathlib.Core.Path.{ap, _∙_}
-use Rattle.jeguarivo.specs.Entries.{codedAnswer}
+use Rattle.entries.specs.Entries.{codedAnswer}
 use borrow.Author.Needs.{needs}
 use Rattle.jeguarivo.proofs.found_answer.Statement.{statement}
 use Rattle.jeguarivo.proofs.found_answer.Tie as tie

@@ -1,6 +1,6 @@
 -- `jgv_cell_code` meets its contract. Assumes nothing.
 use mathlib.Core.Path.{ap, _∙_}
-use Rattle.jeguarivo.specs.Entries.{codedAnswer, codeOfCell, codeAnswer}
+use Rattle.entries.specs.Entries.{codedAnswer, codeOfCell, codeAnswer}
 use borrow.Author.Needs.{needs}
 use Rattle.jeguarivo.proofs.jgv_cell_code.Statement.{statement}
 use Rattle.jeguarivo.proofs.jgv_cell_code.Tie as tie

@@ -12,7 +12,7 @@ use Rattle.cell.specs.Hierarchy.{childOf, childRefusal}
 use Rattle.cell.specs.Laws.Hierarchy.{child-is-cell}
 use Rattle.code.specs.Code.{coded, codeOf, arrangementOf}
 use Rattle.code.specs.Laws.Decoded.{decoded, undecoded}
-use Rattle.jeguarivo.specs.Entries.{codeAnswer, childCode}
+use Rattle.entries.specs.Entries.{codeAnswer, childCode}
 use Rattle.jeguarivo.proofs.Laws.{four-first, code-refused, next-code, cell-next}
 use borrow.Author.Needs.{needs}
 use Rattle.jeguarivo.proofs.jgv_child.Statement.{statement}

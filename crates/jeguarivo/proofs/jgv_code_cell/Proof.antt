@@ -1,7 +1,7 @@
 -- `jgv_code_cell` meets its contract. Assumes nothing.
 use mathlib.Core.Path.{sym, ap, ap₂, _∙_}
 use Rattle.code.specs.Code.{arrangementOf}
-use Rattle.jeguarivo.specs.Entries.{codeCell, cellNumbers}
+use Rattle.entries.specs.Entries.{codeCell, cellNumbers}
 use borrow.Author.Needs.{needs}
 use Rattle.jeguarivo.proofs.jgv_code_cell.Statement.{statement}
 use Rattle.jeguarivo.proofs.jgv_code_cell.Tie as tie

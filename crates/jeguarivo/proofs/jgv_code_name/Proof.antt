@@ -1,7 +1,7 @@
 -- `jgv_code_name` meets its contract. Assumes nothing.
 use mathlib.Core.Path.{sym, ap, ap₂, _∙_}
 use Rattle.code.specs.Code.{arrangementOf}
-use Rattle.jeguarivo.specs.Entries.{writtenName, nameNumbers}
+use Rattle.entries.specs.Entries.{writtenName, nameNumbers}
 use borrow.Author.Needs.{needs}
 use Rattle.jeguarivo.proofs.jgv_code_name.Statement.{statement}
 use Rattle.jeguarivo.proofs.jgv_code_name.Tie as tie

@@ -1,6 +1,6 @@
 -- `jgv_corner_cells` meets its contract. Assumes nothing.
 use mathlib.Core.Path.{sym, ap, _∙_}
-use Rattle.jeguarivo.specs.Entries.{cornerNumbers, cornerCells}
+use Rattle.entries.specs.Entries.{cornerNumbers, cornerCells}
 use borrow.Author.Needs.{needs}
 use Rattle.jeguarivo.proofs.jgv_corner_cells.Statement.{statement}
 use Rattle.jeguarivo.proofs.jgv_corner_cells.Tie as tie

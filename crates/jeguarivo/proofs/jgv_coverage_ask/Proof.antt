@@ -1,6 +1,6 @@
 -- `jgv_coverage_ask` meets its contract. Assumes nothing.
 use mathlib.Core.Path.{sym, ap, _∙_}
-use Rattle.jeguarivo.specs.Texts.{askNumbers}
+use Rattle.entries.specs.Texts.{askNumbers}
 use borrow.Author.Needs.{needs}
 use Rattle.jeguarivo.proofs.jgv_coverage_ask.Statement.{statement}
 use Rattle.jeguarivo.proofs.jgv_coverage_ask.Tie as tie

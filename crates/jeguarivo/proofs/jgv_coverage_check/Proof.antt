@@ -1,6 +1,6 @@
 -- `jgv_coverage_check` meets its contract. Assumes nothing.
 use mathlib.Core.Path.{sym, ap, _∙_}
-use Rattle.jeguarivo.specs.Texts.{checkNumbers}
+use Rattle.entries.specs.Texts.{checkNumbers}
 use native.Mathlib.Omega.{arith}
 use borrow.Author.Needs.{needs}
 use Rattle.jeguarivo.proofs.jgv_coverage_check.Statement.{statement}

@@ -1,6 +1,6 @@
 -- `jgv_coverage_list` meets its contract. Assumes nothing.
 use mathlib.Core.Path.{sym, ap, _∙_}
-use Rattle.jeguarivo.specs.Texts.{listNumbers}
+use Rattle.entries.specs.Texts.{listNumbers}
 use borrow.Author.Needs.{needs}
 use Rattle.jeguarivo.proofs.jgv_coverage_list.Statement.{statement}
 use Rattle.jeguarivo.proofs.jgv_coverage_list.Tie as tie

@@ -1,6 +1,6 @@
 -- `jgv_coverage_write` meets its contract. Assumes nothing.
 use mathlib.Core.Path.{sym, ap, _∙_}
-use Rattle.jeguarivo.specs.Texts.{writtenNumbers}
+use Rattle.entries.specs.Texts.{writtenNumbers}
 use borrow.Author.Needs.{needs}
 use Rattle.jeguarivo.proofs.jgv_coverage_write.Statement.{statement}
 use Rattle.jeguarivo.proofs.jgv_coverage_write.Tie as tie

@@ -8,7 +8,7 @@ use Rattle.cell.specs.declared.Arrangement.{Arrangement}
 use Rattle.code.specs.Code.{codeOf, coded}
 use Rattle.geodetic.specs.GeodeticFix.{zFor}
 use Rattle.geodetic.specs.Laws.GeodeticFix.{by-z}
-use Rattle.jeguarivo.specs.Entries.{arrangement, codeAnswer, fixCode, geodeticCode}
+use Rattle.entries.specs.Entries.{arrangement, codeAnswer, fixCode, geodeticCode}
 use native.Mathlib.Omega.{arith}
 use borrow.Author.Needs.{needs}
 use Rattle.jeguarivo.proofs.jgv_geodetic_code.Statement.{statement}

@@ -5,7 +5,7 @@ use Rattle.logic.specs.Refusal.{given}
 use Rattle.signed.specs.Laws.Sign.{back, back-as}
 use Rattle.authalic.specs.Authalic.{isGeodetic, sineRefusal}
 use Rattle.authalic.specs.Computed.{authalicSine}
-use Rattle.jeguarivo.specs.Entries.{geodeticZ}
+use Rattle.entries.specs.Entries.{geodeticZ}
 use borrow.Author.Needs.{needs}
 use Rattle.jeguarivo.proofs.jgv_geodetic_z.Statement.{statement}
 use Rattle.jeguarivo.proofs.jgv_geodetic_z.Tie as tie

@@ -2,7 +2,7 @@
 use mathlib.Core.Path.{ap, _∙_}
 use Rattle.signed.specs.Laws.Sign.{back-result}
 use Rattle.nucleus.specs.Nucleus.{groundNucleus}
-use Rattle.jeguarivo.specs.Entries.{groundFix, aFix, noFix}
+use Rattle.entries.specs.Entries.{groundFix, aFix, noFix}
 use Rattle.jeguarivo.proofs.Laws.{placed-stands, placed-value, placed-none}
 use borrow.Author.Needs.{needs}
 use Rattle.jeguarivo.proofs.jgv_ground_nucleus.Statement.{statement}

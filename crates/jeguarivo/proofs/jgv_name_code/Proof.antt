@@ -2,7 +2,7 @@
 use mathlib.Core.Path.{sym, ap, _∙_}
 use Rattle.logic.specs.Laws.Refusal.{stops}
 use Rattle.cell.specs.Laws.Cell.{is-arrangement}
-use Rattle.jeguarivo.specs.Entries.{codedAnswer, nameAnswer, codeAnswer}
+use Rattle.entries.specs.Entries.{codedAnswer, nameAnswer, codeAnswer}
 use Rattle.jeguarivo.proofs.Laws.{code-refused, next-code}
 use borrow.Author.Needs.{needs}
 use Rattle.jeguarivo.proofs.jgv_name_code.Statement.{statement}

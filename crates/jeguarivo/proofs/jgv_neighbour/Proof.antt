@@ -13,7 +13,7 @@ use Rattle.cell.specs.Neighbour.{neighbourOf}
 use Rattle.cell.specs.Laws.Neighbour.{neighbour-is-cell}
 use Rattle.code.specs.Code.{coded, codeOf, arrangementOf}
 use Rattle.code.specs.Laws.Decoded.{decoded, undecoded}
-use Rattle.jeguarivo.specs.Entries.{codeAnswer, neighbourCode}
+use Rattle.entries.specs.Entries.{codeAnswer, neighbourCode}
 use Rattle.jeguarivo.proofs.Laws.{code-refused, next-code, placed-stands}
 use borrow.Author.Needs.{needs}
 use Rattle.jeguarivo.proofs.jgv_neighbour.Statement.{statement}

@@ -2,7 +2,7 @@
 use mathlib.Core.Path.{ap, _∙_}
 use Rattle.signed.specs.Laws.Sign.{back-result}
 use Rattle.plane.specs.Plane.{nucleusOf}
-use Rattle.jeguarivo.specs.Entries.{cellNucleus, aPoint, noPoint}
+use Rattle.entries.specs.Entries.{cellNucleus, aPoint, noPoint}
 use Rattle.jeguarivo.proofs.Laws.{placed-stands, placed-value, placed-none}
 use borrow.Author.Needs.{needs}
 use Rattle.jeguarivo.proofs.jgv_nucleus.Statement.{statement}

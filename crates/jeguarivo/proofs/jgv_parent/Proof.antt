@@ -10,7 +10,7 @@ use Rattle.cell.specs.Hierarchy.{parentOf, parentRefusal}
 use Rattle.cell.specs.Laws.Hierarchy.{parent-is-cell}
 use Rattle.code.specs.Code.{codeOf, arrangementOf}
 use Rattle.code.specs.Laws.Decoded.{decoded, undecoded}
-use Rattle.jeguarivo.specs.Entries.{codeAnswer, parentCode}
+use Rattle.entries.specs.Entries.{codeAnswer, parentCode}
 use Rattle.jeguarivo.proofs.Laws.{four-first, code-refused, cell-next}
 use borrow.Author.Needs.{needs}
 use Rattle.jeguarivo.proofs.jgv_parent.Statement.{statement}

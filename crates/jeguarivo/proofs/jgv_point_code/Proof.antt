@@ -5,7 +5,7 @@ use Rattle.cell.specs.declared.Found.{Found}
 use Rattle.code.specs.Code.{foundCode}
 use Rattle.code.specs.Laws.Code.{found-placed}
 use Rattle.plane.specs.Laws.Plane.{point-allowed}
-use Rattle.jeguarivo.specs.Entries.{arrangement, codedAnswer, pointCode}
+use Rattle.entries.specs.Entries.{arrangement, codedAnswer, pointCode}
 use Rattle.jeguarivo.proofs.Laws.{found-code}
 use borrow.Author.Needs.{needs}
 use Rattle.jeguarivo.proofs.jgv_point_code.Statement.{statement}

@@ -2,7 +2,7 @@
 use mathlib.Core.Path.{sym, ap, _∙_}
 use Rattle.code.specs.Code.{cellOf}
 use Rattle.shape.specs.Shape.{shapeOf, shapeNumber}
-use Rattle.jeguarivo.specs.Entries.{cellShape}
+use Rattle.entries.specs.Entries.{cellShape}
 use Rattle.code.specs.Laws.Decoded.{decoded, undecoded}
 use Rattle.jeguarivo.proofs.Laws.{value-given, zero-given}
 use borrow.Author.Needs.{needs}

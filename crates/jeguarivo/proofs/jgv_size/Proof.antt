@@ -4,7 +4,7 @@ use borrow.Author.Needs.{needs}
 use borrow.Author.Tests.{not-true, not-false}
 use Rattle.code.specs.Code.{cellOf, sizeOf}
 use Rattle.code.specs.Laws.Code.{code-passes, code-stops}
-use Rattle.jeguarivo.specs.Entries.{cellSize}
+use Rattle.entries.specs.Entries.{cellSize}
 use Rattle.jeguarivo.proofs.Laws.{value-given, zero-given}
 use Rattle.jeguarivo.proofs.jgv_size.Statement.{statement}
 use Rattle.jeguarivo.proofs.jgv_size.Tie as tie

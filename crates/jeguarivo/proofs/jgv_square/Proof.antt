@@ -2,7 +2,7 @@
 use mathlib.Core.Path.{ap, _∙_}
 use Rattle.signed.specs.Laws.Sign.{back-result}
 use Rattle.plane.specs.Plane.{squareOf}
-use Rattle.jeguarivo.specs.Entries.{cellSquare, aSquare, noSquare}
+use Rattle.entries.specs.Entries.{cellSquare, aSquare, noSquare}
 use Rattle.jeguarivo.proofs.Laws.{placed-stands, placed-value, placed-none}
 use borrow.Author.Needs.{needs}
 use Rattle.jeguarivo.proofs.jgv_square.Statement.{statement}

@@ -1,7 +1,7 @@
 -- `jgv_vertices` meets its contract. Assumes nothing.
 use mathlib.Core.Path.{ap}
 use Rattle.plane.specs.Plane.{verticesOf}
-use Rattle.jeguarivo.specs.Entries.{cellVertices, theVertices, noVertices}
+use Rattle.entries.specs.Entries.{cellVertices, theVertices, noVertices}
 use Rattle.jeguarivo.proofs.Laws.{placed-stands, placed-value, placed-none}
 use borrow.Author.Needs.{needs}
 use Rattle.jeguarivo.proofs.jgv_vertices.Statement.{statement}

@@ -4,7 +4,7 @@ use Rattle.cell.specs.declared.Arrangement.{Arrangement}
 use Rattle.cell.specs.Cell.{IsArrangement}
 use Rattle.code.specs.Code.{codeOf, coded}
 use Rattle.code.specs.Laws.Code.{code-arranged}
-use Rattle.jeguarivo.specs.Entries.{codeAnswer}
+use Rattle.entries.specs.Entries.{codeAnswer}
 use borrow.Author.Needs.{needs}
 use Rattle.jeguarivo.proofs.kept.Statement.{statement}
 use Rattle.jeguarivo.proofs.kept.Tie as tie

@@ -38,12 +38,12 @@ use Rattle.asking.specs.Ask.{AllCovered, askRefusal, asked, anyWithin}
 use Rattle.asking.specs.Laws.Ask.{asked-exactly}
 use Rattle.writing.specs.Write.{allCodes, allOf, GoodList, codesRefusal, asksFor, isVersion, fitRefusal, writeRefusal, textOf, textIn, written}
 use Rattle.writing.specs.Laws.List.{good-list, list-good, codes-cells}
-use Rattle.jeguarivo.specs.Entries.{arrangement}
-use Rattle.jeguarivo.specs.Texts.{checkNumbers, listNumbers, askNumbers, writtenNumbers}
-use Rattle.jeguarivo.specs.Laws.First.{check-refusal, list-refusal, ask-refusal, write-refusal, asked-profile}
-use Rattle.jeguarivo.specs.declared.LengthAnswer.{LengthAnswer}
-use Rattle.jeguarivo.specs.declared.ListAnswer.{ListAnswer}
-use Rattle.jeguarivo.specs.declared.AskAnswer.{AskAnswer}
+use Rattle.entries.specs.Entries.{arrangement}
+use Rattle.entries.specs.Texts.{checkNumbers, listNumbers, askNumbers, writtenNumbers}
+use Rattle.entries.specs.Laws.First.{check-refusal, list-refusal, ask-refusal, write-refusal, asked-profile}
+use Rattle.entries.specs.declared.LengthAnswer.{LengthAnswer}
+use Rattle.entries.specs.declared.ListAnswer.{ListAnswer}
+use Rattle.entries.specs.declared.AskAnswer.{AskAnswer}
 
 -- ---- a profile by its version and depth
 

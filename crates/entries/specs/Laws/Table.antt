@@ -21,9 +21,9 @@ use Rattle.reading.specs.Place.{placeOf}
 use Rattle.reading.specs.Heading.{lead}
 use Rattle.reading.specs.TextReading.{isText, toEnd, readText}
 use Rattle.reader.specs.Check.{textRefusal, checkedOf}
-use Rattle.jeguarivo.specs.Entries.{arrangement, fixCode, pointCode, neighbourCode, codeAnswer}
-use Rattle.jeguarivo.specs.Texts.{checkNumbers}
-use Rattle.jeguarivo.specs.declared.CodeAnswer.{CodeAnswer}
+use Rattle.entries.specs.Entries.{arrangement, fixCode, pointCode, neighbourCode, codeAnswer}
+use Rattle.entries.specs.Texts.{checkNumbers}
+use Rattle.entries.specs.declared.CodeAnswer.{CodeAnswer}
 
 -- A line of the table. Names and bodies are bytes; n, s, k, then what is asked, then what 01 says.
 pub data Line : Type 0 where

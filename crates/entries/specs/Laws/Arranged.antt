@@ -43,18 +43,18 @@ use Rattle.listing.specs.List.{listingRefusal}
 use Rattle.asking.specs.Ask.{askRefusal}
 use Rattle.writing.specs.Write.{allCodes, allOf}
 use Rattle.writing.specs.Laws.List.{good-list}
-use Rattle.jeguarivo.specs.declared.SquareAnswer.{SquareAnswer}
-use Rattle.jeguarivo.specs.declared.PointAnswer.{PointAnswer}
-use Rattle.jeguarivo.specs.declared.VerticesAnswer.{VerticesAnswer}
-use Rattle.jeguarivo.specs.declared.FixAnswer.{FixAnswer}
-use Rattle.jeguarivo.specs.declared.CodeAnswer.{CodeAnswer}
-use Rattle.jeguarivo.specs.declared.CellAnswer.{CellAnswer}
-use Rattle.jeguarivo.specs.Entries.{arrangement, codeAnswer, codeOfCell, nameAnswer, parentCode, childCode, neighbourCode, pointCode, fixCode, cellNumbers, codeCell}
-use Rattle.jeguarivo.specs.Entries.{nameNumbers, writtenName, placedAnswer, cellSquare, cellNucleus, cellVertices, groundFix, aSquare, noSquare, aPoint, noPoint}
-use Rattle.jeguarivo.specs.Entries.{theVertices, noVertices, aFix, noFix, geodeticCode}
-use Rattle.jeguarivo.specs.Texts.{checkNumbers}
-use Rattle.jeguarivo.specs.Laws.First.{list-refusal, ask-refusal}
-use Rattle.jeguarivo.specs.Laws.Texts.{writeAnswer, turned, listed-good, listAnswer, listedCodes, relisted, askAnswer}
+use Rattle.entries.specs.declared.SquareAnswer.{SquareAnswer}
+use Rattle.entries.specs.declared.PointAnswer.{PointAnswer}
+use Rattle.entries.specs.declared.VerticesAnswer.{VerticesAnswer}
+use Rattle.entries.specs.declared.FixAnswer.{FixAnswer}
+use Rattle.entries.specs.declared.CodeAnswer.{CodeAnswer}
+use Rattle.entries.specs.declared.CellAnswer.{CellAnswer}
+use Rattle.entries.specs.Entries.{arrangement, codeAnswer, codeOfCell, nameAnswer, parentCode, childCode, neighbourCode, pointCode, fixCode, cellNumbers, codeCell}
+use Rattle.entries.specs.Entries.{nameNumbers, writtenName, placedAnswer, cellSquare, cellNucleus, cellVertices, groundFix, aSquare, noSquare, aPoint, noPoint}
+use Rattle.entries.specs.Entries.{theVertices, noVertices, aFix, noFix, geodeticCode}
+use Rattle.entries.specs.Texts.{checkNumbers}
+use Rattle.entries.specs.Laws.First.{list-refusal, ask-refusal}
+use Rattle.entries.specs.Laws.Texts.{writeAnswer, turned, listed-good, listAnswer, listedCodes, relisted, askAnswer}
 
 -- ---- an answer that is not refused
 

@@ -2,7 +2,7 @@
 use mathlib.Core.Path.{_≡_}
 use Prim.Native.Nat.{ℕ, _<_}
 use Rattle.code.specs.Code.{cellOf}
-use Rattle.jeguarivo.specs.Entries.{neighbourCode}
+use Rattle.entries.specs.Entries.{neighbourCode}
 
 -- the code that jgv_neighbour answers
 abbrev pub neighbourAt : (code direction : ℕ) → ℕ

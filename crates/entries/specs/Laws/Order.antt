@@ -12,7 +12,7 @@ use borrow.Author.Tests.{ltb-true, ltb-false, leb-true, leb-false, eqb-true, eqb
 use Rattle.logic.specs.Laws.Bools.{and-left, and-right, clash}
 use Rattle.logic.specs.Refusal.{refuse, _otherwise_}
 use Rattle.logic.specs.Laws.Refusal.{stops, passes}
-use Rattle.jeguarivo.specs.Order.{Chain, numbers, First, FirstOf, Choice, Applies, NoneOf, absent, distinct}
+use Rattle.entries.specs.Order.{Chain, numbers, First, FirstOf, Choice, Applies, NoneOf, absent, distinct}
 
 -- ---- a test and its condition
 

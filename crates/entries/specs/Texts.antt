@@ -10,10 +10,10 @@ use Rattle.asking.specs.declared.Asked.{Asked}
 use Rattle.asking.specs.declared.Asked.the-variants as asked
 use Rattle.writing.specs.declared.Written.{Written}
 use Rattle.writing.specs.declared.Written.the-variants as written
-use Rattle.jeguarivo.specs.declared.LengthAnswer.{LengthAnswer}
-use Rattle.jeguarivo.specs.declared.CheckAnswer.{CheckAnswer}
-use Rattle.jeguarivo.specs.declared.ListAnswer.{ListAnswer}
-use Rattle.jeguarivo.specs.declared.AskAnswer.{AskAnswer}
+use Rattle.entries.specs.declared.LengthAnswer.{LengthAnswer}
+use Rattle.entries.specs.declared.CheckAnswer.{CheckAnswer}
+use Rattle.entries.specs.declared.ListAnswer.{ListAnswer}
+use Rattle.entries.specs.declared.AskAnswer.{AskAnswer}
 
 -- the heading's version, depth, n and s, "the number of whole cells in the reading and the sum of their sizes"
 abbrev pub checkNumbers : Checked → CheckAnswer

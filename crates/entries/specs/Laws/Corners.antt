@@ -24,9 +24,9 @@ use Rattle.code.specs.Laws.Code.{a-code, code-passes, code-is-cell, code-arrang
 use Rattle.corner.specs.Corner.{MeetsAtCorner, cornerNumber}
 use Rattle.corner.specs.List.{codesAt, cornersRefusal, cornered, inFront, cornerMemory}
 use Rattle.corner.specs.Laws.List.{corners-rise, corners-count, code-listed}
-use Rattle.jeguarivo.specs.Entries.{codeAnswer, neighbourCode, cornerCount, cornerNumbers, cornerCells}
-use Rattle.jeguarivo.specs.Corners.{neighbourAt, ByNeighbours}
-use Rattle.jeguarivo.specs.Laws.First.{corners-refusal}
+use Rattle.entries.specs.Entries.{codeAnswer, neighbourCode, cornerCount, cornerNumbers, cornerCells}
+use Rattle.entries.specs.Corners.{neighbourAt, ByNeighbours}
+use Rattle.entries.specs.Laws.First.{corners-refusal}
 
 -- ---- what jgv_neighbour answers is the code of the neighbour
 

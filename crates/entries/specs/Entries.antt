@@ -33,17 +33,17 @@ use Rattle.corner.specs.declared.Cornered.{Cornered}
 use Rattle.corner.specs.declared.Cornered.the-variants as cornered-as
 use Rattle.corner.specs.Corner.{cornerNumber}
 use Rattle.corner.specs.List.{codesAt, cornersRefusal, cornered}
-use Rattle.jeguarivo.specs.declared.CodeAnswer.{CodeAnswer}
-use Rattle.jeguarivo.specs.declared.CellAnswer.{CellAnswer}
-use Rattle.jeguarivo.specs.declared.NameAnswer.{NameAnswer}
-use Rattle.jeguarivo.specs.declared.SizeAnswer.{SizeAnswer}
-use Rattle.jeguarivo.specs.declared.ShapeAnswer.{ShapeAnswer}
-use Rattle.jeguarivo.specs.declared.CountAnswer.{CountAnswer}
-use Rattle.jeguarivo.specs.declared.SquareAnswer.{SquareAnswer}
-use Rattle.jeguarivo.specs.declared.PointAnswer.{PointAnswer}
-use Rattle.jeguarivo.specs.declared.FixAnswer.{FixAnswer}
-use Rattle.jeguarivo.specs.declared.ZAnswer.{ZAnswer}
-use Rattle.jeguarivo.specs.declared.VerticesAnswer.{VerticesAnswer}
+use Rattle.entries.specs.declared.CodeAnswer.{CodeAnswer}
+use Rattle.entries.specs.declared.CellAnswer.{CellAnswer}
+use Rattle.entries.specs.declared.NameAnswer.{NameAnswer}
+use Rattle.entries.specs.declared.SizeAnswer.{SizeAnswer}
+use Rattle.entries.specs.declared.ShapeAnswer.{ShapeAnswer}
+use Rattle.entries.specs.declared.CountAnswer.{CountAnswer}
+use Rattle.entries.specs.declared.SquareAnswer.{SquareAnswer}
+use Rattle.entries.specs.declared.PointAnswer.{PointAnswer}
+use Rattle.entries.specs.declared.FixAnswer.{FixAnswer}
+use Rattle.entries.specs.declared.ZAnswer.{ZAnswer}
+use Rattle.entries.specs.declared.VerticesAnswer.{VerticesAnswer}
 
 abbrev cell : ℕ → ℕ → ℕ → ℕ → Cell
 cell face resolution row column = record { face = face; resolution = resolution; row = row; column = column }

@@ -20,10 +20,10 @@ use Rattle.reading.specs.TextReading.{nodesOf, profileOf, northOf, southOf, isT
 use Rattle.reading.specs.Written.{tails, anyEnds, nodeOf, side, built, writtenText, fitting}
 use Rattle.reader.specs.Check.{otherVersion, textRefusal, checkedOf}
 use Rattle.writing.specs.Write.{allCodes, allOf, ordered, codesRefusal, isVersion, fitRefusal, writeRefusal, textOf, textIn, written}
-use Rattle.jeguarivo.specs.Entries.{arrangement}
-use Rattle.jeguarivo.specs.Texts.{checkNumbers}
-use Rattle.jeguarivo.specs.Laws.Texts.{writeAnswer, writtenBytes}
-use Rattle.jeguarivo.specs.declared.CheckAnswer.{CheckAnswer}
+use Rattle.entries.specs.Entries.{arrangement}
+use Rattle.entries.specs.Texts.{checkNumbers}
+use Rattle.entries.specs.Laws.Texts.{writeAnswer, writtenBytes}
+use Rattle.entries.specs.declared.CheckAnswer.{CheckAnswer}
 
 -- ---- checking
 

@@ -18,7 +18,7 @@ use Rattle.authalic.specs.Laws.Authalic.{authalic, geodetic-tests, geodetic-ran
 use Rattle.geodetic.specs.GeodeticFix.{geodeticCell}
 use Rattle.geodetic.specs.Laws.GeodeticFix.{same-refusal}
 use Rattle.code.specs.Code.{codeOf}
-use Rattle.jeguarivo.specs.Entries.{arrangement, codeAnswer, fixCode, geodeticZ, geodeticCode}
+use Rattle.entries.specs.Entries.{arrangement, codeAnswer, fixCode, geodeticZ, geodeticCode}
 
 -- what jgv_geodetic_z answers beside its refusal
 abbrev pub zOf : (S : ℤ) (E : ℕ) → ℤ

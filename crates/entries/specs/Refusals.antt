@@ -23,8 +23,8 @@ use Rattle.reading.specs.Laws.Written.{TextOf}
 use Rattle.reader.specs.Check.{WrongVersion}
 use Rattle.listing.specs.List.{codesOf}
 use Rattle.writing.specs.Write.{Another, asksFor, textOf}
-use Rattle.jeguarivo.specs.Entries.{arrangement}
-use Rattle.jeguarivo.specs.Order.{Chain}
+use Rattle.entries.specs.Entries.{arrangement}
+use Rattle.entries.specs.Order.{Chain}
 
 -- ---- conditions that take more than a line
 

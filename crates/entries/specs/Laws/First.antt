@@ -53,20 +53,20 @@ use Rattle.asking.specs.Ask.{askRefusal, asked}
 use Rattle.writing.specs.Write.{allCodes, allOf, Another, ordered, codesRefusal, asksFor, isVersion, fitRefusal, writeRefusal, textOf, written}
 use Rattle.writing.specs.Laws.List.{codes-cells, tested, good-list, list-good}
 use Rattle.nucleus.specs.Nucleus.{groundNucleus}
-use Rattle.jeguarivo.specs.declared.SquareAnswer.{SquareAnswer}
-use Rattle.jeguarivo.specs.declared.PointAnswer.{PointAnswer}
-use Rattle.jeguarivo.specs.declared.VerticesAnswer.{VerticesAnswer}
-use Rattle.jeguarivo.specs.declared.FixAnswer.{FixAnswer}
-use Rattle.jeguarivo.specs.Entries.{arrangement, codeAnswer, codeOfCell, nameAnswer, parentCode, childCode, pointCode, fixCode, geodeticCode, neighbourCode}
-use Rattle.jeguarivo.specs.Entries.{codeCell, cellNumbers, nameNumbers, writtenName, cellSize, cellShape, cornerCount, placedAnswer, cellSquare, cellNucleus}
-use Rattle.jeguarivo.specs.Entries.{cellVertices, groundFix, aSquare, noSquare, aPoint, noPoint, theVertices, noVertices, aFix, noFix, geodeticZ, cornerNumbers}
-use Rattle.jeguarivo.specs.Entries.{cornerCells}
-use Rattle.jeguarivo.specs.Texts.{checkNumbers, listNumbers, askNumbers, writtenNumbers}
-use Rattle.jeguarivo.specs.Order.{Chain, NoneOf, FirstOf}
-use Rattle.jeguarivo.specs.Laws.Order.{Decides, last, then, twice, lt-decides, le-decides, eq-decides, ltZ-decides, leZ-decides, not-decides, and-decides, or-decides}
-use Rattle.jeguarivo.specs.Refusals.{NoLetter, NoDigit, OnImage, arrangementTests, codeTests, textTests, cellTests, nameTests, codeNameTests}
-use Rattle.jeguarivo.specs.Refusals.{cornersTests, parentTests, childTests, pointTests, fixTests, neighbourTests, turnsOf, listTests, askTests, writeTests, zTests}
-use Rattle.jeguarivo.specs.Refusals.{geodeticTests}
+use Rattle.entries.specs.declared.SquareAnswer.{SquareAnswer}
+use Rattle.entries.specs.declared.PointAnswer.{PointAnswer}
+use Rattle.entries.specs.declared.VerticesAnswer.{VerticesAnswer}
+use Rattle.entries.specs.declared.FixAnswer.{FixAnswer}
+use Rattle.entries.specs.Entries.{arrangement, codeAnswer, codeOfCell, nameAnswer, parentCode, childCode, pointCode, fixCode, geodeticCode, neighbourCode}
+use Rattle.entries.specs.Entries.{codeCell, cellNumbers, nameNumbers, writtenName, cellSize, cellShape, cornerCount, placedAnswer, cellSquare, cellNucleus}
+use Rattle.entries.specs.Entries.{cellVertices, groundFix, aSquare, noSquare, aPoint, noPoint, theVertices, noVertices, aFix, noFix, geodeticZ, cornerNumbers}
+use Rattle.entries.specs.Entries.{cornerCells}
+use Rattle.entries.specs.Texts.{checkNumbers, listNumbers, askNumbers, writtenNumbers}
+use Rattle.entries.specs.Order.{Chain, NoneOf, FirstOf}
+use Rattle.entries.specs.Laws.Order.{Decides, last, then, twice, lt-decides, le-decides, eq-decides, ltZ-decides, leZ-decides, not-decides, and-decides, or-decides}
+use Rattle.entries.specs.Refusals.{NoLetter, NoDigit, OnImage, arrangementTests, codeTests, textTests, cellTests, nameTests, codeNameTests}
+use Rattle.entries.specs.Refusals.{cornersTests, parentTests, childTests, pointTests, fixTests, neighbourTests, turnsOf, listTests, askTests, writeTests, zTests}
+use Rattle.entries.specs.Refusals.{geodeticTests}
 
 -- ---- what the tests decide
 

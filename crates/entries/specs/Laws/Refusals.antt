@@ -31,16 +31,16 @@ use Rattle.writing.specs.Write.{Another, asksFor, writeRefusal, textOf, written
 use Rattle.locate.specs.Fix.{InRange}
 use Rattle.authalic.specs.Authalic.{Geodetic}
 use Rattle.geodetic.specs.GeodeticFix.{GeodeticRange}
-use Rattle.jeguarivo.specs.Entries.{arrangement, codeOfCell, nameAnswer, parentCode, childCode, pointCode, fixCode, neighbourCode, codeCell, writtenName}
-use Rattle.jeguarivo.specs.Entries.{cellSquare, geodeticZ, geodeticCode, cornerCells}
-use Rattle.jeguarivo.specs.Texts.{checkNumbers, listNumbers, askNumbers, writtenNumbers}
-use Rattle.jeguarivo.specs.Order.{order, orderInWriting, numbers, inOrder, NoneOf}
-use Rattle.jeguarivo.specs.Laws.Order.{given-exactly, none-exactly}
-use Rattle.jeguarivo.specs.Refusals.{NoLetter, NoDigit, OnImage, codeTests, textTests, cellTests, nameTests, codeNameTests, parentTests, childTests}
-use Rattle.jeguarivo.specs.Refusals.{cornersTests, pointTests, fixTests, neighbourTests, turnsOf, listTests, askTests, writeTests, zTests, geodeticTests}
-use Rattle.jeguarivo.specs.Laws.First.{name-refusal, cell-code-first, name-code-first, point-code-first, fix-code-first, neighbour-first, parent-first}
-use Rattle.jeguarivo.specs.Laws.First.{child-first, code-cell-first, code-name-first, corners-first, square-first, check-first, list-first, ask-first, write-first}
-use Rattle.jeguarivo.specs.Laws.First.{of-grammar, of-order, of-version, asked-profile, of-profile, z-first, geodetic-code-first, text-allowed}
+use Rattle.entries.specs.Entries.{arrangement, codeOfCell, nameAnswer, parentCode, childCode, pointCode, fixCode, neighbourCode, codeCell, writtenName}
+use Rattle.entries.specs.Entries.{cellSquare, geodeticZ, geodeticCode, cornerCells}
+use Rattle.entries.specs.Texts.{checkNumbers, listNumbers, askNumbers, writtenNumbers}
+use Rattle.entries.specs.Order.{order, orderInWriting, numbers, inOrder, NoneOf}
+use Rattle.entries.specs.Laws.Order.{given-exactly, none-exactly}
+use Rattle.entries.specs.Refusals.{NoLetter, NoDigit, OnImage, codeTests, textTests, cellTests, nameTests, codeNameTests, parentTests, childTests}
+use Rattle.entries.specs.Refusals.{cornersTests, pointTests, fixTests, neighbourTests, turnsOf, listTests, askTests, writeTests, zTests, geodeticTests}
+use Rattle.entries.specs.Laws.First.{name-refusal, cell-code-first, name-code-first, point-code-first, fix-code-first, neighbour-first, parent-first}
+use Rattle.entries.specs.Laws.First.{child-first, code-cell-first, code-name-first, corners-first, square-first, check-first, list-first, ask-first, write-first}
+use Rattle.entries.specs.Laws.First.{of-grammar, of-order, of-version, asked-profile, of-profile, z-first, geodetic-code-first, text-allowed}
 
 -- ---- "Order where several apply"
 

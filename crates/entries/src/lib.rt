@@ -1,0 +1,110 @@
+// What the public entries answer: a struct for each shape of answer, `refusal` first. The definitions and laws of the answers are in specs/.
+#[repr(C)]
+pub struct CodeAnswer {
+    pub refusal: u64,
+    pub code: u64,
+}
+
+#[repr(C)]
+pub struct CellAnswer {
+    pub refusal: u64,
+    pub n: u64,
+    pub s: u64,
+    pub face: u64,
+    pub resolution: u64,
+    pub row: u64,
+    pub column: u64,
+}
+
+#[repr(C)]
+pub struct NameAnswer {
+    pub refusal: u64,
+    pub n: u64,
+    pub s: u64,
+    pub length: u64,
+}
+
+#[repr(C)]
+pub struct LengthAnswer {
+    pub refusal: u64,
+    pub length: u64,
+}
+
+#[repr(C)]
+pub struct SizeAnswer {
+    pub refusal: u64,
+    pub size: u64,
+}
+
+#[repr(C)]
+pub struct ShapeAnswer {
+    pub refusal: u64,
+    pub shape: u64,
+}
+
+#[repr(C)]
+pub struct CountAnswer {
+    pub refusal: u64,
+    pub count: u64,
+}
+
+#[repr(C)]
+pub struct SquareAnswer {
+    pub refusal: u64,
+    pub left: i64,
+    pub top: i64,
+    pub side: i64,
+}
+
+#[repr(C)]
+pub struct PointAnswer {
+    pub refusal: u64,
+    pub x: i64,
+    pub y: i64,
+}
+
+#[repr(C)]
+pub struct ZAnswer {
+    pub refusal: u64,
+    pub z: i64,
+}
+
+#[repr(C)]
+pub struct FixAnswer {
+    pub refusal: u64,
+    pub longitude: i64,
+    pub z: i64,
+}
+
+#[repr(C)]
+pub struct VerticesAnswer {
+    pub refusal: u64,
+    pub x: [i64; 4],
+    pub y: [i64; 4],
+}
+
+#[repr(C)]
+pub struct CheckAnswer {
+    pub refusal: u64,
+    pub place: u64,
+    pub version: u64,
+    pub depth: u64,
+    pub n: u64,
+    pub s: u64,
+    pub cells: u64,
+    pub size: u64,
+}
+
+#[repr(C)]
+pub struct ListAnswer {
+    pub refusal: u64,
+    pub place: u64,
+    pub count: u64,
+}
+
+#[repr(C)]
+pub struct AskAnswer {
+    pub refusal: u64,
+    pub place: u64,
+    pub covered: u64,
+}
