@@ -24,7 +24,8 @@ use Rattle.comparing.specs.declared.Cursor.{Cursor}
 use Rattle.comparing.specs.declared.Read.{Read}
 use Rattle.comparing.specs.declared.Compared.{Compared}
 use Rattle.comparing.specs.declared.Compared.the-variants.{Listings, Refused}
-use Rattle.comparing.specs.Compare.{firstOnly, secondOnly, inBoth, ThreeLists, codesFor, sharedCodes, arrangementsDiffer, roomShort, compareRefusal, comparePlace, compared, withCodes, Compares}
+use Rattle.comparing.specs.Compare.{firstOnly, secondOnly, inBoth, ThreeLists, codesFor, sharedCodes, withCodes, Compares}
+use Rattle.comparing.specs.Compare.{arrangementsDiffer, roomShort, compareRefusal, comparePlace, compared}
 use Rattle.comparing.specs.Laws.Compare.{first-tie, second-tie}
 use Rattle.comparing.specs.Internal.Found.{WasRead, TextsMeasured, TextsFound, tiedUp}
 

@@ -1,7 +1,6 @@
 -- What each step of the comparison finds: a cell with no list, a cell looked into, and one child after the other. Assumes nothing.
 use mathlib.Core.Path.{_≡_, refl, sym, ap, ap₂, _∙_}
-use mathlib.Core.Bool.{Bool, true, false, _&&_, cond}
-use mathlib.Core.Logic.{_⊎_, ⊎-elim}
+use mathlib.Core.Bool.{Bool, true, false, cond}
 use mathlib.Core.List.{List, [], _∷_, _++_, map, map-append}
 use Prim.Native.Nat.{ℕ, suc, _+_, _-_, _*_, _^_, _≤_, _<_}
 use native.Mathlib.Nat.{pow-suc, suc-mul}
@@ -10,7 +9,6 @@ use lib.ListN.{length, drop, length-append, length-map}
 use lib.Dec.{eqb}
 use lib.Seq.{sets}
 use Rattle.logic.specs.Laws.Bools.{by-cond, clash, or-right}
-use Rattle.logic.specs.Laws.Order.{lt-or}
 use Rattle.logic.specs.Laws.Stores.{sets-append}
 use Rattle.ternary.specs.Laws.Powers.{nine-le, nine-add}
 use Rattle.cell.specs.declared.Arrangement.{Arrangement}
@@ -25,8 +23,8 @@ use Rattle.comparing.specs.declared.Child.{Child}
 use Rattle.comparing.specs.declared.Cursor.{Cursor}
 use Rattle.comparing.specs.Shared.{Portion, none, all, some, portionNumber, ofChild, pastChild, divides, divided, wanted, holding, nodeShared, sideShared, belowShared}
 use Rattle.comparing.specs.Compare.{ThreeLists, lists}
-use Rattle.comparing.specs.Internal.Portions.{GoodPortion, GoodInside, child-good, past-good, inside-good, inside-room}
-use Rattle.comparing.specs.Internal.Found.{bytes, closing, StopAt, pastOf, ChildIs, spotsAt, spotsFrom, sizesOf, Adds, AddsAll, Found, weight, CellFound, NodeFound, ListFound}
+use Rattle.comparing.specs.Internal.Portions.{GoodPortion, child-good, past-good, inside-good, inside-room}
+use Rattle.comparing.specs.Internal.Found.{bytes, closing, StopAt, pastOf, ChildIs, spotsAt, spotsFrom, sizesOf, Adds, AddsAll, weight, CellFound, NodeFound, ListFound}
 use Rattle.comparing.proofs.Children.{past-closed, closing-stops}
 use Rattle.comparing.proofs.Cells.{adds-none}
 

@@ -1,6 +1,5 @@
 -- What is found of two accepted texts, from their bodies on, is the three listings. Assumes nothing.
 use mathlib.Core.Path.{_≡_, refl, sym, ap, _∙_}
-use mathlib.Core.Bool.{true}
 use mathlib.Core.List.{List, [], _∷_, map, append-nil}
 use Prim.Native.Nat.{ℕ, _+_, _-_, _^_, _≤_}
 use native.Mathlib.Omega.{arith}
@@ -11,12 +10,11 @@ use Rattle.cell.specs.declared.Arrangement.{Arrangement}
 use Rattle.code.specs.Code.{codeOf, sizeOf}
 use Rattle.reading.specs.declared.Level.the-variants.{Faces}
 use Rattle.reading.specs.Reading.{Nodes, render, Good}
-use Rattle.reading.specs.Ground.{wholeCells, Cells, sizeSum}
-use Rattle.reading.specs.TextReading.{nodesOf, textArrangement, isText, bodyStart}
+use Rattle.reading.specs.Ground.{wholeCells, sizeSum}
+use Rattle.reading.specs.TextReading.{nodesOf}
 use Rattle.reading.specs.Laws.Demand.{good-reads, good-cells}
 use Rattle.reading.specs.Laws.Fewest.{names-good}
 use Rattle.reading.specs.Laws.TextReading.{good-nodes, body-nodes}
-use Rattle.walk.specs.declared.Spot.{Spot}
 use Rattle.walk.specs.Walk.{spotOf, spotsIn}
 use Rattle.walk.specs.Laws.Walk.{spots-cells}
 use Rattle.listing.specs.Laws.List.{spotCode, spot-codes}

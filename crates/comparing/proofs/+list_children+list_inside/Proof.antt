@@ -1,4 +1,5 @@
--- Assumes nothing.
+-- The proof of the cycle of calls {list_children, list_inside}. The measures are twice the resolutions that are left, and one more for the children. What
+-- each finds is said by the laws of Steps. Assumes nothing.
 use native.Mathlib.Omega.{arith}
 use borrow.Author.Needs.{needs}
 use Prim.Native.Nat.{ℕ, _+_, _-_, _*_, _^_, _<_}
@@ -64,7 +65,9 @@ list-children-μ-loop first second x y arrangement left byte resolution number f
     more
 
 list-children-loop-holds : (t : ℕ) → list-children-lts.Need-loop-holds (for-children t) (list-children-at t) list-children.Post list-children-Inv-loop list-children-μ-loop
-list-children-loop-holds t c = let p = c .before .before .before .before .before .pre .1 .1 in record { rest = λ later r l. l; named = p .2; numbered = p .3; light = p .4; firsts = refl; seconds = refl; boths = refl }
+list-children-loop-holds t c =
+    let p = c .before .before .before .before .before .pre .1 .1 in
+    record { rest = λ later r l. l; named = p .2; numbered = p .3; light = p .4; firsts = refl; seconds = refl; boths = refl }
 
 list-children-child-at-requires : (t : ℕ) → list-children-lts.Need-child-at-requires (for-children t) (list-children-at t) list-children.Post list-children-Inv-loop list-children-μ-loop
 list-children-child-at-requires t c κs = search needs

@@ -23,19 +23,26 @@ enum-known-north : tie.Need-enum-known-north
 enum-known-north c = search needs
 
 returns : tie.Need-returns
-returns c = other-north (c .before .before .before .before .before .before .before .before .before .before .before .before .pre) (read-in (c .before .before .before .before)) (c .if1 .taken)
+returns c =
+    let r = c .before .before .before .before in
+    other-north (r .before .before .before .before .before .before .before .before .pre) (read-in r) (c .if1 .taken)
 
 returns-2 : tie.Need-returns-2
-returns-2 c = other-south (c .before .before .before .before .before .before .before .before .before .before .before .before .before .before .pre) (read-in (c .before .before .before .before .before .before)) (c .if2 .taken)
+returns-2 c =
+    let r = c .before .before .before .before .before .before in
+    other-south (r .before .before .before .before .before .before .before .before .pre) (read-in r) (c .if2 .taken)
 
 list-both-requires : tie.Need-list-both-requires
 list-both-requires c κs =
-    let p = c .before .before .before .before .before .before .before .before .before .before .before .before .before .before .before .before .before .pre in
-    let r = read-in (c .before .before .before .before .before .before .before .before .before) in
+    let w = c .before .before .before .before .before .before .before .before .before in
+    let p = w .before .before .before .before .before .before .before .before .pre in
+    let r = read-in w in
     (p, was-read r, same-arrangement p r (c .before .before .before .before .before .if1 .left) (c .before .before .before .if2 .left))
 
 returns-3 : tie.Need-returns-3
-returns-3 c = second-refused (c .before .before .before .before .before .before .before .before .before .pre .allowed) (text-refused _ (sym (c .before .refusal .given .1) ∙ c .before .before .before .check .ensures))
+returns-3 c =
+    let k = c .before .before .before in
+    second-refused (k .before .before .before .before .before .before .pre .allowed) (text-refused _ (sym (c .before .refusal .given .1) ∙ k .check .ensures))
 
 same-length : tie.Need-same-length
 same-length c = c .before .before .before .before .before .firsts .given

@@ -12,15 +12,19 @@ is-short-requires : tie.Need-is-short-requires
 is-short-requires c κs = search needs
 
 returns : tie.Need-returns
-returns c = let p = c .before .before .before .before .before .before .before .before .pre in room-short (p .0) (p .1) (p .2) (c .before .before .measure-texts .ensures) (c .before .is-short .ensures) (c .if1 .taken)
+returns c =
+    let m = c .before .before in
+    let p = m .before .before .before .before .before .before .pre in
+    room-short (p .0) (p .1) (p .2) (m .measure-texts .ensures) (c .before .is-short .ensures) (c .if1 .taken)
 
 list-texts-requires : tie.Need-list-texts-requires
 list-texts-requires c κs = let p = c .before .before .before .before .before .before .before .before .before .before .before .pre in (p .0, p .1)
 
 listings-requires : tie.Need-listings-requires
 listings-requires c κs =
-    let p = c .before .before .before .before .before .before .before .before .before .before .before .before .before .before .before .before .before .before .pre in
-    let t = ties (p .0) (p .1) (p .2) (c .before .before .before .before .before .before .before .before .before .before .before .before .measure-texts .ensures) in
+    let m = c .before .before .before .before .before .before .before .before .before .before .before .before in
+    let p = m .before .before .before .before .before .before .pre in
+    let t = ties (p .0) (p .1) (p .2) (m .measure-texts .ensures) in
     (omega (arith, t .0), omega (arith, t .1))
 
 same-length : tie.Need-same-length
@@ -34,10 +38,11 @@ same-length-3 c = c .before .before .boths .given
 
 returns-2 : tie.Need-returns-2
 returns-2 c =
-    let p = c .before .before .before .before .before .before .before .before .before .before .before .before .before .before .before .before .before .before .before .pre in
-    let m = c .before .before .before .before .before .before .before .before .before .before .before .before .before in
-    all-listed (p .0) (p .1) (p .2) (m .measure-texts .ensures) (c .before .before .before .before .before .before .before .before .before .before .before .before .is-short .ensures) (c .before .before .before .before .before .before .before .before .before .before .before .if1 .left)
-    (c .before .before .before .before .before .before .before .list-texts .ensures) (c .listings .ensures)
+    let l = c .before .before .before .before .before .before .before in
+    let o = l .before .before .before .before in
+    let m = o .before .before in
+    let p = m .before .before .before .before .before .before .pre in
+    all-listed (p .0) (p .1) (p .2) (m .measure-texts .ensures) (o .before .is-short .ensures) (o .if1 .left) (l .list-texts .ensures) (c .listings .ensures)
 
 pub list-both-spec : {M : Type 1} → statement M
 list-both-spec =

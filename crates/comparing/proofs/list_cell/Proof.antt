@@ -1,5 +1,4 @@
 -- `comparing::list_cell` meets its contract: each branch stores one code, or none. Assumes nothing.
-use native.Mathlib.Omega.{arith}
 use borrow.Author.Needs.{needs}
 use Rattle.comparing.proofs.Cells.{cell-none, cell-first, cell-second, cell-both}
 use Rattle.comparing.proofs.list_cell.Statement.{statement}

@@ -22,7 +22,10 @@ same-length-3 : tie.Need-same-length-3
 same-length-3 c = c .before .boths .given
 
 returns : tie.Need-returns
-returns c = let p = c .before .before .before .before .before .before .before .before .before .before .before .before .before .before .before .before .pre in texts-found (p .0) (p .1) (c .before .before .before .before .before .before .list-children .ensures)
+returns c =
+    let l = c .before .before .before .before .before .before in
+    let p = l .before .before .before .before .before .before .before .before .before .before .pre in
+    texts-found (p .0) (p .1) (l .list-children .ensures)
 
 pub list-texts-spec : {M : Type 1} → statement M
 list-texts-spec =

@@ -1,20 +1,20 @@
 -- The nodes of what two readings share cover exactly that ground. Assumes nothing.
 use mathlib.Core.Path.{_≡_, refl, sym, ap, _∙_}
-use mathlib.Core.Bool.{Bool, true, false, _&&_, _||_, cond}
+use mathlib.Core.Bool.{Bool, true, false, _&&_, _||_}
 use mathlib.Core.Logic.{_⊎_, inl, inr, ⊎-elim}
-use mathlib.Core.List.{List, [], _∷_}
+use mathlib.Core.List.{[], _∷_}
 use Prim.Native.Nat.{ℕ, zero, suc, _+_, _-_, _≤_, _<_}
 use native.Mathlib.Omega.{arith}
 use lib.Dec.{eqb}
 use borrow.Author.Tests.{eqb-true, eqb-false, eq-eqb}
 use Rattle.logic.specs.Laws.Order.{lt-or}
-use Rattle.logic.specs.Laws.Bools.{by-cond, clash, and-left, and-right}
+use Rattle.logic.specs.Laws.Bools.{by-cond, clash, and-left, and-right, or-left, or-right}
 use Rattle.reading.specs.declared.Level.{Level}
 use Rattle.reading.specs.declared.Level.the-variants.{Faces, Digits}
-use Rattle.reading.specs.Reading.{Nodes, end, whole, listed, many, room, wholes, Some, Good, names}
-use Rattle.reading.specs.Laws.Reading.{eq-or, room-le}
+use Rattle.reading.specs.Reading.{Nodes, end, whole, listed, room, Good, names}
+use Rattle.reading.specs.Laws.Reading.{room-le}
 use Rattle.reading.specs.Prefix.{Name, Covered, Digs, FinestName}
-use Rattle.reading.specs.Laws.Ground.{In, in→covered, covered→in}
+use Rattle.reading.specs.Laws.Ground.{In, in→covered, covered→in, in-from}
 use Rattle.comparing.specs.Shared.{Portion, none, all, some, portionNumber, ofChild, pastChild, divided, wanted, holding, nodeShared, sideShared, belowShared, shared}
 use Rattle.comparing.specs.Internal.Portions.{GoodPortion, GoodInside, child-good, past-good, inside-good, inside-room}
 
@@ -23,7 +23,7 @@ abbrev pub Is : ℕ → Type 0 → Type 0
 Is zero A = A → ⊥
 Is (suc p) A = A
 
--- what a ofChild covers, from a child's number on, and behind the cell's own
+-- what a portion covers: of the child of a number, and behind the cell's own name
 abbrev pub InPortion : Portion → ℕ → Name → Type 0
 InPortion none x w = ⊥
 InPortion all x w = Unit {0}
@@ -39,55 +39,47 @@ behind none b w = ((λ h. h), (λ h. h))
 behind all b w = ((λ h. h), (λ h. h))
 behind (some ns) b w = (covered→in ns b w, in→covered ns b w)
 
--- what nodes from lo on cover begins at lo or pastChild
-from : (ns : Nodes) (l : Level) (d lo x : ℕ) (p : Name) → Good l d lo ns → In ns x p → lo ≤ x
-from end l d lo x p g h = absurd h
-from (whole c ns) l d lo x p g (inl e) = omega (arith, g .0)
-from (whole c ns) l d lo x p g (inr h) = omega (arith, g .0, from ns l d (suc c) x p (g .2) h)
-from (listed c is ns) l d lo x p g (inl h) = omega (arith, g .0, h .0)
-from (listed c is ns) l d lo x p g (inr h) = omega (arith, g .0, from ns l d (suc c) x p (g .6) h)
-
 -- ---- the child of number c
 
-part-in : (c : ℕ) (x : Portion) (w : Name) → CoverPortion (ofChild c x) w → InPortion x c w
-part-in c none w h = h
-part-in c all w h = h
-part-in c (some end) w h = h
-part-in c (some (whole b ns)) w h =
+child-in : (c : ℕ) (x : Portion) (w : Name) → CoverPortion (ofChild c x) w → InPortion x c w
+child-in c none w h = h
+child-in c all w h = h
+child-in c (some end) w h = h
+child-in c (some (whole b ns)) w h =
     by-cond (λ (y : Portion). CoverPortion y w → In (whole b ns) c w) (eqb b c) (λ e k. inl (eqb-true b c e)) (λ e k. absurd k) h
-part-in c (some (listed b is ns)) w h =
+child-in c (some (listed b is ns)) w h =
     by-cond (λ (y : Portion). CoverPortion y w → In (listed b is ns) c w) (eqb b c) (λ e k. inl (eqb-true b c e, k)) (λ e k. absurd k) h
 
-in-part : (l : Level) (d c : ℕ) (x : Portion) (w : Name) → GoodPortion l d c x → InPortion x c w → CoverPortion (ofChild c x) w
-in-part l d c none w g h = h
-in-part l d c all w g h = h
-in-part l d c (some end) w g h = h
-in-part l d c (some (whole b ns)) w g h =
+in-child : (l : Level) (d c : ℕ) (x : Portion) (w : Name) → GoodPortion l d c x → InPortion x c w → CoverPortion (ofChild c x) w
+in-child l d c none w g h = h
+in-child l d c all w g h = h
+in-child l d c (some end) w g h = h
+in-child l d c (some (whole b ns)) w g h =
     by-cond (λ (y : Portion). CoverPortion y w) (eqb b c) (λ e. tt)
-    (λ e. ⊎-elim (λ k. absurd (eqb-false b c e k)) (λ k. absurd (omega (arith, g .0, from ns l d (suc b) c w (g .2) k))) h)
-in-part l d c (some (listed b is ns)) w g h =
+    (λ e. ⊎-elim (λ k. absurd (eqb-false b c e k)) (λ k. absurd (omega (arith, g .0, in-from ns l d (suc b) c w (g .2) k))) h)
+in-child l d c (some (listed b is ns)) w g h =
     by-cond (λ (y : Portion). CoverPortion y w) (eqb b c)
-    (λ e. ⊎-elim (λ k. k .1) (λ k. absurd (omega (arith, g .0, from ns l d (suc b) c w (g .6) k))) h)
-    (λ e. ⊎-elim (λ k. absurd (eqb-false b c e (k .0))) (λ k. absurd (omega (arith, g .0, from ns l d (suc b) c w (g .6) k))) h)
+    (λ e. ⊎-elim (λ k. k .1) (λ k. absurd (omega (arith, g .0, in-from ns l d (suc b) c w (g .6) k))) h)
+    (λ e. ⊎-elim (λ k. absurd (eqb-false b c e (k .0))) (λ k. absurd (omega (arith, g .0, in-from ns l d (suc b) c w (g .6) k))) h)
 
 -- ---- the children after it
 
-later-in : (c b : ℕ) (x : Portion) (w : Name) → InPortion (pastChild c x) b w → InPortion x b w
-later-in c b none w h = h
-later-in c b all w h = h
-later-in c b (some end) w h = h
-later-in c b (some (whole a ns)) w h =
+past-in : (c b : ℕ) (x : Portion) (w : Name) → InPortion (pastChild c x) b w → InPortion x b w
+past-in c b none w h = h
+past-in c b all w h = h
+past-in c b (some end) w h = h
+past-in c b (some (whole a ns)) w h =
     by-cond (λ (y : Portion). InPortion y b w → In (whole a ns) b w) (eqb a c) (λ e k. inr k) (λ e k. k) h
-later-in c b (some (listed a is ns)) w h =
+past-in c b (some (listed a is ns)) w h =
     by-cond (λ (y : Portion). InPortion y b w → In (listed a is ns) b w) (eqb a c) (λ e k. inr k) (λ e k. k) h
 
-in-later : (c b : ℕ) (x : Portion) (w : Name) → c < b → InPortion x b w → InPortion (pastChild c x) b w
-in-later c b none w l h = h
-in-later c b all w l h = h
-in-later c b (some end) w l h = h
-in-later c b (some (whole a ns)) w l h =
+in-past : (c b : ℕ) (x : Portion) (w : Name) → c < b → InPortion x b w → InPortion (pastChild c x) b w
+in-past c b none w l h = h
+in-past c b all w l h = h
+in-past c b (some end) w l h = h
+in-past c b (some (whole a ns)) w l h =
     by-cond (λ (y : Portion). InPortion y b w) (eqb a c) (λ e. ⊎-elim (λ k. absurd (let i = eqb-true a c e in omega arith)) (λ k. k) h) (λ e. h)
-in-later c b (some (listed a is ns)) w l h =
+in-past c b (some (listed a is ns)) w l h =
     by-cond (λ (y : Portion). InPortion y b w) (eqb a c) (λ e. ⊎-elim (λ k. absurd (let i = eqb-true a c e in omega (arith, k .0))) (λ k. k) h) (λ e. h)
 
 -- ---- so or not so, of things that follow from each other
@@ -137,12 +129,7 @@ in-hold c b (whole a ns) rest w h = h
 in-hold c b (listed a js ns) rest w h = h
 
 or-no : (a b : ℕ) → (eqb a 2 || eqb b 2) ≡ false → (a ≡ 2 → ⊥) × (b ≡ 2 → ⊥)
-or-no a b e = go (eqb a 2) (eqb b 2) refl refl e
-  where
-    go : (s t : Bool) → eqb a 2 ≡ s → eqb b 2 ≡ t → (s || t) ≡ false → (a ≡ 2 → ⊥) × (b ≡ 2 → ⊥)
-    go true t i j k = clash k
-    go false true i j k = clash k
-    go false false i j k = (eqb-false a 2 i, eqb-false b 2 j)
+or-no a b e = (eqb-false a 2 (or-left (eqb a 2) (eqb b 2) e), eqb-false b 2 (or-right (eqb a 2) (eqb b 2) e))
 
 both-true : (a b c d : ℕ) → a ≡ b → c ≡ d → (eqb a b && eqb c d) ≡ true
 both-true a b c d e f = ap (λ (t : Bool). t && eqb c d) (eq-eqb a b e) ∙ eq-eqb c d f
@@ -190,11 +177,11 @@ module _ (r p q : ℕ) (u : p ≤ 1) (v : q ≤ 1) (below : Portion → Portion 
 
   here : (l : Level) (d c : ℕ) (x y : Portion) (w : Name) → GoodPortion l d c x → GoodPortion l d c y → Both p q (ofChild c x) (ofChild c y) w → Beside x y c w
   here l d c x y w g h k =
-      (is-like p _ _ (part-in c x w) (in-part l d c x w g) (k .0), is-like q _ _ (part-in c y w) (in-part l d c y w h) (k .1))
+      (is-like p _ _ (child-in c x w) (in-child l d c x w g) (k .0), is-like q _ _ (child-in c y w) (in-child l d c y w h) (k .1))
 
   to-here : (l : Level) (d c : ℕ) (x y : Portion) (w : Name) → GoodPortion l d c x → GoodPortion l d c y → Beside x y c w → Both p q (ofChild c x) (ofChild c y) w
   to-here l d c x y w g h k =
-      (is-like p _ _ (in-part l d c x w g) (part-in c x w) (k .0), is-like q _ _ (in-part l d c y w h) (part-in c y w) (k .1))
+      (is-like p _ _ (in-child l d c x w g) (child-in c x w) (k .0), is-like q _ _ (in-child l d c y w h) (child-in c y w) (k .1))
 
   side-in :
       (l : Level) (d n c b : ℕ) (x y : Portion) (w : Name) → d ≤ r → GoodPortion l d c x → GoodPortion l d c y → Digs r w → In (sideShared below p q n c x y) b w →
@@ -209,11 +196,12 @@ module _ (r p q : ℕ) (u : p ≤ 1) (v : q ≤ 1) (below : Portion → Portion 
       let o : c < b = omega (arith, e .0) in (
         omega (arith, e .0),
         (
-          is-like p _ _ (later-in c b x w) (in-later c b x w o) (e .1 .0),
-          is-like q _ _ (later-in c b y w) (in-later c b y w o) (e .1 .1),
+          is-like p _ _ (past-in c b x w) (in-past c b x w o) (e .1 .0),
+          is-like q _ _ (past-in c b y w) (in-past c b y w o) (e .1 .1),
         ),
       ))
-      (node-in (room l c d) c b (ofChild c x) (ofChild c y) (sideShared below p q n (suc c) (pastChild c x) (pastChild c y)) w (omega (arith, room-le l c d)) (child-good l d c x g) (child-good l d c y h) i k)
+      (node-in (room l c d) c b (ofChild c x) (ofChild c y) (sideShared below p q n (suc c) (pastChild c x) (pastChild c y)) w (omega (arith, room-le l c d))
+      (child-good l d c x g) (child-good l d c y h) i k)
 
   in-side :
       (l : Level) (d n c b : ℕ) (x y : Portion) (w : Name) → d ≤ r → GoodPortion l d c x → GoodPortion l d c y → Digs r w → c ≤ b → b < n + c → Beside x y b w →
@@ -221,12 +209,13 @@ module _ (r p q : ℕ) (u : p ≤ 1) (v : q ≤ 1) (below : Portion → Portion 
   unfolding sideShared
   in-side l d zero c b x y w a g h i s t k = absurd (omega arith)
   in-side l d (suc n) c b x y w a g h i s t k =
-      in-node (room l c d) c b (ofChild c x) (ofChild c y) (sideShared below p q n (suc c) (pastChild c x) (pastChild c y)) w (omega (arith, room-le l c d)) (child-good l d c x g) (child-good l d c y h) i
+      in-node (room l c d) c b (ofChild c x) (ofChild c y) (sideShared below p q n (suc c) (pastChild c x) (pastChild c y)) w (omega (arith, room-le l c d))
+      (child-good l d c x g) (child-good l d c y h) i
       (⊎-elim
       (λ o.
       inr
       (in-side l d n (suc c) b (pastChild c x) (pastChild c y) w a (past-good l d c x g) (past-good l d c y h) i o (omega arith)
-      (is-like p _ _ (in-later c b x w o) (later-in c b x w) (k .0), is-like q _ _ (in-later c b y w o) (later-in c b y w) (k .1))))
+      (is-like p _ _ (in-past c b x w o) (past-in c b x w) (k .0), is-like q _ _ (in-past c b y w o) (past-in c b y w) (k .1))))
       (λ o. let e : b ≡ c = omega arith in inl (sym e, to-here l d c x y w g h (rw e at k)))
       (lt-or c b))
 

@@ -1,6 +1,6 @@
 -- The nodes of what two readings share are of the grammar: no nine siblings are left to merge. Assumes nothing.
-use mathlib.Core.Path.{_≡_, refl, sym, ap, _∙_}
-use mathlib.Core.Bool.{Bool, true, false, _&&_, _||_, cond}
+use mathlib.Core.Path.{_≡_, refl, sym, ap}
+use mathlib.Core.Bool.{Bool, true, false, cond}
 use mathlib.Core.Logic.{_⊎_, inl, inr, ⊎-elim}
 use Prim.Native.Nat.{ℕ, zero, suc, _+_, _-_, _≤_, _<_}
 use native.Mathlib.Omega.{arith}
@@ -51,7 +51,10 @@ hold-wholes c (whole b ns) rest = refl
 hold-wholes c (listed b is ns) rest = refl
 
 module _ (below : Portion → Portion → Nodes) (p q : ℕ) where
-  node-wholes : (c : ℕ) (x y : Portion) (rest : Nodes) → (wholes (nodeShared below p q c x y rest) ≡ wholes rest) ⊎ ((portionNumber x ≡ p) × (portionNumber y ≡ q) × (wholes (nodeShared below p q c x y rest) ≡ suc (wholes rest)))
+  node-wholes :
+      (c : ℕ) (x y : Portion) (rest : Nodes) →
+      (wholes (nodeShared below p q c x y rest) ≡ wholes rest)
+      ⊎ ((portionNumber x ≡ p) × (portionNumber y ≡ q) × (wholes (nodeShared below p q c x y rest) ≡ suc (wholes rest)))
   unfolding nodeShared
   node-wholes c x y rest =
       by-cond (λ (ns : Nodes). (wholes ns ≡ wholes rest) ⊎ ((portionNumber x ≡ p) × (portionNumber y ≡ q) × (wholes ns ≡ suc (wholes rest)))) (divided x y)
@@ -104,7 +107,9 @@ abbrev Makes : ℕ → (Portion → Portion → Nodes) → Type 0
 Makes r below =
     (d : ℕ) (x y : Portion) → d ≤ r → GoodInside d x → GoodInside d y → divided x y ≡ true → Good Digits (d - 1) 0 (below x y) × (wholes (below x y) ≡ 9 → ⊥)
 
-hold-good : (l : Level) (d lo c : ℕ) (is rest : Nodes) → lo ≤ c → c < many l → 0 < room l c d → (wholes is ≡ 9 → ⊥) → Good Digits (room l c d - 1) 0 is → Good l d lo rest → Good l d (suc c) rest → Good l d lo (holding c is rest)
+hold-good :
+    (l : Level) (d lo c : ℕ) (is rest : Nodes) → lo ≤ c → c < many l → 0 < room l c d → (wholes is ≡ 9 → ⊥) → Good Digits (room l c d - 1) 0 is →
+    Good l d lo rest → Good l d (suc c) rest → Good l d lo (holding c is rest)
 hold-good l d lo c end rest a b k w i g h = g
 hold-good l d lo c (whole e ns) rest a b k w i g h = (a, b, k, tt, w, i, h)
 hold-good l d lo c (listed e js ns) rest a b k w i g h = (a, b, k, tt, w, i, h)

@@ -10,7 +10,7 @@ use Rattle.logic.specs.Laws.Order.{lt-or}
 use Rattle.logic.specs.Laws.Bools.{by-cond, clash}
 use Rattle.reading.specs.declared.Level.{Level}
 use Rattle.reading.specs.declared.Level.the-variants.{Digits}
-use Rattle.reading.specs.Reading.{Nodes, end, whole, listed, room, wholes, Some, Good}
+use Rattle.reading.specs.Reading.{end, whole, listed, room, wholes, Some, Good}
 use Rattle.comparing.specs.Shared.{Portion, none, all, some, ofChild, pastChild, divided}
 
 -- the nodes that are left of a list are of the grammar, from the number lo on

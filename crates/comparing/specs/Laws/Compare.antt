@@ -1,15 +1,15 @@
 -- The three listings are the fewest cells of their grounds, each the only such list, and "the size sums must tie up" (02, W-205). Assumes nothing.
-use mathlib.Core.Path.{_≡_, refl, sym, ap, ap₂, _∙_}
-use mathlib.Core.List.{List, [], _∷_}
+use mathlib.Core.Path.{_≡_, sym, ap₂, _∙_}
+use mathlib.Core.List.{List, []}
 use Prim.Native.Nat.{ℕ, _+_, _^_, _≤_}
 use native.Mathlib.Omega.{arith}
 use Rattle.cell.specs.declared.Cell.{Cell}
 use Rattle.reading.specs.declared.Level.the-variants.{Faces}
-use Rattle.reading.specs.Reading.{Nodes, render, Good, names}
-use Rattle.reading.specs.Ground.{wholeCells, Finest, Covers, Fills, sizeSum}
+use Rattle.reading.specs.Reading.{Nodes, render, Good}
+use Rattle.reading.specs.Ground.{wholeCells, Covers, sizeSum}
 use Rattle.reading.specs.Fewest.{FewestOf}
 use Rattle.reading.specs.Text.{Reads}
-use Rattle.reading.specs.Prefix.{numbersOf, Covered}
+use Rattle.reading.specs.Prefix.{numbersOf}
 use Rattle.reading.specs.Report.{sizeAlong}
 use Rattle.reading.specs.Laws.Named.{finest-name}
 use Rattle.reading.specs.Laws.Demand.{good-reads, whole-named, named-whole, size-whole}
