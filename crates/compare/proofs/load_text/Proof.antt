@@ -1,6 +1,6 @@
--- Assumes nothing.
-use native.Mathlib.Omega.{arith}
+-- `load_text` meets its contract: what was read has its room. Assumes nothing.
 use borrow.Author.Needs.{needs}
+use Rattle.console.specs.Laws.Input.{count-fits}
 use Rattle.compare.proofs.load_text.Statement.{statement}
 use Rattle.compare.proofs.load_text.Tie as tie
 
@@ -23,7 +23,7 @@ same-length-2 : tie.Need-same-length-2
 same-length-2 c = search needs
 
 returns : tie.Need-returns
-returns c = search needs
+returns c = count-fits _ _ (c .before .before .before .before .before .before .before .load .ensures) (c .before .count .given .1)
 
 same-length-3 : tie.Need-same-length-3
 same-length-3 c = search needs

@@ -1,6 +1,7 @@
--- Assumes nothing.
-use native.Mathlib.Omega.{arith}
+-- `main` is safe: the bytes of each file have their room. Assumes nothing.
 use borrow.Author.Needs.{needs}
+use mathlib.Core.Path.{sym}
+use lib.Seq.{length-take-le}
 use Rattle.compare.proofs.main.Statement.{statement}
 use Rattle.compare.proofs.main.Tie as tie
 
@@ -35,16 +36,16 @@ load-text-requires-2 : tie.Need-load-text-requires-2
 load-text-requires-2 c κs = search needs
 
 array-share-prefix-first : tie.Need-array-share-prefix-first
-array-share-prefix-first c = search needs
+array-share-prefix-first c = c .before .before .before .before .before .before .before .load-text .ensures
 
 slice-aggregate-compare-texts : tie.Need-slice-aggregate-compare-texts
-slice-aggregate-compare-texts c = search needs
+slice-aggregate-compare-texts c = sym (length-take-le _ _ (c .before .before .before .before .before .before .before .before .load-text .ensures))
 
 array-share-prefix-second : tie.Need-array-share-prefix-second
-array-share-prefix-second c = search needs
+array-share-prefix-second c = c .before .before .before .load-text2 .ensures
 
 slice-aggregate-compare-texts-2 : tie.Need-slice-aggregate-compare-texts-2
-slice-aggregate-compare-texts-2 c = search needs
+slice-aggregate-compare-texts-2 c = sym (length-take-le _ _ (c .before .before .before .before .load-text2 .ensures))
 
 compare-texts-requires : tie.Need-compare-texts-requires
 compare-texts-requires c κs = search needs
