@@ -21,7 +21,8 @@
  *   11  list not strictly rising, or one cell inside another
  *   12  parent at resolution 0, child at 15
  *   13  text longer than 65,536 bytes, read or to be written
- *   14  a question of another arrangement than the text's heading has, or a list with a code of another arrangement than the asked one
+ *   14  a question of another arrangement than the text's heading has, or a list with a code of another arrangement than the asked one, or
+ *       two texts whose headings differ in n or s
  *   15  list outside the profile of version 2: the fewest cells of its ground hold a part of N or S, or one deeper than the asked depth
  *
  * Where several apply, the order is 5, 2, 1, 3, 4, 6, 7, 12, 13, 10, 9, 14, 11, 15, 8; in
@@ -57,6 +58,7 @@ typedef struct { uint64_t refusal; int64_t z; } jgv_z;
 typedef struct { uint64_t refusal, place, version, depth, n, s, cells, size; } jgv_check;
 typedef struct { uint64_t refusal, place, count; } jgv_list;
 typedef struct { uint64_t refusal, place, covered; } jgv_ask;
+typedef struct { uint64_t refusal, place, first_cells, second_cells, both_cells, first_size, second_size, both_size; } jgv_compare;
 
 /* The code of a cell in an arrangement. Refusals 5, 2, 1, 3. */
 jgv_code jgv_cell_code(uint64_t n, uint64_t s, uint64_t face, uint64_t resolution, uint64_t row, uint64_t column);
@@ -139,6 +141,13 @@ jgv_length jgv_coverage_write(uint64_t version, uint64_t depth, uint64_t n, uint
 
 /* Whether a text covers all finest cells of a cell of its arrangement: 1 or 0. Refusals 4, 13, 10, 9, 14. */
 jgv_ask jgv_coverage_ask(const uint8_t *text, size_t length, uint64_t code);
+
+/* What two texts of one arrangement cover, each as the fewest cells in rising order: only the first to `firsts`, only the second to
+ * `seconds`, both to `boths`; how many cells each listing has, and the sum of their sizes. First only and both add up to the first text's
+ * size, second only and both to the second's. The texts may differ in version and depth. Refusals: 13, 10, 9 of the first text, then of the
+ * second, 14 where n or s differ, 8 where any room is short. */
+jgv_compare jgv_coverage_compare(const uint8_t *first, size_t first_length, const uint8_t *second, size_t second_length, uint64_t *firsts,
+                                 size_t first_room, uint64_t *seconds, size_t second_room, uint64_t *boths, size_t both_room);
 
 #ifdef __cplusplus
 }

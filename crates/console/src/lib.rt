@@ -304,7 +304,7 @@ pub fn load(program: &[u8], i: usize, path: &mut [u8], text: &mut [u8]) -> Bytes
         return BytesRead::Failed;
     };
     libc::close(fd);
-    BytesRead::Count(count)
+    BytesRead::Count(count) // of the file
 }
 
 // What comes next of standard input. Where reading fails, standard error says why.

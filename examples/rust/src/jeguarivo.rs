@@ -53,6 +53,7 @@ answers! {
     Check at place { version: u64, depth: u64, n: u64, s: u64, cells: u64, size: u64 }
     List at place { count: u64 }
     Ask at place { covered: u64 }
+    Compare at place { first_cells: u64, second_cells: u64, both_cells: u64, first_size: u64, second_size: u64, both_size: u64 }
 }
 
 // Safe are those that take numbers alone: the library takes any.
@@ -82,6 +83,10 @@ unsafe extern "C" {
         version: u64, depth: u64, n: u64, s: u64, codes: *const u64, count: usize, text: *mut u8, room: usize,
     ) -> Length;
     pub fn jgv_coverage_ask(text: *const u8, length: usize, code: u64) -> Ask;
+    pub fn jgv_coverage_compare(
+        first: *const u8, first_length: usize, second: *const u8, second_length: usize,
+        firsts: *mut u64, first_room: usize, seconds: *mut u64, second_room: usize, boths: *mut u64, both_room: usize,
+    ) -> Compare;
 }
 
 /// The entries that take memory, on slices. Each is safe: the library reads and writes lent memory within its length only.
@@ -114,6 +119,15 @@ pub mod lent {
 
     pub fn coverage_ask(text: &[u8], code: u64) -> Ask {
         unsafe { jgv_coverage_ask(text.as_ptr(), text.len(), code) }
+    }
+
+    pub fn coverage_compare(first: &[u8], second: &[u8], firsts: &mut [u64], seconds: &mut [u64], boths: &mut [u64]) -> Compare {
+        unsafe {
+            jgv_coverage_compare(
+                first.as_ptr(), first.len(), second.as_ptr(), second.len(),
+                firsts.as_mut_ptr(), firsts.len(), seconds.as_mut_ptr(), seconds.len(), boths.as_mut_ptr(), boths.len(),
+            )
+        }
     }
 }
 
@@ -227,4 +241,30 @@ pub fn coverage_write_handheld<'a>(depth: u64, n: u64, s: u64, codes: &[u64], te
 /// Refused with 14 where the code is of another arrangement than the text.
 pub fn coverage_ask(text: &[u8], code: u64) -> Answer<bool> {
     Ok(lent::coverage_ask(text, code).read()?.covered == 1)
+}
+
+/// What two texts cover, each as the fewest cells: only the first, only the second, and both, with the sums of their sizes.
+#[derive(Clone, Copy, Debug, PartialEq, Eq)]
+pub struct Compared<'a> {
+    pub first_only: &'a [u64],
+    pub second_only: &'a [u64],
+    pub both: &'a [u64],
+    pub first_size: u64,
+    pub second_size: u64,
+    pub both_size: u64,
+}
+
+/// Refused with 14 where the two headings differ in n or s.
+pub fn coverage_compare<'a>(
+    first: &[u8], second: &[u8], firsts: &'a mut [u64], seconds: &'a mut [u64], boths: &'a mut [u64],
+) -> Answer<Compared<'a>> {
+    let found = lent::coverage_compare(first, second, firsts, seconds, boths).read()?;
+    Ok(Compared {
+        first_only: &firsts[..found.first_cells as usize],
+        second_only: &seconds[..found.second_cells as usize],
+        both: &boths[..found.both_cells as usize],
+        first_size: found.first_size,
+        second_size: found.second_size,
+        both_size: found.both_size,
+    })
 }

@@ -3,7 +3,7 @@
 //! with the proved library, entry by entry. They prove nothing; the library's contracts do that.
 //!
 //! RATTLE_LIBS names the folder of libjeguarivo.a: `cargo test --release --offline`. Without it
-//! the tests `grid`, `straight`, `ground`, `ellipsoid` and `coverage` fail, and without RATTLE_BIN, the folder of
+//! the tests `grid`, `straight`, `ground`, `ellipsoid`, `coverage` and `crews` fail, and without RATTLE_BIN, the folder of
 //! the proved programs, the test `programs`; the others try this program alone.
 //! SECOND_SEED sets another seed for the inputs.
 //!
@@ -11,6 +11,7 @@
 //! - `ground`: the cell of a fix and the ground nucleus, over the whole numbers of `big`
 //! - `ellipsoid`: the authalic sine of a geodetic latitude (request W-203)
 //! - `coverage`: the coverage text: check, list, write, ask
+//! - `crews`: what two coverage texts cover (request W-205)
 //! - `proved`: the proved library's entries, as examples/rust declares them
 //! - `straight`: straight lines through cells (request W-212)
 //! - `flights`: the programs `record` and `name_fixes` (`second_record` is a program of its own)
@@ -20,6 +21,7 @@
 pub mod big;
 pub mod compare;
 pub mod coverage;
+pub mod crews;
 pub mod ellipsoid;
 pub mod fixes;
 pub mod flights;

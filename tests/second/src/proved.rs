@@ -3,8 +3,11 @@
 
 use crate::compare::Refusing;
 use crate::coverage::{Checked, Refused, TextAnswer};
+use crate::crews::Compared;
 use crate::grid::{self, Answer, Place};
-use jeguarivo::{Ask, Cell, Check, Code, Count, Fix, Length, List, Name, Point, Shape, Size};
+use jeguarivo::{
+    Ask, Cell, Check, Code, Compare, Count, Fix, Length, List, Name, Point, Shape, Size,
+};
 use jeguarivo::{Square, Vertices, Z};
 use std::fmt::Debug;
 
@@ -20,8 +23,8 @@ pub use jeguarivo::{
 /// The coverage entries.
 pub mod coverage {
     pub use jeguarivo::lent::{
-        coverage_ask as ask, coverage_check as check, coverage_list as list,
-        coverage_write as write,
+        coverage_ask as ask, coverage_check as check, coverage_compare as compare,
+        coverage_list as list, coverage_write as write,
     };
 }
 
@@ -71,6 +74,10 @@ like! {
     };
     List at place, TextAnswer<u64>, count => { count: count };
     Ask at place, TextAnswer<bool>, covered => { covered: u64::from(covered) };
+    Compare at place, TextAnswer<Compared>, of => {
+        first_cells: of.cells[0], second_cells: of.cells[1], both_cells: of.cells[2],
+        first_size: of.sizes[0], second_size: of.sizes[1], both_size: of.sizes[2]
+    };
 }
 
 /// An answer together with the lent bytes or codes after it.
