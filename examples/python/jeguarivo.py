@@ -34,7 +34,7 @@ REASONS = {
     11: "a list of codes that does not rise strictly, or with one cell inside another",
     12: "the parent of a cell of resolution 0, or a child of one of resolution 15",
     13: "a text longer than 65,536 bytes",
-    14: "a question of another arrangement than the text's, or a list with a code of another arrangement than the asked one",
+    14: "a question of another arrangement than the text's, a list with a code of another arrangement than the asked one, or two texts that differ in n or s",
     15: "a list outside the profile: a part of N or S, or a cell deeper than the asked depth",
 }
 
@@ -55,6 +55,11 @@ class Cell(NamedTuple):
     resolution: int
     row: int
     column: int
+
+
+class Listing(NamedTuple):
+    codes: List[int]
+    size: int
 
 
 class Square(NamedTuple):
@@ -102,6 +107,7 @@ _Z = _struct("jgv_z", c_int64, "z")
 _Check = _struct("jgv_check", c_uint64, "place", "version", "depth", "n", "s", "cells", "size")
 _List = _struct("jgv_list", c_uint64, "place", "count")
 _Ask = _struct("jgv_ask", c_uint64, "place", "covered")
+_Compare = _struct("jgv_compare", c_uint64, "place", "first_cells", "second_cells", "both_cells", "first_size", "second_size", "both_size")
 
 
 class _U64:
@@ -167,6 +173,7 @@ _coverage_check = _entry("jgv_coverage_check", _Check, _BYTES, c_size_t)
 _coverage_list = _entry("jgv_coverage_list", _List, _BYTES, c_size_t, _CODES, c_size_t)
 _coverage_write = _entry("jgv_coverage_write", _Length, _U64, _U64, _U64, _U64, _CODES, c_size_t, _ROOM, c_size_t)
 _coverage_ask = _entry("jgv_coverage_ask", _Ask, _BYTES, c_size_t, _U64)
+_coverage_compare = _entry("jgv_coverage_compare", _Compare, _BYTES, c_size_t, _BYTES, c_size_t, _CODES, c_size_t, _CODES, c_size_t, _CODES, c_size_t)
 
 
 def cell_code(n: int, s: int, face: int, resolution: int, row: int, column: int) -> int:
@@ -297,3 +304,15 @@ def coverage_write(n: int, s: int, codes: Iterable[int], depth: Optional[int] = 
 def coverage_ask(text: bytes, code: int) -> bool:
     """Whether a text covers all finest cells of a cell of its arrangement."""
     return _coverage_ask(text, len(text), code).covered == 1
+
+
+def coverage_compare(first: bytes, second: bytes) -> Tuple[Listing, Listing, Listing]:
+    """What two texts of one arrangement cover: only the first, only the second, and both, each as the fewest cells, rising."""
+    room = 3 * (len(first) + len(second))  # always enough
+    firsts, seconds, boths = ((c_uint64 * room)() for _ in range(3))
+    got = _coverage_compare(first, len(first), second, len(second), firsts, room, seconds, room, boths, room)
+    return (
+        Listing(firsts[: got.first_cells], got.first_size),
+        Listing(seconds[: got.second_cells], got.second_size),
+        Listing(boths[: got.both_cells], got.both_size),
+    )

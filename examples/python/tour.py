@@ -188,6 +188,16 @@ def handhelds():
     write_handheld(1, north[1:])  # N is not whole
 
 
+def crews():
+    """What you flew and I did not: two texts of one arrangement, which may be of two versions. Each listing is the fewest cells of its ground."""
+    first, second = b"CVR\0\x0100P(34(1))", b"CVR\0\x0200bP(4)"
+    for which, listing in zip(("only the first", "only the second", "both"), jgv.coverage_compare(first, second)):
+        names = " ".join(map(code_name, listing.codes))
+        print(f"coverage_compare: P(34(1)) and P(4): {which} -> {names}, size {listing.size}")
+    another = refusal(jgv.coverage_compare, first, b"CVR\0\x0110P(4)")
+    print(f"coverage_compare: P(34(1)), n 0, and P(4), n 1 -> {another}")
+
+
 if __name__ == "__main__":
-    for part in (codes_and_names, families, shapes, plane, ground, neighbours, corners, coverage, two_arrangements, handhelds):
+    for part in (codes_and_names, families, shapes, plane, ground, neighbours, corners, coverage, two_arrangements, handhelds, crews):
         part()
