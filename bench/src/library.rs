@@ -1,6 +1,6 @@
 //! The entries, of the library and of the plain Rust beside it, and a sum over their answers.
 
-use jeguarivo::{Ask, Cell, Check, Code, Fix, Length, List, Name, Z};
+use jeguarivo::{Ask, Cell, Check, Code, Compare, Fix, Length, List, Name, Z};
 
 pub type CellCode = extern "C" fn(u64, u64, u64, u64, u64, u64) -> Code;
 pub type CodeCell = extern "C" fn(u64) -> Cell;
@@ -16,6 +16,18 @@ pub type CoverageList = unsafe extern "C" fn(*const u8, usize, *mut u64, usize) 
 pub type CoverageWrite =
     unsafe extern "C" fn(u64, u64, u64, u64, *const u64, usize, *mut u8, usize) -> Length;
 pub type CoverageAsk = unsafe extern "C" fn(*const u8, usize, u64) -> Ask;
+pub type CoverageCompare = unsafe extern "C" fn(
+    *const u8,
+    usize,
+    *const u8,
+    usize,
+    *mut u64,
+    usize,
+    *mut u64,
+    usize,
+    *mut u64,
+    usize,
+) -> Compare;
 
 /// A sum that depends on every field and on the order of answers.
 pub trait Fold {
@@ -46,4 +58,5 @@ folds! {
     Check { place, version, depth, n, s, cells, size }
     List { place, count }
     Ask { place, covered }
+    Compare { place, first_cells, second_cells, both_cells, first_size, second_size, both_size }
 }
