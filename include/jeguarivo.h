@@ -57,7 +57,7 @@ typedef struct { uint64_t refusal; int64_t longitude, z; } jgv_fix;
 typedef struct { uint64_t refusal; int64_t z; } jgv_z;
 typedef struct { uint64_t refusal, place, version, depth, n, s, cells, size; } jgv_check;
 typedef struct { uint64_t refusal, place, count; } jgv_list;
-typedef struct { uint64_t refusal, place, covered; } jgv_ask;
+typedef struct { uint64_t refusal, place, covered, settled; } jgv_ask;
 typedef struct { uint64_t refusal, place, first_cells, second_cells, both_cells, first_size, second_size, both_size; } jgv_compare;
 
 /* The code of a cell in an arrangement. Refusals 5, 2, 1, 3. */
@@ -139,7 +139,9 @@ jgv_list jgv_coverage_list(const uint8_t *text, size_t length, uint64_t *codes, 
 jgv_length jgv_coverage_write(uint64_t version, uint64_t depth, uint64_t n, uint64_t s, const uint64_t *codes, size_t count, uint8_t *text,
                               size_t room);
 
-/* Whether a text covers all finest cells of a cell of its arrangement: 1 or 0. Refusals 4, 13, 10, 9, 14. */
+/* Whether a text covers all finest cells of a cell of its arrangement: 1 or 0; and how many letters and digits of the text settle that: those whose
+ * cells' codes are not above `code`, whole or not, and one more if a later one stands in the text. Any other accepted text with the same heading that has
+ * the same bytes through the last of these, and as many of them, gives the same answer. Refusals 4, 13, 10, 9, 14. */
 jgv_ask jgv_coverage_ask(const uint8_t *text, size_t length, uint64_t code);
 
 /* What two texts of one arrangement cover, each as the fewest cells in rising order: only the first to `firsts`, only the second to

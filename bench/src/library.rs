@@ -57,6 +57,6 @@ folds! {
     Z { z }
     Check { place, version, depth, n, s, cells, size }
     List { place, count }
-    Ask { place, covered }
+    Ask { place, covered, settled }
     Compare { place, first_cells, second_cells, both_cells, first_size, second_size, both_size }
 }

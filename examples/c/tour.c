@@ -236,7 +236,7 @@ static size_t write_text(const char *const *names, size_t count, uint8_t *text, 
 static void print_ask(const uint8_t *text, size_t length, const char *name) {
     jgv_ask answer = jgv_coverage_ask(text, length, code_of(name));
     expect_answer(answer.refusal);
-    printf("coverage_ask: %s, %s -> %s\n", "P(34(1))", name, answer.covered ? "yes" : "no");
+    printf("coverage_ask: %s, %s -> %s, settled by %" PRIu64 "\n", "P(34(1))", name, answer.covered ? "yes" : "no", answer.settled);
 }
 
 /* One place flown by two crews, in two arrangements: N8 in the first is N6 in the second. Codes of two arrangements are not taken together. */

@@ -87,6 +87,11 @@ class Check(NamedTuple):
     size: int
 
 
+class Ask(NamedTuple):
+    covered: bool
+    settled: int
+
+
 def _struct(name: str, kind: type, *fields: str) -> type:
     """The struct of an answer: `refusal`, then fields of one kind, in the header's order."""
     return type(name, (ctypes.Structure,), {"_fields_": [("refusal", c_uint64), *((field, kind) for field in fields)]})
@@ -106,7 +111,7 @@ _Fix = _struct("jgv_fix", c_int64, "longitude", "z")
 _Z = _struct("jgv_z", c_int64, "z")
 _Check = _struct("jgv_check", c_uint64, "place", "version", "depth", "n", "s", "cells", "size")
 _List = _struct("jgv_list", c_uint64, "place", "count")
-_Ask = _struct("jgv_ask", c_uint64, "place", "covered")
+_Ask = _struct("jgv_ask", c_uint64, "place", "covered", "settled")
 _Compare = _struct("jgv_compare", c_uint64, "place", "first_cells", "second_cells", "both_cells", "first_size", "second_size", "both_size")
 
 
@@ -301,9 +306,10 @@ def coverage_write(n: int, s: int, codes: Iterable[int], depth: Optional[int] = 
     return room.raw[:length]
 
 
-def coverage_ask(text: bytes, code: int) -> bool:
-    """Whether a text covers all finest cells of a cell of its arrangement."""
-    return _coverage_ask(text, len(text), code).covered == 1
+def coverage_ask(text: bytes, code: int) -> Ask:
+    """Whether a text covers all finest cells of a cell of its arrangement, and how many letters and digits of the text settle that."""
+    got = _coverage_ask(text, len(text), code)
+    return Ask(got.covered == 1, got.settled)
 
 
 def coverage_compare(first: bytes, second: bytes) -> Tuple[Listing, Listing, Listing]:

@@ -138,8 +138,8 @@ def coverage():
     print_check(text)
     print("coverage_list: P(34(1)) ->", *map(code_name, jgv.coverage_list(text)))
     for name in ("P3", "P41", "P418", "P4"):  # P4 is covered in part only: no
-        covered = jgv.coverage_ask(text, code_of(name))
-        print(f"coverage_ask: P(34(1)), {name} -> {'yes' if covered else 'no'}")
+        asked = jgv.coverage_ask(text, code_of(name))
+        print(f"coverage_ask: P(34(1)), {name} -> {'yes' if asked.covered else 'no'}, settled by {asked.settled}")
 
     # A text that is not of the grammar is refused with 9; `place` says how much of it some good text begins with.
     for body in ("O()", "O(012345678)"):

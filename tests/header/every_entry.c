@@ -37,7 +37,7 @@ ANSWER(jgv_z, 16); SIGNED(jgv_z, z, 8);
 ANSWER(jgv_check, 64); UNSIGNED(jgv_check, place, 8); UNSIGNED(jgv_check, version, 16); UNSIGNED(jgv_check, depth, 24);
 UNSIGNED(jgv_check, n, 32); UNSIGNED(jgv_check, s, 40); UNSIGNED(jgv_check, cells, 48); UNSIGNED(jgv_check, size, 56);
 ANSWER(jgv_list, 24); UNSIGNED(jgv_list, place, 8); UNSIGNED(jgv_list, count, 16);
-ANSWER(jgv_ask, 24); UNSIGNED(jgv_ask, place, 8); UNSIGNED(jgv_ask, covered, 16);
+ANSWER(jgv_ask, 32); UNSIGNED(jgv_ask, place, 8); UNSIGNED(jgv_ask, covered, 16); UNSIGNED(jgv_ask, settled, 24);
 ANSWER(jgv_compare, 64); UNSIGNED(jgv_compare, place, 8); UNSIGNED(jgv_compare, first_cells, 16); UNSIGNED(jgv_compare, second_cells, 24);
 UNSIGNED(jgv_compare, both_cells, 32); UNSIGNED(jgv_compare, first_size, 40); UNSIGNED(jgv_compare, second_size, 48);
 UNSIGNED(jgv_compare, both_size, 56);
@@ -859,12 +859,13 @@ static void coverage_write(void) {
     CHECK_ONE(jgv_length, length, jgv_coverage_write(1, 15, 0, 0, &many[0], 1, NULL, 0), 8, 0);
 }
 
-#define ASK(call, want_refusal, want_place, want_covered)      \
-    do {                                                       \
-        jgv_ask got = (call);                                  \
-        CHECK(got.refusal, want_refusal, #call ": refusal");   \
-        CHECK(got.place, want_place, #call ": place");         \
-        CHECK(got.covered, want_covered, #call ": covered");   \
+#define ASK(call, want_refusal, want_place, want_covered, want_settled) \
+    do {                                                                \
+        jgv_ask got = (call);                                           \
+        CHECK(got.refusal, want_refusal, #call ": refusal");            \
+        CHECK(got.place, want_place, #call ": place");                  \
+        CHECK(got.covered, want_covered, #call ": covered");            \
+        CHECK(got.settled, want_settled, #call ": settled");            \
     } while (0)
 
 static jgv_ask asked(const uint8_t *text, size_t length, uint64_t of) {
@@ -876,35 +877,35 @@ static jgv_ask asked(const uint8_t *text, size_t length, uint64_t of) {
 }
 
 static void coverage_ask(void) {
-    ASK(asked(TEXT(HEAD "P(34(1))"), code("P3")), 0, 0, 1);
-    ASK(asked(TEXT(HEAD "P(34(1))"), code("P41")), 0, 0, 1);
-    ASK(asked(TEXT(HEAD "P(34(1))"), code("P418")), 0, 0, 1);
-    ASK(asked(TEXT(HEAD "P(34(1))"), code("P4")), 0, 0, 0); /* covered in part */
-    ASK(asked(TEXT(HEAD "P(34(1))"), code("P")), 0, 0, 0);
-    ASK(asked(TEXT(HEAD "P(34(1))"), code("P40")), 0, 0, 0);
-    ASK(asked(TEXT(HEAD), 0), 0, 0, 0);
-    ASK(asked(TEXT("CVR\0\1" "33" "NS"), GREATEST), 0, 0, 1);
-    ASK(asked(TEXT("CVR\0\1" "32" "P(34(1))"), code_at(3, 2, "P418")), 0, 0, 1);
-    ASK(asked(TEXT("CVR\0\1" "32" "P(34(1))"), code_at(3, 2, "P4")), 0, 0, 0); /* the order is 4, 13, 10, 9, 14 */
-    ASK(asked(TEXT(HEAD "O()"), no_code), 4, 0, 0);
-    ASK(asked(TEXT(HEAD "P"), code("P") + WIDE), 4, 0, 0);
-    ASK(jgv_coverage_ask(long_text, LONGEST + 1, no_code), 4, 0, 0);
-    ASK(jgv_coverage_ask(long_text, LONGEST + 1, code_at(1, 0, "P")), 13, 0, 0);
-    ASK(asked(TEXT("CVR\0\3" "00P"), code_at(1, 0, "P")), 10, 0, 0);
-    ASK(asked(TEXT("CVR\0\2" "00P"), code_at(1, 0, "P")), 9, 7, 0); /* version 2 without its letter */
-    ASK(asked(TEXT(HEAD_2 "c" "NP(34(1))"), code("P418")), 0, 0, 1);
-    ASK(asked(TEXT(HEAD_2 "c" "NP(34(1))"), code("N8")), 0, 0, 1);
-    ASK(asked(TEXT(HEAD_2 "c" "NP(34(1))"), code("P4")), 0, 0, 0);
-    ASK(asked(TEXT(HEAD_2 "b" "NP(34(1))"), code("P4")), 9, 13, 0);
-    ASK(asked(TEXT("CVR\0\2" "12p" "P"), code_at(2, 1, "P")), 14, 0, 0); /* 14 compares n and s */
-    ASK(asked(TEXT(HEAD "O()"), code_at(1, 0, "P")), 9, 9, 0);
-    ASK(asked(TEXT(HEAD "O(012345678)"), code("P")), 9, 18, 0);
-    ASK(asked(TEXT(HEAD "P"), code_at(1, 0, "P")), 14, 0, 0);
-    ASK(asked(TEXT(HEAD "P"), code_at(0, 1, "P")), 14, 0, 0);
-    ASK(asked(TEXT("CVR\0\1" "12" "P"), code_at(2, 1, "P")), 14, 0, 0);
+    ASK(asked(TEXT(HEAD "P(34(1))"), code("P3")), 0, 0, 1, 3);
+    ASK(asked(TEXT(HEAD "P(34(1))"), code("P41")), 0, 0, 1, 4);
+    ASK(asked(TEXT(HEAD "P(34(1))"), code("P418")), 0, 0, 1, 4);
+    ASK(asked(TEXT(HEAD "P(34(1))"), code("P4")), 0, 0, 0, 4); /* covered in part */
+    ASK(asked(TEXT(HEAD "P(34(1))"), code("P")), 0, 0, 0, 2);
+    ASK(asked(TEXT(HEAD "P(34(1))"), code("P40")), 0, 0, 0, 4);
+    ASK(asked(TEXT(HEAD), 0), 0, 0, 0, 0);
+    ASK(asked(TEXT("CVR\0\1" "33" "NS"), GREATEST), 0, 0, 1, 2);
+    ASK(asked(TEXT("CVR\0\1" "32" "P(34(1))"), code_at(3, 2, "P418")), 0, 0, 1, 4);
+    ASK(asked(TEXT("CVR\0\1" "32" "P(34(1))"), code_at(3, 2, "P4")), 0, 0, 0, 4); /* the order is 4, 13, 10, 9, 14 */
+    ASK(asked(TEXT(HEAD "O()"), no_code), 4, 0, 0, 0);
+    ASK(asked(TEXT(HEAD "P"), code("P") + WIDE), 4, 0, 0, 0);
+    ASK(jgv_coverage_ask(long_text, LONGEST + 1, no_code), 4, 0, 0, 0);
+    ASK(jgv_coverage_ask(long_text, LONGEST + 1, code_at(1, 0, "P")), 13, 0, 0, 0);
+    ASK(asked(TEXT("CVR\0\3" "00P"), code_at(1, 0, "P")), 10, 0, 0, 0);
+    ASK(asked(TEXT("CVR\0\2" "00P"), code_at(1, 0, "P")), 9, 7, 0, 0); /* version 2 without its letter */
+    ASK(asked(TEXT(HEAD_2 "c" "NP(34(1))"), code("P418")), 0, 0, 1, 5);
+    ASK(asked(TEXT(HEAD_2 "c" "NP(34(1))"), code("N8")), 0, 0, 1, 2);
+    ASK(asked(TEXT(HEAD_2 "c" "NP(34(1))"), code("P4")), 0, 0, 0, 5);
+    ASK(asked(TEXT(HEAD_2 "b" "NP(34(1))"), code("P4")), 9, 13, 0, 0);
+    ASK(asked(TEXT("CVR\0\2" "12p" "P"), code_at(2, 1, "P")), 14, 0, 0, 0); /* 14 compares n and s */
+    ASK(asked(TEXT(HEAD "O()"), code_at(1, 0, "P")), 9, 9, 0, 0);
+    ASK(asked(TEXT(HEAD "O(012345678)"), code("P")), 9, 18, 0, 0);
+    ASK(asked(TEXT(HEAD "P"), code_at(1, 0, "P")), 14, 0, 0, 0);
+    ASK(asked(TEXT(HEAD "P"), code_at(0, 1, "P")), 14, 0, 0, 0);
+    ASK(asked(TEXT("CVR\0\1" "12" "P"), code_at(2, 1, "P")), 14, 0, 0, 0);
     for (uint64_t both = 0; both < 16; both++)
-        ASK(asked(TEXT("CVR\0\1" "12" "P"), code_at(both / 4, both % 4, "P3")), both == 6 ? 0 : 14, 0, both == 6);
-    ASK(jgv_coverage_ask(NULL, 0, code("P")), 9, 0, 0);
+        ASK(asked(TEXT("CVR\0\1" "12" "P"), code_at(both / 4, both % 4, "P3")), both == 6 ? 0 : 14, 0, both == 6, both == 6);
+    ASK(jgv_coverage_ask(NULL, 0, code("P")), 9, 0, 0, 0);
 }
 
 /* Three rooms in the lent codes, the second behind the first and the third behind that. */

@@ -30,10 +30,10 @@ abbrev pub listNumbers : Listed → ListAnswer
 listNumbers (listed.Count count) = record { refusal = 0; place = 0; count = count }
 listNumbers (listed.Refused refusal place) = record { refusal = refusal; place = place; count = 0 }
 
--- 1 where all of the cell's finest cells are covered, 0 where not
+-- 1 where all of the cell's finest cells are covered, 0 where not; and how many letters and digits settle that
 abbrev pub askNumbers : Asked → AskAnswer
-askNumbers (asked.Covered covered) = record { refusal = 0; place = 0; covered = cond covered 1 0 }
-askNumbers (asked.Refused refusal place) = record { refusal = refusal; place = place; covered = 0 }
+askNumbers (asked.Answer covered settled) = record { refusal = 0; place = 0; covered = cond covered 1 0; settled = settled }
+askNumbers (asked.Refused refusal place) = record { refusal = refusal; place = place; covered = 0; settled = 0 }
 
 -- the length of the text
 abbrev pub writtenNumbers : Written → LengthAnswer

@@ -107,6 +107,7 @@ pub struct AskAnswer {
     pub refusal: u64,
     pub place: u64,
     pub covered: u64,
+    pub settled: u64,
 }
 
 #[repr(C)]

@@ -538,15 +538,17 @@ pub extern "C" fn jgv_coverage_ask(text: &[u8], code: u64) -> AskAnswer
     ensures { λ r. ⌜ r ≡ askNumbers (asked (askRefusal (now (text .entry)) code) (now (text .entry)) code) ⌝ }
 {
     match asking::ask(text, code) {
-        Asked::Covered(covered) => AskAnswer {
+        Asked::Answer { covered, settled } => AskAnswer {
             refusal: 0,
             place: 0,
             covered: as_number(covered),
+            settled,
         },
         Asked::Refused { refusal, place } => AskAnswer {
             refusal,
             place,
             covered: 0, // of a question that is refused
+            settled: 0, // by nothing
         },
     }
 }

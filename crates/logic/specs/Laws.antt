@@ -3,3 +3,4 @@ pub mod Lists
 pub mod Order
 pub mod Refusal
 pub mod Stores
+pub mod Table

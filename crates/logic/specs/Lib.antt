@@ -4,3 +4,4 @@ pub mod Lent
 pub mod Lists
 pub mod Refusal
 pub mod Rise
+pub mod Table

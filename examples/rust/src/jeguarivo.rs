@@ -52,7 +52,7 @@ answers! {
     Z { z: i64 }
     Check at place { version: u64, depth: u64, n: u64, s: u64, cells: u64, size: u64 }
     List at place { count: u64 }
-    Ask at place { covered: u64 }
+    Ask at place { covered: u64, settled: u64 }
     Compare at place { first_cells: u64, second_cells: u64, both_cells: u64, first_size: u64, second_size: u64, both_size: u64 }
 }
 
@@ -238,9 +238,10 @@ pub fn coverage_write_handheld<'a>(depth: u64, n: u64, s: u64, codes: &[u64], te
     Ok(&text[..written.length as usize])
 }
 
-/// Refused with 14 where the code is of another arrangement than the text.
-pub fn coverage_ask(text: &[u8], code: u64) -> Answer<bool> {
-    Ok(lent::coverage_ask(text, code).read()?.covered == 1)
+/// Whether all finest cells of a cell are covered (1 or 0), and how many letters and digits of the text settle that. Refused with 14 where the code is of
+/// another arrangement than the text.
+pub fn coverage_ask(text: &[u8], code: u64) -> Answer<Ask> {
+    lent::coverage_ask(text, code).read()
 }
 
 /// What two texts cover, each as the fewest cells: only the first, only the second, and both, with the sums of their sizes.

@@ -190,8 +190,8 @@ fn coverage() -> Answer<()> {
     let names = listed.iter().map(|&code| name_of(code)).collect::<Answer<Vec<String>>>()?;
     println!("coverage_list: P(34(1)) -> {}", names.join(" "));
     for name in ["P3", "P41", "P418", "P4"] {
-        let covered = coverage_ask(text, code_of(name)?)?; // P4 is covered in part only: no
-        println!("coverage_ask: P(34(1)), {name} -> {}", if covered { "yes" } else { "no" });
+        let Ask { covered, settled, .. } = coverage_ask(text, code_of(name)?)?; // P4 is covered in part only: no
+        println!("coverage_ask: P(34(1)), {name} -> {}, settled by {settled}", if covered == 1 { "yes" } else { "no" });
     }
     // A text that is not of the grammar is refused with 9; `place` says how much of it some good text begins with.
     for body in ["O()", "O(012345678)"] {

@@ -278,6 +278,23 @@ pub fn whole_cells(text: &[u8]) -> Vec<Name> {
     cells
 }
 
+/// The names of the cells that an accepted text's letters and digits name, "whole or not", in the
+/// order they stand: a `(` opens a list of the one before it.
+pub fn named_cells(text: &[u8]) -> Vec<Name> {
+    let mut lists = Name::new();
+    let mut cells: Vec<Name> = Vec::new();
+    for &byte in &text[heading_length(text)..] {
+        match byte {
+            b'(' => lists = cells.last().cloned().unwrap_or_default(),
+            b')' => {
+                lists.pop();
+            }
+            _ => cells.push([&lists[..], &[byte]].concat()),
+        }
+    }
+    cells
+}
+
 // ---------------------------------------------------------------- ground
 
 /// The finest cells of a cell, by their numbers: from 0 to 6 x 9^15, in the order of codes.
@@ -504,15 +521,42 @@ pub fn write(asked: Profile, n: u64, s: u64, codes: &[u64], lent: &mut [u8]) -> 
     lend(&written(asked, n, s, codes)?, lent)
 }
 
-/// "Whether all of one cell's finest cells are covered"; refuses 4, 13, 10, 9, 14.
-pub fn ask(text: &[u8], code: u64) -> TextAnswer<bool> {
+/// The answer to a question.
+#[derive(Clone, Copy, Debug, PartialEq, Eq)]
+pub struct Asked {
+    pub covered: bool,
+    pub settled: u64,
+}
+
+/// The codes of the cells that an accepted text's letters and digits name, in the arrangement of
+/// its heading.
+pub fn named_codes(text: &[u8]) -> Vec<u64> {
+    let (n, s) = arrangement_of_text(text);
+    let code = |name: &Name| code_of(n, s, name);
+    named_cells(text).iter().map(code).collect()
+}
+
+/// "Those naming cells, whole or not, whose codes are not above the asked one's, plus one if a
+/// later one exists": one that stands behind the last of those.
+pub fn settled_by(codes: &[u64], code: u64) -> u64 {
+    let not_above = |of: &u64| *of <= code;
+    let those = codes.iter().filter(|of| not_above(of)).count();
+    let behind = codes.iter().rposition(not_above).map_or(0, |last| last + 1);
+    those as u64 + u64::from(behind < codes.len())
+}
+
+/// "Whether all of one cell's finest cells are covered", and "how many letters and digits settle
+/// the answer"; refuses 4, 13, 10, 9, 14.
+pub fn ask(text: &[u8], code: u64) -> TextAnswer<Asked> {
     let asked = span_of(code).ok_or(4u64)?;
     checked_text(text)?;
     if arrangement_of(code) != arrangement_of_text(text) {
         return Err(14.into());
     }
     let ground = ground_of_text(text);
-    Ok(ground
-        .iter()
-        .any(|range| range.start <= asked.start && asked.end <= range.end))
+    let holds = |range: &Span| range.start <= asked.start && asked.end <= range.end;
+    Ok(Asked {
+        covered: ground.iter().any(holds),
+        settled: settled_by(&named_codes(text), code),
+    })
 }

@@ -2,7 +2,7 @@
 //! in their form.
 
 use crate::compare::Refusing;
-use crate::coverage::{Checked, Refused, TextAnswer};
+use crate::coverage::{Asked, Checked, Refused, TextAnswer};
 use crate::crews::Compared;
 use crate::grid::{self, Answer, Place};
 use jeguarivo::{
@@ -73,7 +73,8 @@ like! {
         n: of.n, s: of.s, cells: of.cells, size: of.size
     };
     List at place, TextAnswer<u64>, count => { count: count };
-    Ask at place, TextAnswer<bool>, covered => { covered: u64::from(covered) };
+    Ask at place, TextAnswer<Asked>, of =>
+        { covered: u64::from(of.covered), settled: of.settled };
     Compare at place, TextAnswer<Compared>, of => {
         first_cells: of.cells[0], second_cells: of.cells[1], both_cells: of.cells[2],
         first_size: of.sizes[0], second_size: of.sizes[1], both_size: of.sizes[2]

@@ -11,14 +11,15 @@ fn the_proved_library_is_linked() {
 /// Each entry on random, border, bad and long inputs.
 #[cfg(proved)]
 mod entries {
-    use jeguarivo::Length;
-    use second::compare::{About, Refusing, Tally};
+    use jeguarivo::{Ask, Length};
+    use second::compare::{say, About, Refusing, Tally};
     use second::coverage::{self, accepts, arrangement_of_text, profile_of_text, whole_cells};
-    use second::coverage::{written, Profile, FIRST, RULES};
-    use second::grid::{resolution_of, Answer};
+    use second::coverage::{named_cells, written, Profile, FIRST, RULES};
+    use second::grid::{code_of, resolution_of, Answer, Name};
     use second::proved::{coverage as proved, Like};
     use second::random::{Kind, Random, KINDS};
     use second::texts::{lent, lent_mut, Given};
+    use std::collections::BTreeMap;
 
     const INPUTS: u64 = 1_050_000;
 
@@ -208,6 +209,80 @@ mod entries {
             |given| Like::like(coverage::ask(lent(&given.bytes), given.code)),
             |given| proved::ask(lent(&given.bytes), given.code),
         );
+    }
+
+    /// A cell to ask for beside one that a letter or digit names, whole or not: the same, one that
+    /// holds it, its first child, which comes next in code order, another child, or the sibling
+    /// before or behind it.
+    fn beside(random: &mut Random, name: &Name) -> Name {
+        let mut name = name.clone();
+        let last = name.len() - 1;
+        let few = name.len() < 16;
+        match random.below(6) {
+            0 => name.truncate(1 + random.below(name.len() as u64) as usize),
+            1 if few => name.push(b'0'),
+            2 if few => name.push(random.pick(b"12345678")),
+            3 if last > 0 && name[last] > b'0' => name[last] -= 1,
+            4 if last > 0 && name[last] < b'8' => name[last] += 1,
+            _ => (),
+        }
+        name
+    }
+
+    /// W-213: more than a million questions beside the letters and digits of accepted texts, with
+    /// how often nothing, one, some or all of them were counted, and how often the asked cell is
+    /// one that is divided.
+    #[test]
+    fn settled() {
+        let mut random = Random::for_test("settled");
+        let mut profiles: BTreeMap<Profile, u64> = BTreeMap::new();
+        let [mut questions, mut none, mut first, mut some, mut all, mut divided] = [0u64; 6];
+        while questions < INPUTS {
+            let kind = random.pick(&[Kind::Random, Kind::Border]);
+            let text = match questions % 50_000 {
+                0..20 => {
+                    let profile = random.long_profile();
+                    random.text_of_length(profile, coverage::LONGEST)
+                }
+                _ => random.text(kind),
+            };
+            if !accepts(RULES, &text) {
+                continue;
+            }
+            let (n, s) = arrangement_of_text(&text);
+            let names = named_cells(&text);
+            let whole = whole_cells(&text);
+            for _ in 0..20 {
+                let name = match names.is_empty() {
+                    true => random.name(Kind::Random),
+                    false => {
+                        let nth = random.below(names.len() as u64) as usize;
+                        beside(&mut random, &names[nth])
+                    }
+                };
+                let code = code_of(n, s, &name);
+                let wanted = Ask::like(coverage::ask(&text, code));
+                assert_eq!(proved::ask(&text, code), wanted, "{code} {text:?}");
+                questions += 1;
+                *profiles.entry(profile_of_text(&text)).or_default() += 1;
+                match wanted.settled {
+                    0 => none += 1,
+                    1 => first += 1,
+                    count if count == names.len() as u64 => all += 1,
+                    _ => some += 1,
+                }
+                divided += u64::from(names.contains(&name) && !whole.contains(&name));
+            }
+        }
+        say(&format!(
+            "settled: {questions} questions, counted none {none}, one {first}, some {some}, \
+             all {all}; of a divided cell {divided}; profiles {}",
+            profiles.len()
+        ));
+        assert!([none, first, some, all, divided]
+            .iter()
+            .all(|&met| met > 1000));
+        assert!(profiles.len() == 17 && profiles.values().all(|&met| met > 1000));
     }
 }
 

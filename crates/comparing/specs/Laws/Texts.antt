@@ -14,9 +14,10 @@ use Rattle.reading.specs.Reading.{Good}
 use Rattle.reading.specs.Ground.{sizeSum}
 use Rattle.reading.specs.Fewest.{FewestOf}
 use Rattle.reading.specs.TextReading.{nodesOf, textArrangement, isText}
+use Rattle.reading.specs.Laws.Rising.{codes-rise}
 use Rattle.reading.specs.Laws.TextReading.{good-nodes, text-arranged}
 use Rattle.reader.specs.Laws.Answer.{TextChecked}
-use Rattle.listing.specs.Laws.List.{codes-rise, cells-back, all-of}
+use Rattle.listing.specs.Laws.List.{cells-back, all-of}
 use Rattle.comparing.specs.Compare.{OnlyFirst, OnlySecond, InBoth, firstOnly, secondOnly, inBoth, codesFor, sharedCodes}
 use Rattle.comparing.specs.Laws.Compare.{first-fewest, second-fewest, both-fewest, first-tie, second-tie}
 
