@@ -149,6 +149,15 @@ def coverage():
             print(f"coverage_check: {body} -> refused with {refused.number} at place {refused.place}")
 
 
+def additions():
+    """A flight's cells go into its text one by one, in any order; the text is all that there is to keep."""
+    text = jgv.coverage_write(0, 0, map(code_of, ["P3", "P41"]))
+    for name in ("P40", "P4", "P418"):  # the second one's list gives way, and the third one is covered
+        before, text = text, jgv.coverage_add(text, code_of(name))
+        print(f"coverage_add: {before[7:].decode()}, {name} -> {text[7:].decode()}")
+    print(f"coverage_add: P(34), N6, n 1 -> {refusal(jgv.coverage_add, text, code_of('N6', 1, 0))}")
+
+
 def refusal(call, *values):
     """A call that should be refused, as the tour shows it."""
     try:
@@ -188,6 +197,37 @@ def handhelds():
     write_handheld(1, north[1:])  # N is not whole
 
 
+def edges(frame):
+    """The edges as the tour shows them, to a millimetre."""
+    return f"left {frame.left:.3f}, bottom {frame.bottom:.3f}, right {frame.right:.3f}, top {frame.top:.3f}"
+
+
+def marked(call, *values):
+    """A mark as the tour shows it: a point, a box, or the refusal."""
+    try:
+        mark = call(*values)
+    except jgv.Refused as refused:
+        return f"refused with {refused.number}"
+    return f"point ({mark.x:.3f}, {mark.y:.3f})" if isinstance(mark, jgv.PointInMetres) else f"box {edges(mark)}"
+
+
+def plotter():
+    """The plane in metres, for a plotter: `side` is the face side, from 1 to 2^30. A frame starts as a cell's box and grows to hold further ones."""
+    side = 10_000_000.0
+    for x, y in ((33_480_783, 9_565_938), (0, -1), (4 * 28_697_814, 0)):
+        print(f"mark_point: side {side:.1f}, ({x}, {y}) -> {marked(jgv.mark_point, side, 0, 0, x, y)}")
+    for given, n, name, shown in ((side, 0, "P0", "P0"), (side, 2, "N", "N, n 2"), (0.5, 0, "P0", "P0")):
+        print(f"mark_code: side {given:.1f}, {shown} -> {marked(jgv.mark_code, given, code_of(name, n, 0))}")
+
+    frame = jgv.frame_first(side, code_of("P0"))
+    print(f"frame_first: side {side:.1f}, P0 -> {edges(frame)}")
+    for name in ("P8", "N4", "P1"):
+        frame = jgv.frame_grow(side, frame, code_of(name))  # P1 lies inside by then
+        print(f"frame_grow: side {side:.1f}, and {name} -> {edges(frame)}")
+    bad = frame._replace(top=float("nan"))
+    print(f"frame_grow: side {side:.1f}, a top that is not a number, and P1 -> {refusal(jgv.frame_grow, side, bad, code_of('P1'))}")
+
+
 def crews():
     """What you flew and I did not: two texts of one arrangement, which may be of two versions. Each listing is the fewest cells of its ground."""
     first, second = b"CVR\0\x0100P(34(1))", b"CVR\0\x0200bP(4)"
@@ -199,5 +239,7 @@ def crews():
 
 
 if __name__ == "__main__":
-    for part in (codes_and_names, families, shapes, plane, ground, neighbours, corners, coverage, two_arrangements, handhelds, crews):
+    for part in (
+        codes_and_names, families, shapes, plane, ground, neighbours, corners, coverage, additions, two_arrangements, handhelds, plotter, crews,
+    ):
         part()

@@ -6,6 +6,7 @@ pub mod comparing;
 pub mod coverage;
 pub mod fixes;
 pub mod neighbour;
+pub mod plotter;
 pub mod writing;
 
 /// Powers of three and of nine.

@@ -1,8 +1,9 @@
 // What the programs share: words for people on standard error, arguments, and input and output that can fail.
 ghost use mathlib.Core.Path.{_≡_};
-ghost use Prim.Native.Nat.{_≤_, _<_};
-ghost use lib.ListN.{length};
+ghost use Prim.Native.Nat.{_+_, _≤_, _<_};
+ghost use lib.ListN.{length, take};
 ghost use Rattle.console.specs.Arguments.{latitudeGiven, settingGiven, OfWord, Usable};
+ghost use Rattle.console.specs.Beside.{besideOf};
 ghost use Rattle.console.specs.Input.{unread, Given, Fits, lastLine};
 ghost use Rattle.console.specs.Room.{Made};
 ghost use Rattle.console.specs.Names.{NamesWritten};
@@ -110,8 +111,8 @@ pub fn put_all_names(codes: &[u64], out: &mut [u8]) -> usize
     end
 }
 
-// A number in decimal.
-fn say_whole(x: u64) {
+// A number in decimal, to standard error.
+pub fn say_whole(x: u64) {
     let mut digits = [0u8; 20];
     let n = decimal::put_whole(x, &mut digits, 0);
     say(&digits[..n]);
@@ -223,11 +224,11 @@ fn setting_given(latitude: LatitudeGiven, n: Whole, s: Whole, resolution: Whole)
     })
 }
 
-// The arguments n, s, resolution and, where there is a fourth, eccentricity. Where they cannot be used, standard error says why.
-pub fn given_setting(program: &[u8]) -> Arguments
+// The same of the first `count` words, the program's own name among them. Where they cannot be used, standard error says why.
+pub fn setting_in(program: &[u8], count: usize) -> Arguments
     ensures { λ r. ⌜ Usable r ⌝ }
 {
-    let latitude = latitude_given(os::arg_count(), whole_argument(4));
+    let latitude = latitude_given(count, whole_argument(4));
     let given = setting_given(
         latitude,
         whole_argument(1),
@@ -245,6 +246,69 @@ pub fn given_setting(program: &[u8]) -> Arguments
         return Arguments::Wrong;
     }
     Arguments::Good(setting)
+}
+
+// The arguments n, s, resolution and, where there is a fourth, eccentricity.
+pub fn given_setting(program: &[u8]) -> Arguments
+    ensures { λ r. ⌜ Usable r ⌝ }
+{
+    setting_in(program, os::arg_count())
+}
+
+// Whether the argument with this number is this word.
+pub fn argument_is(i: usize, word: &[u8]) -> bool {
+    let mut room = [0u8; 20];
+    let n = os::arg(i, &mut room);
+    if os::errno() != 0 {
+        return false;
+    }
+    check::same(&room[..n], word)
+}
+
+// The path of the file beside one, into `room`: the same with `.part` behind it.
+pub fn beside(path: &[u8], room: &mut [u8]) -> usize
+    requires { ⌜ length (now path) + 5 ≤ length (now room) ⌝ }
+    ensures { λ r. ⌜ take r (now (room .exit)) ≡ besideOf (now (path .entry)) ⌝ }
+    ensures { λ r. ⌜ r ≤ length (now (room .exit)) ⌝ }
+{
+    let at = bytes::copy(path, room);
+    let more = bytes::copy(b".part", &mut room[at..]);
+    at + more
+}
+
+// Whether all bytes went to the disk.
+fn on_disk(fd: i32, bytes: &[u8]) -> bool {
+    if !io::write_all(fd, bytes) {
+        return false;
+    }
+    libc::fsync(fd) == 0
+}
+
+// Whether a file has these bytes, and no other, on the disk.
+fn written(path: &[u8], bytes: &[u8]) -> bool {
+    let fd = os::open_overwrite(path);
+    if fd < 0 {
+        return false;
+    }
+    let whole = on_disk(fd, bytes);
+    if libc::close(fd) < 0 {
+        return false;
+    }
+    whole
+}
+
+// Puts bytes in a file's place: they go to the file beside it, which takes the name once it is on the disk, so the file is whole at any moment. Where
+// that fails, standard error says why, and the file is as it was.
+pub fn keep(program: &[u8], path: &[u8], beside: &[u8], bytes: &[u8]) -> bool {
+    if !written(beside, bytes) {
+        say_failure(program, beside);
+        return false;
+    }
+    if os::rename(beside, path) < 0 {
+        say_failure(program, path);
+        return false;
+    }
+    true
 }
 
 // What comes first of the input.

@@ -2,5 +2,6 @@ pub mod Corners
 pub mod Entries
 pub mod Laws
 pub mod Order
+pub mod Plotter
 pub mod Refusals
 pub mod Texts

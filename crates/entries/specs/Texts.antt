@@ -10,12 +10,15 @@ use Rattle.asking.specs.declared.Asked.{Asked}
 use Rattle.asking.specs.declared.Asked.the-variants as asked
 use Rattle.writing.specs.declared.Written.{Written}
 use Rattle.writing.specs.declared.Written.the-variants as written
+use Rattle.adding.specs.declared.Added.{Added}
+use Rattle.adding.specs.declared.Added.the-variants as added
 use Rattle.entries.specs.declared.LengthAnswer.{LengthAnswer}
 use Rattle.entries.specs.declared.CheckAnswer.{CheckAnswer}
 use Rattle.entries.specs.declared.ListAnswer.{ListAnswer}
 use Rattle.comparing.specs.declared.Compared.{Compared}
 use Rattle.comparing.specs.declared.Compared.the-variants as compared
 use Rattle.entries.specs.declared.AskAnswer.{AskAnswer}
+use Rattle.entries.specs.declared.AddAnswer.{AddAnswer}
 use Rattle.entries.specs.declared.CompareAnswer.{CompareAnswer}
 
 -- the heading's version, depth, n and s, "the number of whole cells in the reading and the sum of their sizes"
@@ -39,6 +42,11 @@ askNumbers (asked.Refused refusal place) = record { refusal = refusal; place = p
 abbrev pub writtenNumbers : Written → LengthAnswer
 writtenNumbers (written.Length length) = record { refusal = 0; length = length }
 writtenNumbers (written.Refused refusal) = record { refusal = refusal; length = 0 }
+
+-- the length of the text with the cell
+abbrev pub addNumbers : Added → AddAnswer
+addNumbers (added.Length length) = record { refusal = 0; place = 0; length = length }
+addNumbers (added.Refused refusal place) = record { refusal = refusal; place = place; length = 0 }
 
 -- of each listing the number of its cells and the sum of their sizes
 abbrev pub compareNumbers : Compared → CompareAnswer
