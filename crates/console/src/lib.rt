@@ -133,6 +133,7 @@ fn say_meaning(refusal: u64) {
         13 => say(b": the text or the list is too long\n"),
         14 => say(b": the two texts differ in n or s\n"),
         15 => say(b": the cells do not keep to the profile: N or S in part, or a cell too deep\n"),
+        19 => say(b": a face's side in metres is 1 to 1073741824, with at most 15 digits\n"),
         _ => say(b"\n"),
     }
 }

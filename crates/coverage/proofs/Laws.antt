@@ -36,6 +36,7 @@ use Rattle.asking.specs.Ask.{asked, askRefusal}
 use Rattle.listing.specs.declared.Listed.{Listed}
 use Rattle.listing.specs.declared.Listed.the-variants as listed-by
 use Rattle.listing.specs.List.{codesOf, codesIn, listingRefusal, listed}
+use Rattle.listing.specs.Laws.Listed.{listed-allowed, listed-taken, listed-refused}
 use Rattle.coverage.specs.declared.NamesRead.{NamesRead}
 use Rattle.coverage.specs.declared.Text.{Text}
 use Rattle.coverage.specs.declared.Form.{Form}
@@ -221,39 +222,17 @@ name-asked t name a c o e f =
 
 -- ---- what is handed on
 
-listed-as : (q : ℕ) (t : List ℕ) (n : ℕ) → listed q t ≡ listed-by.Count n → (q ≡ 0) × (length (codesOf t) ≡ n)
-unfolding listed
-listed-as zero t n e = (refl, (cc))
-listed-as (suc q) t n e = let z : _≡_ {A = ℕ} 0 1 = cc in absurd (omega arith)
-
-not-listed : (q : ℕ) (t : List ℕ) (r p : ℕ) → listed q t ≡ listed-by.Refused r p → (q ≡ r) × (r ≡ 0 → ⊥)
-unfolding listed
-not-listed zero t r p e = let z : _≡_ {A = ℕ} 0 1 = cc in absurd (omega arith)
-not-listed (suc q) t r p e = let k : suc q ≡ r = cc in (k, λ z. omega arith)
-
 module _ (t codes : List ℕ) {r : Listed} (e : r ≡ listed (listingRefusal t (length codes)) t) where
-  -- the codes listed have their room
-  pub listed-fits : (n : ℕ) → r ≡ listed-by.Count n → n ≤ length codes
-  unfolding listingRefusal
-  listed-fits n f =
-      let k = listed-as (listingRefusal t (length codes)) t n (sym e ∙ f) in
-      let l : length (codesOf t) ≤ length codes = ltb-false (length codes) (length (codesOf t)) (allowed 7 _ (both (textRefusal t) _ (k .0) .1)) in
-      omega (arith, k .1)
-
   pub list-written :
       (n : ℕ) (later out : List ℕ) (waiting : ℕ) → r ≡ listed-by.Count n → later ≡ given (listingRefusal t (length codes)) (codesIn t codes) codes → NamesWritten (take n later) out waiting →
       ListWritten (listingRefusal t (length codes)) t out waiting
-  unfolding given codesIn
   list-written n later out waiting f g w =
-      let k = listed-as (listingRefusal t (length codes)) t n (sym e ∙ f) in
-      let taken : take n later ≡ codesOf t =
-      ap (take n) (g ∙ ap (λ (q : ℕ). given q (codesIn t codes) codes) (k .0)) ∙ take-at (codesOf t) (drop (length (codesOf t)) codes) n (k .1) in
-      subst (λ (q : ℕ). ListWritten q t out waiting) (sym (k .0)) (subst (λ (l : List ℕ). NamesWritten l out waiting) taken w)
+      subst (λ (q : ℕ). ListWritten q t out waiting) (sym (listed-allowed t codes e n f)) (subst (λ (l : List ℕ). NamesWritten l out waiting) (listed-taken t codes e n later f g) w)
 
   pub list-refused :
       (q p : ℕ) {out later : List ℕ} {end : ℕ} → r ≡ listed-by.Refused q p → Put 0 (numberLine q) out later end → end ≤ length out → ListWritten (listingRefusal t (length codes)) t later end
   list-refused q p {later = later} {end} f w h =
-      let k = not-listed (listingRefusal t (length codes)) t q p (sym e ∙ f) in
+      let k = listed-refused t codes e q p f in
       subst (λ (x : ℕ). ListWritten x t later end) (sym (k .0)) (line q (k .1) (put-taken w h))
     where
       line : (x : ℕ) → (x ≡ 0 → ⊥) → take end later ≡ numberLine x → ListWritten x t later end

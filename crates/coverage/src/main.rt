@@ -1,4 +1,5 @@
-// coverage check FILE, coverage list FILE, coverage ask FILE NAME, coverage write n s [depth]: reads and writes coverage texts.
+// coverage check FILE, coverage list FILE, coverage ask FILE NAME, coverage frame FILE SIDE, coverage write n s [depth]: reads and writes
+// coverage texts.
 ghost use mathlib.Core.Path.{_≡_};
 ghost use Prim.Native.Nat.{_≤_};
 ghost use lib.ListN.{length, take};
@@ -25,6 +26,7 @@ enum Command {
     Check,
     List,
     Ask,
+    Frame,
     Write,
     Unknown,
 }
@@ -64,12 +66,13 @@ struct Shown {
 }
 
 fn usage() {
-    console::say(b"usage: coverage check FILE | list FILE | ask FILE NAME\n");
+    console::say(b"usage: coverage check FILE | list FILE | ask FILE NAME | frame FILE SIDE\n");
     console::say(b"       coverage write n s [depth] < names > text\n");
     console::say(b"  n and s are 0 to 3; names stand one a line, rising, none inside another;\n");
     console::say(
         b"  with a depth, 0 to 15, the text is for handhelds: N and S whole, nothing deeper\n",
     );
+    console::say(b"  SIDE is a face's side in metres, 1 to 1073741824, such as 10007557.2\n");
 }
 
 // The line to standard output, then what a refusal means to standard error.
@@ -352,6 +355,27 @@ fn ask_file(text: &[u8]) {
     show(shown, &out);
 }
 
+// coverage frame FILE SIDE. A side that the room is too short for has over 15 digits.
+fn frame_file(text: &[u8]) {
+    let mut word = [0u8; 64];
+    let n = os::arg(3, &mut word);
+    if os::errno() != 0 {
+        refuse(19, 0);
+        return;
+    }
+    let mut codes = [0u64; 65536];
+    let mut out = [0u8; 68];
+    let put = framing::put_frame(text, &word[..n], &mut codes, &mut out);
+    show(
+        Shown {
+            end: put.end,
+            refusal: put.refusal,
+            place: put.place,
+        },
+        &out,
+    );
+}
+
 fn list_file(text: &[u8]) {
     let mut codes = [0u64; 65536];
     let mut out = [0u8; 65536];
@@ -365,11 +389,12 @@ fn check_file(text: &[u8]) {
     show(shown, &out);
 }
 
-// The three commands that read a file.
+// The four commands that read a file.
 fn answer(command: Command, text: &[u8]) {
     match command {
         Command::Check => check_file(text),
         Command::List => list_file(text),
+        Command::Frame => frame_file(text),
         _ => ask_file(text),
     }
 }
@@ -393,6 +418,9 @@ fn command_of(word: &[u8], arguments: usize) -> Command {
     }
     if check::same(word, b"ask") && arguments == 4 {
         return Command::Ask;
+    }
+    if check::same(word, b"frame") && arguments == 4 {
+        return Command::Frame;
     }
     if check::same(word, b"write") && (arguments == 4 || arguments == 5) {
         return Command::Write;

@@ -17,6 +17,8 @@ use Rattle.plotter.specs.declared.Mark.{Mark}
 use Rattle.plotter.specs.declared.Mark.the-variants.{Point, Box, Nothing}
 use Rattle.plotter.specs.declared.Framed.{Framed}
 use Rattle.plotter.specs.declared.Framed.the-variants.{Edges, Refused}
+use Rattle.plotter.specs.declared.Around.{Around}
+use Rattle.plotter.specs.declared.Around.the-variants as around-as
 
 -- ---- a mark is "either a point in metres, a box with its four edges, or nothing with the refusal"
 
@@ -94,6 +96,28 @@ grownFrame side f code = framed (growRefusal side f code) (grown f (boxIn side c
 abbrev pub frameOver : Frame → List Frame → Frame
 frameOver f [] = f
 frameOver f (g ∷ gs) = frameOver (grown f g) gs
+
+-- ---- the frame around the cells of codes: the first one's, grown by each further one; none where there is no code
+
+abbrev pub further : Float → Framed → (code : ℕ) → Framed
+further side (Edges f) code = grownFrame side f code
+further side (Refused r) code = Refused r
+
+abbrev pub grownBy : Float → Framed → List ℕ → Framed
+grownBy side f [] = f
+grownBy side f (code ∷ codes) = grownBy side (further side f code) codes
+
+abbrev pub asAround : Framed → Around
+asAround (Edges f) = around-as.Edges f
+asAround (Refused r) = around-as.Refused r
+
+abbrev pub noCells : (refusal : ℕ) → Around
+noCells zero = around-as.Nothing
+noCells (suc r) = around-as.Refused (suc r)
+
+unfoldable pub frameAround : Float → List ℕ → Around
+frameAround side [] = noCells (sideRefusal side)
+frameAround side (code ∷ codes) = asAround (grownBy side (firstFrame side code) codes)
 
 -- the frame has the other one inside
 pub record Holds (f g : Frame) : Type 0 where

@@ -3,7 +3,8 @@ ghost use mathlib.Core.Path.{_≡_};
 ghost use lib.Ieee.{isNan};
 ghost use mathlib.Core.Bool.{true};
 ghost use Rattle.cell.specs.Cell.{IsCell, IsArrangement};
-ghost use Rattle.plotter.specs.Plotter.{markOfPoint, boxOf, markOfCode, firstFrame, lower, higher, grown, hasNan, grownFrame};
+ghost use Rattle.plotter.specs.declared.Framed.the-variants.{Edges};
+ghost use Rattle.plotter.specs.Plotter.{markOfPoint, boxOf, markOfCode, firstFrame, lower, higher, grown, hasNan, grownFrame, grownBy, asAround, frameAround};
 use cell::Arrangement;
 use cell::Cell;
 use cell::Found;
@@ -27,6 +28,13 @@ pub struct Frame {
 // A frame, or the refusal.
 pub enum Framed {
     Edges(Frame),
+    Refused(u64),
+}
+
+// The frame around some cells: none where there are no cells.
+pub enum Around {
+    Edges(Frame),
+    Nothing,
     Refused(u64),
 }
 
@@ -144,5 +152,39 @@ pub fn frame_grow(side: f64, frame: Frame, code: u64) -> Framed
     match frame_first(side, code) {
         Framed::Edges(other) => Framed::Edges(frame.grown(other)),
         Framed::Refused(refusal) => Framed::Refused(refusal),
+    }
+}
+
+// A frame that grows by each of these codes.
+fn grow_by(side: f64, first: Frame, codes: &[u64]) -> Around
+    ensures { λ r. ⌜ r ≡ asAround (grownBy side (Edges first) (now (codes .entry))) ⌝ }
+{
+    let mut frame = first;
+    let mut i: usize = 0;
+    while i < codes.len() {
+        match frame_grow(side, frame, codes[i]) {
+            Framed::Edges(next) => {
+                frame = next;
+                i = i + 1;
+            }
+            Framed::Refused(refusal) => return Around::Refused(refusal),
+        }
+    }
+    Around::Edges(frame)
+}
+
+// The frame that holds the box of each code's cell: 19 of the side, then 4.
+pub fn frame_around(side: f64, codes: &[u64]) -> Around
+    ensures { λ r. ⌜ r ≡ frameAround side (now (codes .entry)) ⌝ }
+{
+    if codes.len() == 0 {
+        if metres::is_side(side) {
+            return Around::Nothing;
+        }
+        return Around::Refused(19); // of the side, though there is no cell
+    }
+    match frame_first(side, codes[0]) {
+        Framed::Edges(first) => grow_by(side, first, &codes[1..]),
+        Framed::Refused(refusal) => Around::Refused(refusal),
     }
 }

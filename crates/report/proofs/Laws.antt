@@ -71,25 +71,6 @@ module _ (code : ℕ) (room : List ℕ) (h : 16 ≤ length room) where
   unfolding nameBytes nameIn
   name-put e = e ∙ ap (λ (q : ℕ). given q (nameIn code room) room) (name-refusal code (length room) h) ∙ as-bytes (codeRefusal code) (nameOf (cellOf code)) room
 
--- ---- into a part of the lent memory
-
-module _ (out : List ℕ) (at : ℕ) (h : at ≤ length out) where
-  part-length : length (drop at out) ≡ length out - at
-  part-length = length-drop at out
-
-  part : take (length out - at) (drop at out) ≡ drop at out
-  part = take-all (length out - at) (drop at out) (omega (arith, part-length))
-
-  pub part-room : at + 16 ≤ length out → 16 ≤ length (take (length out - at) (drop at out))
-  part-room k = rw part (omega (arith, part-length))
-
-  pub part-put : (bytes : List ℕ) {later : List ℕ} → later ≡ bytes ++ drop (length bytes) (take (length out - at) (drop at out)) → putMid at (length out - at) out later ≡ putAt
-      at bytes out
-  part-put bytes e =
-      let p : postOf at (length out - at) out ≡ [] = post-is at (length out) out h ∙ drop-length out in
-      ap₂ (λ (x y : List ℕ). take at out ++ (x ++ y)) (e ∙ ap (λ (x : List ℕ). bytes ++ drop (length bytes) x) part) p
-      ∙ ap (λ (x : List ℕ). take at out ++ x) (append-nil (bytes ++ drop (length bytes) (drop at out)) ∙ ap (λ (x : List ℕ). bytes ++ x) (drop-drop (length bytes) at out))
-
 -- ---- the answer to a line, by its code
 
 pub answer-name : (s : Setting) (line : List ℕ) (code : ℕ) → lineCode s line ≡ coded-as.Code code → nameLine code ≡ answerLine s line

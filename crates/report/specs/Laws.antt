@@ -1,3 +1,4 @@
 pub mod Names
+pub mod Part
 pub mod Put
 pub mod Text

@@ -96,4 +96,43 @@ impl Random {
         }
         frame
     }
+
+    /// A side as people write it, one time in four damaged: by its digits, with or without a point,
+    /// near an end of the range at times.
+    pub fn written_side(&mut self) -> Vec<u8> {
+        let places = self.below(8);
+        let mut word = match self.below(6) {
+            0 => self
+                .pick(&[
+                    "1",
+                    "1.0",
+                    "1073741824",
+                    "1073741824.0",
+                    "0.9",
+                    "1073741824.00001",
+                ])
+                .into(),
+            1 => (1 + self.below(1 << 30)).to_string(),
+            2 => format!("{:015}", self.below(1 << 31)),
+            3 => self.any().to_string(),
+            _ => format!(
+                "{}.{:0w$}",
+                self.below(1 << 20),
+                self.below(10u64.pow(places as u32)),
+                w = places as usize
+            ),
+        }
+        .into_bytes();
+        if self.chance(4) {
+            let at = self.below(word.len() as u64 + 1) as usize;
+            let byte = self.pick(b".0159-+e, x/:");
+            match self.below(4) {
+                0 => word.insert(at, byte),
+                1 => word.truncate(at),
+                2 => word.push(byte),
+                _ => word.extend(std::iter::repeat_n(byte, self.below(20) as usize)),
+            }
+        }
+        word
+    }
 }

@@ -4,7 +4,7 @@
 //!
 //! RATTLE_LIBS names the folder of libjeguarivo.a: `cargo test --release --offline`. Without it
 //! the tests `grid`, `straight`, `ground`, `ellipsoid`, `coverage`, `plotter` and `crews` fail, and without RATTLE_BIN,
-//! the folder of the proved programs, the test `programs`; the others try this program alone.
+//! the folder of the proved programs, the tests `programs` and `frame_program`; the others try this program alone.
 //! SECOND_SEED sets another seed for the inputs.
 //!
 //! - `grid`: names, codes, the plane, shapes, neighbours, cells that meet at a corner

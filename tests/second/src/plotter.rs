@@ -6,6 +6,7 @@
 //! of two equally near the even one. Doubles are compared by their bits.
 
 use crate::big::Whole;
+use crate::coverage::{check, whole_codes};
 use crate::grid::{point_code, square, Answer, M};
 
 /// Left, bottom, right, top.
@@ -205,4 +206,51 @@ pub fn frame_grow(side: f64, frame: Edges, code: u64) -> Answer<Edges> {
     let sign = [-1, -1, 1, 1];
     let out = |i: usize| sign[i] * place(further[i]) > sign[i] * place(frame[i]);
     Ok([0, 1, 2, 3].map(|i| if out(i) { further[i] } else { frame[i] }))
+}
+
+// ---------------------------------------------------------------- coverage frame
+
+/// A side as people write it: digits with an optional point and digits behind it, at most 15 digits
+/// in all; the nearest double to that number. What is none is 0, which is no side.
+pub fn side_in(word: &[u8]) -> f64 {
+    let mut parts = word.split(|&byte| byte == b'.');
+    let (front, behind) = (parts.next().unwrap_or(b""), parts.next());
+    let digits = [front, behind.unwrap_or(b"0")];
+    let written = digits
+        .iter()
+        .all(|part| !part.is_empty() && part.iter().all(u8::is_ascii_digit));
+    let places = behind.map_or(0, <[u8]>::len);
+    if !written || parts.next().is_some() || front.len() + places > 15 {
+        return 0.0;
+    }
+    let all = front.iter().chain(behind.unwrap_or(b""));
+    let number = all.fold(0, |number, digit| number * 10 + u128::from(digit - b'0'));
+    let (above, below) = (number << 77, 10u128.pow(places as u32));
+    Scaled::nearest(above / below, above % below > 0, -77).double(false)
+}
+
+/// What `coverage frame` prints: the edges of the frame around a text's whole cells, each as the
+/// sixteen hexadecimal digits of its bits, nothing where there is no cell, or the refusal: 19 of
+/// the side, then the text's.
+pub fn frame_line(text: &[u8], word: &[u8]) -> String {
+    let side = side_in(word);
+    let framed = checked_side(side).and_then(|()| {
+        check(text).map_err(|refused| refused.refusal)?;
+        let mut frame: Option<Edges> = None;
+        for code in whole_codes(text) {
+            frame = Some(match frame {
+                None => frame_first(side, code)?,
+                Some(frame) => frame_grow(side, frame, code)?,
+            });
+        }
+        Ok(frame)
+    });
+    match framed {
+        Err(refusal) => format!("{refusal}\n"),
+        Ok(None) => String::new(),
+        Ok(Some(edges)) => {
+            let edges = edges.map(|edge| format!("{:016x}", edge.to_bits()));
+            format!("{}\n", edges.join(" "))
+        }
+    }
 }

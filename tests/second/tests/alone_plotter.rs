@@ -5,7 +5,7 @@ use second::frames::MOST;
 use second::grid::{code_of, M};
 use second::plotter::{
     edges_of, frame_first, frame_grow, is_near, is_number, is_side, mark_code, mark_point, metres,
-    place, Mark,
+    place, side_in, Mark,
 };
 use second::random::{Kind, Random};
 
@@ -147,4 +147,31 @@ fn refusals() {
     }
     assert_eq!(frame_grow(1.0, frame, none), Err(4));
     assert!(frame_grow(1.0, frame, o).is_ok() && frame_grow(MOST, frame, o).is_ok());
+}
+
+/// A side as people write it is what Rust reads of the same bytes, and 0 where they are none.
+#[test]
+fn written_sides() {
+    let mut random = Random::for_test("written_sides");
+    let mut good = 0;
+    for _ in 0..300_000 {
+        let word = random.written_side();
+        let digits = word.iter().filter(|byte| byte.is_ascii_digit()).count();
+        let text = String::from_utf8(word).unwrap();
+        let shape = text.split('.').all(|part| !part.is_empty());
+        let plain = text
+            .bytes()
+            .all(|byte| byte.is_ascii_digit() || byte == b'.');
+        let wanted = match text.parse::<f64>() {
+            Ok(value) if shape && plain && digits <= 15 => value,
+            _ => 0.0,
+        };
+        assert_eq!(
+            side_in(text.as_bytes()).to_bits(),
+            wanted.to_bits(),
+            "{text}"
+        );
+        good += u64::from(is_side(wanted));
+    }
+    assert!(good > 100_000);
 }

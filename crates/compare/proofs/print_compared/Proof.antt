@@ -18,43 +18,54 @@ slice-reshare-prefix-print-listing : tie.Need-slice-reshare-prefix-print-listing
 slice-reshare-prefix-print-listing c = listings-given (c .before .before .before .before .before .before .before .before .before .compare .ensures) (c .before .first .given .1) .1 .firsts .fit
 
 slice-aggregate-print-listing : tie.Need-slice-aggregate-print-listing
-slice-aggregate-print-listing c = sym (length-take-le _ _ (listings-given (c .before .before .before .before .before .before .before .before .before .before .compare .ensures) (c .before .before .first .given .1) .1 .firsts .fit))
+slice-aggregate-print-listing c =
+    sym (length-take-le _ _ (listings-given (c .before .before .before .before .before .before .before .before .before .before .compare .ensures) (c .before .before .first .given .1) .1 .firsts .fit))
 
 print-listing-requires : tie.Need-print-listing-requires
-print-listing-requires c κs = omega (arith, c .before .before .before .before .before .before .before .before .before .before .before .before .before .before .before .before .before .before .before .before .before .before .before .pre .0)
+print-listing-requires c κs =
+    omega (arith, c .before .before .before .before .before .before .before .before .before .before .before .before .before .before .before .before .before .before .before .before .before .before .before .pre .0)
 
 slice-reshare-prefix-print-listing-2 : tie.Need-slice-reshare-prefix-print-listing-2
-slice-reshare-prefix-print-listing-2 c = listings-given (c .before .before .before .before .before .before .before .before .before .before .before .before .before .before .compare .ensures) (c .before .before .before .before .before .before .first .given .1) .1 .seconds .fit
+slice-reshare-prefix-print-listing-2 c =
+    listings-given (c .before .before .before .before .before .before .before .before .before .before .before .before .before .before .compare .ensures) (c .before .before .before .before .before .before .first .given .1) .1 .seconds .fit
 
 slice-aggregate-print-listing-2 : tie.Need-slice-aggregate-print-listing-2
-slice-aggregate-print-listing-2 c = sym (length-take-le _ _ (listings-given (c .before .before .before .before .before .before .before .before .before .before .before .before .before .before .before .compare .ensures) (c .before .before .before .before .before .before .before .first .given .1) .1 .seconds .fit))
+slice-aggregate-print-listing-2 c =
+    sym (length-take-le _ _ (listings-given (c .before .before .before .before .before .before .before .before .before .before .before .before .before .before .before .compare .ensures) (c .before .before .before .before .before .before .before .first .given .1) .1 .seconds .fit))
 
 print-listing-requires-2 : tie.Need-print-listing-requires-2
-print-listing-requires-2 c κs = c .before .before .before .before .before .before .before .before .before .before .before .before .before .before .before .before .before .before .before .before .before .before .before .before .before .before .before .before .pre .1
+print-listing-requires-2 c κs =
+    c .before .before .before .before .before .before .before .before .before .before .before .before .before .before .before .before .before .before .before .before .before .before .before .before .before .before .before .before .pre .1
 
 slice-reshare-prefix-print-listing-3 : tie.Need-slice-reshare-prefix-print-listing-3
-slice-reshare-prefix-print-listing-3 c = listings-given (c .before .before .before .before .before .before .before .before .before .before .before .before .before .before .before .before .before .before .before .compare .ensures) (c .before .before .before .before .before .before .before .before .before .before .before .first .given .1) .1 .boths .fit
+slice-reshare-prefix-print-listing-3 c =
+    listings-given (c .before .before .before .before .before .before .before .before .before .before .before .before .before .before .before .before .before .before .before .compare .ensures) (c .before .before .before .before .before .before .before .before .before .before .before .first .given .1) .1 .boths .fit
 
 slice-aggregate-print-listing-3 : tie.Need-slice-aggregate-print-listing-3
-slice-aggregate-print-listing-3 c = sym (length-take-le _ _ (listings-given (c .before .before .before .before .before .before .before .before .before .before .before .before .before .before .before .before .before .before .before .before .compare .ensures) (c .before .before .before .before .before .before .before .before .before .before .before .before .first .given .1) .1 .boths .fit))
+slice-aggregate-print-listing-3 c =
+    sym (length-take-le _ _ (listings-given (c .before .before .before .before .before .before .before .before .before .before .before .before .before .before .before .before .before .before .before .before .compare .ensures) (c .before .before .before .before .before .before .before .before .before .before .before .before .first .given .1) .1 .boths .fit))
 
 print-listing-requires-3 : tie.Need-print-listing-requires-3
-print-listing-requires-3 c κs = c .before .before .before .before .before .before .before .before .before .before .before .before .before .before .before .before .before .before .before .before .before .before .before .before .before .before .before .before .before .before .before .before .before .pre .2
+print-listing-requires-3 c κs =
+    c .before .before .before .before .before .before .before .before .before .before .before .before .before .before .before .before .before .before .before .before .before .before .before .before .before .before .before .before .before .before .before .before .before .pre .2
 
 enum-known-refusal : tie.Need-enum-known-refusal
 enum-known-refusal c = search needs
 
 put-line-requires : tie.Need-put-line-requires
-put-line-requires c κs = c .before .before .before .before .before .before .before .before .before .before .before .before .before .before .before .before .before .before .before .before .before .before .pre .0
+put-line-requires c κs =
+    c .before .before .before .before .before .before .before .before .before .before .before .before .before .before .before .before .before .before .before .before .before .before .pre .0
 
 print-first-requires : tie.Need-print-first-requires
 print-first-requires c κs = search needs
 
 same-length : tie.Need-same-length
-same-length c = c .before .before .before .before .before .before .before .before .before .before .before .before .before .before .before .before .before .before .before .before .before .before .before .firsts .given
+same-length c =
+    c .before .before .before .before .before .before .before .before .before .before .before .before .before .before .before .before .before .before .before .before .before .before .before .firsts .given
 
 same-length-2 : tie.Need-same-length-2
-same-length-2 c = c .before .before .before .before .before .before .before .before .before .before .before .before .before .before .before .before .before .before .before .before .before .seconds .given
+same-length-2 c =
+    c .before .before .before .before .before .before .before .before .before .before .before .before .before .before .before .before .before .before .before .before .before .seconds .given
 
 same-length-3 : tie.Need-same-length-3
 same-length-3 c = c .before .before .before .before .before .before .before .before .before .before .before .before .before .before .before .before .before .before .before .boths .given

@@ -5,7 +5,8 @@ use lib.ListN.{length}
 use lib.Seq.{length-take-le}
 use Rattle.report.specs.Lines.{numberLine}
 use Rattle.report.specs.Laws.Put.{put-length}
-use Rattle.coverage.proofs.Laws.{listed-fits, list-written, list-refused}
+use Rattle.listing.specs.Laws.Listed.{listed-fits}
+use Rattle.coverage.proofs.Laws.{list-written, list-refused}
 use native.Mathlib.Omega.{arith}
 use borrow.Author.Needs.{needs}
 use Rattle.coverage.proofs.list_text.Statement.{statement}

@@ -28,7 +28,7 @@ pub record TextChecked (t : List ℕ) (p : Profile) (n s cells size body : ℕ) 
 pub checked-arrangement : {t : List ℕ} {p : Profile} {n s c z b : ℕ} → TextChecked t p n s c z b → record { north = n; south = s } ≡ textArrangement t
 checked-arrangement r = λ i. record { north = r .north i; south = r .south i }
 
-text-read : (t : List ℕ) → textRefusal t ≡ 0 → isText t ≡ true
+pub text-read : (t : List ℕ) → textRefusal t ≡ 0 → isText t ≡ true
 unfolding textRefusal
 text-read t e = not-false (isText t) (allowed 8 _ (both _ _ (both _ _ e .1) .1))
 

@@ -3,7 +3,7 @@ use mathlib.Core.Path.{ap}
 use Prim.Native.Nat.{ℕ, _+_}
 use Rattle.report.specs.Names.{nameBytes}
 use Rattle.report.specs.Laws.Put.{then-byte}
-use Rattle.report.proofs.Laws.{part-room, part-put}
+use Rattle.report.specs.Laws.Part.{part-room, part-put}
 use native.Mathlib.Omega.{arith}
 use borrow.Author.Needs.{needs}
 use Rattle.report.proofs.put_name_line.Statement.{statement}
