@@ -23,31 +23,45 @@ slice-aggregate-print-listing c =
 
 print-listing-requires : tie.Need-print-listing-requires
 print-listing-requires c κs =
-    omega (arith, c .before .before .before .before .before .before .before .before .before .before .before .before .before .before .before .before .before .before .before .before .before .before .before .pre .0)
+    let a = c .before .before .before .before .before .before .before .before .before .before .before .before .before .before .before .before in
+    let b = a .before .before .before .before .before .before .before in
+    omega (arith, b .pre .0)
 
 slice-reshare-prefix-print-listing-2 : tie.Need-slice-reshare-prefix-print-listing-2
 slice-reshare-prefix-print-listing-2 c =
-    listings-given (c .before .before .before .before .before .before .before .before .before .before .before .before .before .before .compare .ensures) (c .before .before .before .before .before .before .first .given .1) .1 .seconds .fit
+    let a = c .before .before .before .before .before .before in
+    let b = a .before .before .before .before .before .before .before .before in
+    listings-given (b .compare .ensures) (a .first .given .1) .1 .seconds .fit
 
 slice-aggregate-print-listing-2 : tie.Need-slice-aggregate-print-listing-2
 slice-aggregate-print-listing-2 c =
-    sym (length-take-le _ _ (listings-given (c .before .before .before .before .before .before .before .before .before .before .before .before .before .before .before .compare .ensures) (c .before .before .before .before .before .before .before .first .given .1) .1 .seconds .fit))
+    let a = c .before .before .before .before .before .before .before in
+    let b = a .before .before .before .before .before .before .before .before in
+    sym (length-take-le _ _ (listings-given (b .compare .ensures) (a .first .given .1) .1 .seconds .fit))
 
 print-listing-requires-2 : tie.Need-print-listing-requires-2
 print-listing-requires-2 c κs =
-    c .before .before .before .before .before .before .before .before .before .before .before .before .before .before .before .before .before .before .before .before .before .before .before .before .before .before .before .before .pre .1
+    let a = c .before .before .before .before .before .before .before .before .before .before .before .before .before .before .before .before in
+    let b = a .before .before .before .before .before .before .before .before .before .before .before .before in
+    b .pre .1
 
 slice-reshare-prefix-print-listing-3 : tie.Need-slice-reshare-prefix-print-listing-3
 slice-reshare-prefix-print-listing-3 c =
-    listings-given (c .before .before .before .before .before .before .before .before .before .before .before .before .before .before .before .before .before .before .before .compare .ensures) (c .before .before .before .before .before .before .before .before .before .before .before .first .given .1) .1 .boths .fit
+    let a = c .before .before .before .before .before .before .before .before .before .before .before in
+    let b = a .before .before .before .before .before .before .before .before in
+    listings-given (b .compare .ensures) (a .first .given .1) .1 .boths .fit
 
 slice-aggregate-print-listing-3 : tie.Need-slice-aggregate-print-listing-3
 slice-aggregate-print-listing-3 c =
-    sym (length-take-le _ _ (listings-given (c .before .before .before .before .before .before .before .before .before .before .before .before .before .before .before .before .before .before .before .before .compare .ensures) (c .before .before .before .before .before .before .before .before .before .before .before .before .first .given .1) .1 .boths .fit))
+    let a = c .before .before .before .before .before .before .before .before .before .before .before .before in
+    let b = a .before .before .before .before .before .before .before .before in
+    sym (length-take-le _ _ (listings-given (b .compare .ensures) (a .first .given .1) .1 .boths .fit))
 
 print-listing-requires-3 : tie.Need-print-listing-requires-3
 print-listing-requires-3 c κs =
-    c .before .before .before .before .before .before .before .before .before .before .before .before .before .before .before .before .before .before .before .before .before .before .before .before .before .before .before .before .before .before .before .before .before .pre .2
+    let a = c .before .before .before .before .before .before .before .before .before .before .before .before .before .before .before .before in
+    let b = a .before .before .before .before .before .before .before .before .before .before .before .before .before .before .before .before .before in
+    b .pre .2
 
 enum-known-refusal : tie.Need-enum-known-refusal
 enum-known-refusal c = search needs
@@ -61,7 +75,9 @@ print-first-requires c κs = search needs
 
 same-length : tie.Need-same-length
 same-length c =
-    c .before .before .before .before .before .before .before .before .before .before .before .before .before .before .before .before .before .before .before .before .before .before .before .firsts .given
+    let a = c .before .before .before .before .before .before .before .before .before .before .before .before .before .before .before .before in
+    let b = a .before .before .before .before .before .before .before in
+    b .firsts .given
 
 same-length-2 : tie.Need-same-length-2
 same-length-2 c =

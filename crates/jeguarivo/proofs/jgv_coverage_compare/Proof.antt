@@ -24,7 +24,9 @@ same-length-3 : tie.Need-same-length-3
 same-length-3 c = c .before .before .before .before .boths .given
 
 returns : tie.Need-returns
-returns c = let w = c .before .before .before .before .before .before .before .before .before .compare .ensures in (sym (ap compareNumbers (c .before .first .given .1)) ∙ ap compareNumbers (w .answer), w .memory)
+returns c =
+    let a = c .before .before .before .before .before .before .before .before .before in
+    let w = a .compare .ensures in (sym (ap compareNumbers (c .before .first .given .1)) ∙ ap compareNumbers (w .answer), w .memory)
 
 same-length-4 : tie.Need-same-length-4
 same-length-4 c = c .before .before .before .before .before .before .before .before .firsts .given
@@ -36,7 +38,9 @@ same-length-6 : tie.Need-same-length-6
 same-length-6 c = c .before .before .before .before .boths .given
 
 returns-2 : tie.Need-returns-2
-returns-2 c = let w = c .before .before .before .before .before .before .before .before .before .compare .ensures in (sym (ap compareNumbers (c .before .refusal .given .1)) ∙ ap compareNumbers (w .answer), w .memory)
+returns-2 c =
+    let a = c .before .before .before .before .before .before .before .before .before in
+    let w = a .compare .ensures in (sym (ap compareNumbers (c .before .refusal .given .1)) ∙ ap compareNumbers (w .answer), w .memory)
 
 pub jgv-coverage-compare-spec : {M : Type 1} → statement M
 jgv-coverage-compare-spec =
