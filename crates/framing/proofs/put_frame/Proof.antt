@@ -56,7 +56,9 @@ list-requires c κs = search needs
 enum-known-count : tie.Need-enum-known-count
 enum-known-count c = search needs
 
-count : (c : tie.After-known-told) → c .before .count .given .0 .0 ≤ length (c .before .before .before .before .before .before .before .before .before .before .before .before .before .before .args .codes .now)
+count :
+    (c : tie.After-known-told) →
+    c .before .count .given .0 .0 ≤ length (c .before .before .before .before .before .before .before .before .before .before .before .before .before .before .args .codes .now)
 count c =
     let l = c .before .before .before .before .before in
     let a = l .before .before .before .before .before .before .before .before .before .args in
