@@ -53,7 +53,8 @@ returns-3 c =
     let k = c .before .before .before .before .before in
     let a = k .before .before .before .before .args in
     let e = sym (c .before .before .before .first .given .1) ∙ k .frame-first .ensures in
-    c .grow-by .ensures ∙ ap₂ (λ (f : Framed) (codes : List ℕ). asAround (grownBy (a .side) f codes)) e (behind-first (a .codes .now)) ∙ sym (some-around (a .side) (a .codes .now) (k .before .before .if1 .left))
+    c .grow-by .ensures ∙ ap₂ (λ (f : Framed) (codes : List ℕ). asAround (grownBy (a .side) f codes)) e (behind-first (a .codes .now))
+    ∙ sym (some-around (a .side) (a .codes .now) (k .before .before .if1 .left))
 
 returns-4 : tie.Need-returns-4
 returns-4 c =
