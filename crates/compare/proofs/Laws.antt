@@ -43,7 +43,7 @@ module _ (codes out ys : List ℕ) (end : ℕ) (h : 18 ≤ length out) (l : leng
       }
 
 pub listings-written :
-    (t u : List ℕ) {q a b c e f g : ℕ} {later : ThreeLists} {x y z : List ℕ} → (q ≡ 0) × AllInFront (sharedCodes t u) later a b c →
+    (t u : List ℕ) {q a b c e f g : ℕ} {lent later : ThreeLists} {x y z : List ℕ} → (q ≡ 0) × AllInFront (sharedCodes t u) lent later a b c →
     ListingWritten (take a (later .firsts)) x e → ListingWritten (take b (later .seconds)) y f → ListingWritten (take c (later .boths)) z g →
     ListingsWritten q t u (lists x y z) (record { firsts = e; seconds = f; boths = g; refusal = 0; place = 0 })
 listings-written t u {e = e} {f = f} {g = g} {x = x} {y = y} {z = z} k v w o =

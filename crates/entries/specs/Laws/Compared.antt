@@ -220,11 +220,18 @@ module _ (t u : List ℕ) (lent : ThreeLists) where
     answered : compared (compareRefusal t u lent) t u ≡ compared 0 t u
     answered = ap (λ (r : ℕ). compared r t u) none
 
-    stands : AllInFront (sharedCodes t u) comparedMemory (compareAnswer .«first_cells») (compareAnswer .«second_cells») (compareAnswer .«both_cells»)
+    stands : AllInFront (sharedCodes t u) lent comparedMemory (compareAnswer .«first_cells») (compareAnswer .«second_cells») (compareAnswer .«both_cells»)
     unfolding compared
     stands =
-        subst (λ (r : Compared). let a = compareNumbers r in AllInFront (sharedCodes t u) comparedMemory (a .«first_cells») (a .«second_cells») (a .«both_cells»)) (sym answered)
+        subst (λ (r : Compared). let a = compareNumbers r in AllInFront (sharedCodes t u) lent comparedMemory (a .«first_cells») (a .«second_cells») (a .«both_cells»)) (sym answered)
         (listings-given (record { answer = refl; memory = refl }) answered .1)
+
+    -- "an answer changes only its own length"
+    pub compare-rest :
+        (drop (compareAnswer .«first_cells») (comparedMemory .firsts) ≡ drop (compareAnswer .«first_cells») (lent .firsts))
+        × (drop (compareAnswer .«second_cells») (comparedMemory .seconds) ≡ drop (compareAnswer .«second_cells») (lent .seconds))
+        × (drop (compareAnswer .«both_cells») (comparedMemory .boths) ≡ drop (compareAnswer .«both_cells») (lent .boths))
+    compare-rest = (stands .firsts .rest, stands .seconds .rest, stands .boths .rest)
 
     is-first : isText t ≡ true
     is-first = read-text (accepted-reads t (read-both none .0))
