@@ -54,6 +54,7 @@ answers! {
     List at place { count: u64 }
     Ask at place { covered: u64, settled: u64 }
     Add at place { length: u64 }
+    Compare at place { first_cells: u64, second_cells: u64, both_cells: u64, first_size: u64, second_size: u64, both_size: u64 }
     MarkAnswer { kind: u64, numbers: [f64; 4] }
     FrameAnswer { left: f64, bottom: f64, right: f64, top: f64 }
 }
@@ -73,7 +74,6 @@ pub struct Frame {
 pub enum Mark {
     Point { x: f64, y: f64 },
     Box(Frame),
-    Compare at place { first_cells: u64, second_cells: u64, both_cells: u64, first_size: u64, second_size: u64, both_size: u64 }
 }
 
 // Safe are those that take numbers alone: the library takes any.

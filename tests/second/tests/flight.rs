@@ -129,7 +129,7 @@ fn compared_crews() -> Vec<u8> {
     let [first, second] = ["flight/first.txt", "flight/second.txt"].map(|file| {
         let flown = recorded(0, 0, 9, &example(file));
         assert_eq!(flown.left_out, [], "lines left out");
-        flown.text.expect("a text")
+        flown.text
     });
     printed(&first, &second)
 }
