@@ -10,7 +10,7 @@ use Rattle.console.specs.Names.{NamesWritten}
 use Rattle.report.specs.Put.{Put}
 use Rattle.report.specs.Lines.{numberLine}
 use Rattle.report.specs.Laws.Put.{put-taken}
-use Rattle.comparing.specs.Compare.{ThreeLists, lists, sharedCodes}
+use Rattle.comparing.specs.Compare.{ThreeLists, lists, sharedCodes, comparePlace}
 use Rattle.comparing.specs.Laws.Answer.{AllInFront}
 use Rattle.compare.specs.Printed.{ListingWritten, ListingsWritten}
 
@@ -52,12 +52,13 @@ listings-written t u {e = e} {f = f} {g = g} {x = x} {y = y} {z = z} k v w o =
       subst (λ (l : List ℕ). ListingWritten l y f) (k .1 .seconds .are) w,
       subst (λ (l : List ℕ). ListingWritten l z g) (k .1 .boths .are) o,
       refl,
+      refl,
     )
 
 pub number-written :
-    (t u y z : List ℕ) (p : ℕ) {q r end : ℕ} {out later : List ℕ} → (q ≡ r) × (r ≡ 0 → ⊥) → Put 0 (numberLine r) out later end → end ≤ length out →
+    (t u y z : List ℕ) (p : ℕ) {q r end : ℕ} {out later : List ℕ} → (q ≡ r) × (r ≡ 0 → ⊥) × (p ≡ comparePlace t u) → Put 0 (numberLine r) out later end → end ≤ length out →
     ListingsWritten q t u (lists later y z) (record { firsts = end; seconds = 0; boths = 0; refusal = r; place = p })
-number-written t u y z p {r = zero} k w h = absurd (k .1 refl)
+number-written t u y z p {r = zero} k w h = absurd (k .1 .0 refl)
 number-written t u y z p {r = suc r} {end = end} {later = later} k w h =
     subst (λ (n : ℕ). ListingsWritten n t u (lists later y z) (record { firsts = end; seconds = 0; boths = 0; refusal = suc r; place = p })) (sym (k .0))
-    (put-taken w h, refl)
+    (put-taken w h, refl, k .1 .1)

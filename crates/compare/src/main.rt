@@ -4,6 +4,7 @@ ghost use Prim.Native.Nat.{_≤_};
 ghost use lib.ListN.{length};
 ghost use Rattle.comparing.specs.Compare.{lists, compareRefusal};
 ghost use Rattle.compare.specs.Printed.{ListingWritten, ListingsWritten};
+ghost use Rattle.compare.specs.Loaded.{bytesOf};
 use comparing::Compared;
 use console::BytesRead;
 use reader::Checked;
@@ -45,6 +46,7 @@ fn print_compared(
     two: &mut [u8],
     three: &mut [u8],
 ) -> Shown
+    requires { ⌜ (length (now firsts) ≡ 65536) × (length (now seconds) ≡ 65536) × (length (now boths) ≡ 65536) ⌝ } // "65,536 codes a listing"
     requires { ⌜ (21 ≤ length (now one)) × (18 ≤ length (now two)) × (18 ≤ length (now three)) ⌝ }
     ensures { λ r. ⌜ ListingsWritten (compareRefusal (now (first .entry)) (now (second .entry)) (lists (now (firsts .entry)) (now (seconds .entry)) (now (boths .entry)))) (now (first .entry)) (now (second .entry)) (lists (now (one .exit)) (now (two .exit)) (now (three .exit))) r ⌝ }
 {
@@ -113,14 +115,21 @@ fn compare_texts(first: &[u8], second: &[u8]) {
     }
 }
 
-// How many bytes the file of an argument has, as far as there is room: one that cannot be read counts as empty.
-fn load_text(i: usize, path: &mut [u8], text: &mut [u8]) -> usize
-    ensures { λ r. ⌜ r ≤ length (now (text .exit)) ⌝ }
+// "one it can't read counts as empty"
+fn bytes_of(read: BytesRead) -> usize
+    ensures { λ r. ⌜ r ≡ bytesOf read ⌝ }
 {
-    match console::load(b"compare", i, path, text) {
+    match read {
         BytesRead::Count(count) => count,
         BytesRead::Failed => 0, // said by load
     }
+}
+
+// How many bytes the file of an argument has, as far as there is room.
+fn load_text(i: usize, path: &mut [u8], text: &mut [u8]) -> usize
+    ensures { λ r. ⌜ r ≤ length (now (text .exit)) ⌝ }
+{
+    bytes_of(console::load(b"compare", i, path, text))
 }
 
 fn main() {

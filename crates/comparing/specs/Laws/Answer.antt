@@ -14,7 +14,7 @@ use Rattle.reading.specs.TextReading.{nodesOf, textArrangement}
 use Rattle.comparing.specs.declared.Listing.{Listing}
 use Rattle.comparing.specs.declared.Compared.{Compared}
 use Rattle.comparing.specs.declared.Compared.the-variants.{Listings, Refused}
-use Rattle.comparing.specs.Compare.{ThreeLists, firstOnly, secondOnly, inBoth, codesFor, sharedCodes, compareRefusal, compared, withCodes, Compares}
+use Rattle.comparing.specs.Compare.{ThreeLists, firstOnly, secondOnly, inBoth, codesFor, sharedCodes, compareRefusal, comparePlace, compared, withCodes, Compares}
 
 -- so many codes stand in front, and they are these; those behind them are the ones that were lent
 pub record InFront (codes lent later : List ℕ) (n : ℕ) : Type 0 where
@@ -62,11 +62,11 @@ module _ {t u : List ℕ} {lent later : ThreeLists} {r : Compared} (k : Compares
           )
       go (suc q) z a = let n : _≡_ {A = ℕ} 0 1 = cc in absurd (omega arith)
 
-  -- the refusal
-  pub refusal-given : {q p : ℕ} → r ≡ Refused q p → (compareRefusal t u lent ≡ q) × (q ≡ 0 → ⊥)
+  -- the refusal, and the place
+  pub refusal-given : {q p : ℕ} → r ≡ Refused q p → (compareRefusal t u lent ≡ q) × (q ≡ 0 → ⊥) × (p ≡ comparePlace t u)
   unfolding compared
   refusal-given {q} {p} e = go (compareRefusal t u lent) refl (sym e ∙ k .answer)
     where
-      go : (x : ℕ) → compareRefusal t u lent ≡ x → Refused q p ≡ compared x t u → (compareRefusal t u lent ≡ q) × (q ≡ 0 → ⊥)
+      go : (x : ℕ) → compareRefusal t u lent ≡ x → Refused q p ≡ compared x t u → (compareRefusal t u lent ≡ q) × (q ≡ 0 → ⊥) × (p ≡ comparePlace t u)
       go zero z a = let n : _≡_ {A = ℕ} 0 1 = cc in absurd (omega arith)
-      go (suc x) z a = let i : q ≡ suc x = cc in (z ∙ sym i, λ w. omega arith)
+      go (suc x) z a = let i : q ≡ suc x = cc in let j : p ≡ comparePlace t u = cc in (z ∙ sym i, (λ w. omega arith), j)

@@ -1,13 +1,13 @@
 -- The three listings of two accepted texts: their codes are those of the fewest cells of each ground, rising, in the first heading's arrangement; and
 -- the sums of sizes tie up with what checking reports (02, W-205). Assumes nothing.
-use mathlib.Core.Path.{_≡_, sym, _∙_}
+use mathlib.Core.Path.{_≡_, sym, _∙_, ap}
 use mathlib.Core.Bool.{true}
 use mathlib.Core.List.{List, map}
 use Prim.Native.Nat.{ℕ, _+_}
 use Rattle.logic.specs.Rise.{Rise}
 use Rattle.logic.specs.Lists.{All}
 use Rattle.cell.specs.declared.Cell.{Cell}
-use Rattle.code.specs.Code.{cellOf, arrangementOf}
+use Rattle.code.specs.Code.{cellOf, codeOf, arrangementOf}
 use Rattle.reading.specs.declared.Level.the-variants.{Faces}
 use Rattle.reading.specs.declared.Profile.{Profile}
 use Rattle.reading.specs.Reading.{Good}
@@ -34,26 +34,36 @@ module _ (t u : List ℕ) (e : isText t ≡ true) (f : isText u ≡ true) where
     unfolding codesFor
     back = cells-back (textArrangement t) (text-arranged t e) cells (g .cells)
 
-    as-codes : FewestOf P (map cellOf (codesFor t cells)) × Rise (codesFor t cells) × All (λ (code : ℕ). arrangementOf code ≡ textArrangement t) (codesFor t cells)
+    -- each is the code of its cell, and no other number that is read as the same cell
+    coded : codesFor t cells ≡ map (codeOf (textArrangement t)) (map cellOf (codesFor t cells))
     unfolding codesFor
-    as-codes = (rw back g, codes-rise (textArrangement t) cells (g .rising), all-of (textArrangement t) (text-arranged t e) cells (g .cells))
+    coded = ap (map (codeOf (textArrangement t))) (sym back)
+
+    as-codes :
+        FewestOf P (map cellOf (codesFor t cells)) × Rise (codesFor t cells) × All (λ (code : ℕ). arrangementOf code ≡ textArrangement t) (codesFor t cells)
+        × (codesFor t cells ≡ map (codeOf (textArrangement t)) (map cellOf (codesFor t cells)))
+    unfolding codesFor
+    as-codes = (rw back g, codes-rise (textArrangement t) cells (g .rising), all-of (textArrangement t) (text-arranged t e) cells (g .cells), coded)
 
   -- "ground only in the first, only in the second, and in both, each as the fewest cells in rising order"
   pub first-listed :
       FewestOf (OnlyFirst (nodesOf t) (nodesOf u)) (map cellOf (sharedCodes t u .firsts)) × Rise (sharedCodes t u .firsts)
       × All (λ (code : ℕ). arrangementOf code ≡ textArrangement t) (sharedCodes t u .firsts)
+      × (sharedCodes t u .firsts ≡ map (codeOf (textArrangement t)) (map cellOf (sharedCodes t u .firsts)))
   unfolding sharedCodes
   first-listed = as-codes (OnlyFirst (nodesOf t) (nodesOf u)) (firstOnly (nodesOf t) (nodesOf u)) (first-fewest (nodesOf t) (nodesOf u) first-good second-good)
 
   pub second-listed :
       FewestOf (OnlySecond (nodesOf t) (nodesOf u)) (map cellOf (sharedCodes t u .seconds)) × Rise (sharedCodes t u .seconds)
       × All (λ (code : ℕ). arrangementOf code ≡ textArrangement t) (sharedCodes t u .seconds)
+      × (sharedCodes t u .seconds ≡ map (codeOf (textArrangement t)) (map cellOf (sharedCodes t u .seconds)))
   unfolding sharedCodes
   second-listed = as-codes (OnlySecond (nodesOf t) (nodesOf u)) (secondOnly (nodesOf t) (nodesOf u)) (second-fewest (nodesOf t) (nodesOf u) first-good second-good)
 
   pub both-listed :
       FewestOf (InBoth (nodesOf t) (nodesOf u)) (map cellOf (sharedCodes t u .boths)) × Rise (sharedCodes t u .boths)
       × All (λ (code : ℕ). arrangementOf code ≡ textArrangement t) (sharedCodes t u .boths)
+      × (sharedCodes t u .boths ≡ map (codeOf (textArrangement t)) (map cellOf (sharedCodes t u .boths)))
   unfolding sharedCodes
   both-listed = as-codes (InBoth (nodesOf t) (nodesOf u)) (inBoth (nodesOf t) (nodesOf u)) (both-fewest (nodesOf t) (nodesOf u) first-good second-good)
 

@@ -7,12 +7,13 @@ use mathlib.Core.List.{List, [], _∷_, map}
 use Prim.Native.Nat.{ℕ, zero, suc, _+_, _<_}
 use lib.Dec.{eqb}
 use lib.ListN.{length, take, drop}
+use lib.Seq.{length-take-le}
 use Rattle.logic.specs.Lists.{All}
 use Rattle.logic.specs.Rise.{Rise}
 use Rattle.logic.specs.Refusal.{refuse, _otherwise_, given}
 use Rattle.logic.specs.Laws.Refusal.{stops, passes, either, both, given-value}
 use Rattle.cell.specs.declared.Cell.{Cell}
-use Rattle.code.specs.Code.{cellOf, arrangementOf}
+use Rattle.code.specs.Code.{cellOf, codeOf, arrangementOf}
 use Rattle.reading.specs.Ground.{sizeSum}
 use Rattle.reading.specs.Fewest.{FewestOf}
 use Rattle.reading.specs.Text.{Accepted}
@@ -233,6 +234,15 @@ module _ (t u : List ℕ) (lent : ThreeLists) where
         × (drop (compareAnswer .«both_cells») (comparedMemory .boths) ≡ drop (compareAnswer .«both_cells») (lent .boths))
     compare-rest = (stands .firsts .rest, stands .seconds .rest, stands .boths .rest)
 
+    -- so many codes as are answered stand there
+    pub compare-counts :
+        (length firstCodes ≡ compareAnswer .«first_cells») × (length secondCodes ≡ compareAnswer .«second_cells») × (length bothCodes ≡ compareAnswer .«both_cells»)
+    compare-counts = (
+      length-take-le _ _ (stands .firsts .fit),
+      length-take-le _ _ (stands .seconds .fit),
+      length-take-le _ _ (stands .boths .fit),
+    )
+
     is-first : isText t ≡ true
     is-first = read-text (accepted-reads t (read-both none .0))
 
@@ -241,7 +251,9 @@ module _ (t u : List ℕ) (lent : ThreeLists) where
 
     -- "ground only in the first, only in the second, and in both, each as the fewest cells in rising order", of the first heading's arrangement
     abbrev Listing : (Cell → Type 0) → List ℕ → Type 0
-    Listing P codes = FewestOf P (map cellOf codes) × Rise codes × All (λ (code : ℕ). arrangementOf code ≡ textArrangement t) codes
+    Listing P codes =
+        FewestOf P (map cellOf codes) × Rise codes × All (λ (code : ℕ). arrangementOf code ≡ textArrangement t) codes
+        × (codes ≡ map (codeOf (textArrangement t)) (map cellOf codes))
 
     pub compare-first-only : Listing (OnlyFirst (nodesOf t) (nodesOf u)) firstCodes
     compare-first-only = subst (Listing (OnlyFirst (nodesOf t) (nodesOf u))) (sym (stands .firsts .are)) (first-listed t u is-first is-second)
