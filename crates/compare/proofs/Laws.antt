@@ -6,12 +6,16 @@ use native.Mathlib.Numerals.{add-one}
 use native.Mathlib.Omega.{arith}
 use lib.ListN.{length, take, drop, set, length-append, length-drop, length-set}
 use lib.Seq.{take-suc-set, take-append-le, length-take-le}
+use Rattle.console.specs.declared.BytesRead.{BytesRead}
+use Rattle.console.specs.declared.BytesRead.the-variants.{Count, Failed}
+use Rattle.console.specs.Input.{Fits}
 use Rattle.console.specs.Names.{NamesWritten}
 use Rattle.report.specs.Put.{Put}
 use Rattle.report.specs.Lines.{numberLine}
 use Rattle.report.specs.Laws.Put.{put-taken}
 use Rattle.comparing.specs.Compare.{ThreeLists, lists, sharedCodes, comparePlace}
 use Rattle.comparing.specs.Laws.Answer.{AllInFront}
+use Rattle.compare.specs.Loaded.{bytesOf}
 use Rattle.compare.specs.Printed.{ListingWritten, ListingsWritten}
 
 module _ (codes out ys : List ℕ) (end : ℕ) (h : 18 ≤ length out) (l : length ys ≡ length (take (length out - 1) out)) (w : NamesWritten codes ys end) where
@@ -58,7 +62,12 @@ listings-written t u {e = e} {f = f} {g = g} {x = x} {y = y} {z = z} k v w o =
 pub number-written :
     (t u y z : List ℕ) (p : ℕ) {q r end : ℕ} {out later : List ℕ} → (q ≡ r) × (r ≡ 0 → ⊥) × (p ≡ comparePlace t u) → Put 0 (numberLine r) out later end → end ≤ length out →
     ListingsWritten q t u (lists later y z) (record { firsts = end; seconds = 0; boths = 0; refusal = r; place = p })
-number-written t u y z p {r = zero} k w h = absurd (k .1 .0 refl)
+number-written t u y z p {r = zero} k w h = absurd (k .1 refl)
 number-written t u y z p {r = suc r} {end = end} {later = later} k w h =
     subst (λ (n : ℕ). ListingsWritten n t u (lists later y z) (record { firsts = end; seconds = 0; boths = 0; refusal = suc r; place = p })) (sym (k .0))
-    (put-taken w h, refl, k .1 .1)
+    (put-taken w h, refl, k .2)
+
+-- the bytes of a file, or none, have their room
+pub bytes-fit : (bytes : List ℕ) (r : BytesRead) → Fits bytes r → bytesOf r ≤ length bytes
+bytes-fit bytes (Count n) h = h
+bytes-fit bytes Failed h = omega arith

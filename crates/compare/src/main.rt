@@ -35,7 +35,7 @@ fn print_listing(codes: &[u64], out: &mut [u8]) -> usize
     end + 1
 }
 
-// The three listings, or the refusal number on its line.
+// The three listings, or the refusal number on its line. The program "lends 65,536 codes a listing".
 fn print_compared(
     first: &[u8],
     second: &[u8],
@@ -46,8 +46,7 @@ fn print_compared(
     two: &mut [u8],
     three: &mut [u8],
 ) -> Shown
-    requires { ⌜ (length (now firsts) ≡ 65536) × (length (now seconds) ≡ 65536) × (length (now boths) ≡ 65536) ⌝ } // "65,536 codes a listing"
-    requires { ⌜ (21 ≤ length (now one)) × (18 ≤ length (now two)) × (18 ≤ length (now three)) ⌝ }
+    requires { ⌜ (21 ≤ length (now one)) × (18 ≤ length (now two)) × (18 ≤ length (now three)) × (length (now firsts) ≡ 65536) × (length (now seconds) ≡ 65536) × (length (now boths) ≡ 65536) ⌝ }
     ensures { λ r. ⌜ ListingsWritten (compareRefusal (now (first .entry)) (now (second .entry)) (lists (now (firsts .entry)) (now (seconds .entry)) (now (boths .entry)))) (now (first .entry)) (now (second .entry)) (lists (now (one .exit)) (now (two .exit)) (now (three .exit))) r ⌝ }
 {
     match comparing::compare(first, second, firsts, seconds, boths) {

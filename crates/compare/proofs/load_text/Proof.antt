@@ -1,6 +1,9 @@
--- `load_text` meets its contract: what was read has its room. Assumes nothing.
+-- `load_text` meets its contract: what was read has its room, and nothing does too. Assumes nothing.
+use mathlib.Core.Path.{sym, subst}
+use Prim.Native.Nat.{ℕ, _≤_}
+use lib.ListN.{length}
 use borrow.Author.Needs.{needs}
-use Rattle.console.specs.Laws.Input.{count-fits}
+use Rattle.compare.proofs.Laws.{bytes-fit}
 use Rattle.compare.proofs.load_text.Statement.{statement}
 use Rattle.compare.proofs.load_text.Tie as tie
 
@@ -10,11 +13,8 @@ slice-aggregate-load c = search needs
 load-requires : tie.Need-load-requires
 load-requires c κs = search needs
 
-enum-known-count : tie.Need-enum-known-count
-enum-known-count c = search needs
-
-enum-told : tie.Need-enum-told
-enum-told c = search needs
+bytes-of-requires : tie.Need-bytes-of-requires
+bytes-of-requires c κs = search needs
 
 same-length : tie.Need-same-length
 same-length c = search needs
@@ -23,16 +23,9 @@ same-length-2 : tie.Need-same-length-2
 same-length-2 c = search needs
 
 returns : tie.Need-returns
-returns c = count-fits _ _ (c .before .before .before .before .before .before .before .load .ensures) (c .before .count .given .1)
-
-same-length-3 : tie.Need-same-length-3
-same-length-3 c = search needs
-
-same-length-4 : tie.Need-same-length-4
-same-length-4 c = search needs
-
-returns-2 : tie.Need-returns-2
-returns-2 c = search needs
+returns c =
+    let l = c .before .before .before .before .before .load in
+    subst (λ (n : ℕ). n ≤ length (l .last .1 .1 .1 .0)) (sym (c .bytes-of .ensures)) (bytes-fit (l .last .1 .1 .1 .0) (l .result) (l .ensures))
 
 pub load-text-spec : {M : Type 1} → statement M
 load-text-spec =
@@ -40,11 +33,7 @@ load-text-spec =
     (tie.spec
     slice-aggregate-load
     load-requires
-    enum-known-count
-    enum-told
+    bytes-of-requires
     same-length
     same-length-2
-    returns
-    same-length-3
-    same-length-4
-    returns-2)
+    returns)
