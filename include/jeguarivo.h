@@ -22,7 +22,7 @@
  *   12  parent at resolution 0, child at 15
  *   13  text longer than 65,536 bytes, read or to be written
  *   14  a question or a cell to add of another arrangement than the text's heading has, or a list with a code of another arrangement than
- *       the asked one
+ *       the asked one, or two texts whose headings differ in n or s
  *   15  list, or text with a cell, outside the profile of version 2: the fewest cells of its ground hold a part of N or S, or one deeper than
  *       the asked depth or the text's
  *   19  a face side in metres out of range or not a number, a frame handed in with an edge that is not a number
@@ -64,6 +64,7 @@ typedef struct { uint64_t refusal, place, length; } jgv_add;
 typedef struct { uint64_t refusal, kind; double numbers[4]; } jgv_mark_answer;
 typedef struct { double left, bottom, right, top; } jgv_frame;
 typedef struct { uint64_t refusal; double left, bottom, right, top; } jgv_frame_answer;
+typedef struct { uint64_t refusal, place, first_cells, second_cells, both_cells, first_size, second_size, both_size; } jgv_compare;
 
 /* The code of a cell in an arrangement. Refusals 5, 2, 1, 3. */
 jgv_code jgv_cell_code(uint64_t n, uint64_t s, uint64_t face, uint64_t resolution, uint64_t row, uint64_t column);
@@ -170,6 +171,13 @@ jgv_frame_answer jgv_frame_first(double side, uint64_t code);
 /* A frame grown to hold the box of a further cell, in metres: each edge becomes the one further out, on a tie the frame's, as -0.0 stays beside
  * 0.0. An infinite edge is a number. Refusals 19, 4. */
 jgv_frame_answer jgv_frame_grow(double side, jgv_frame frame, uint64_t code);
+
+/* What two texts of one arrangement cover, each as the fewest cells in rising order: only the first to `firsts`, only the second to
+ * `seconds`, both to `boths`; how many cells each listing has, and the sum of their sizes. First only and both add up to the first text's
+ * size, second only and both to the second's. The texts may differ in version and depth. Refusals: 13, 10, 9 of the first text, then of the
+ * second, 14 where n or s differ, 8 where any room is short. */
+jgv_compare jgv_coverage_compare(const uint8_t *first, size_t first_length, const uint8_t *second, size_t second_length, uint64_t *firsts,
+                                 size_t first_room, uint64_t *seconds, size_t second_room, uint64_t *boths, size_t both_room);
 
 #ifdef __cplusplus
 }

@@ -1,14 +1,23 @@
-//! Coverage texts of 1, 4, 16 and 64 KiB: check, list, ask and write.
+//! Coverage texts of 1, 4, 16 and 64 KiB: check, list, ask and write; and two of them compared.
 
 use crate::inputs::{code, swath, Random};
-use crate::library::{CoverageAsk, CoverageCheck, CoverageList, CoverageWrite, Fold};
+use crate::library::{
+    CoverageAsk, CoverageCheck, CoverageCompare, CoverageList, CoverageWrite, Fold,
+};
 use crate::measure::{compare, pair, Plan, Row, Work};
+use crate::plain::comparing::coverage_compare;
 use crate::plain::coverage::{coverage_ask, coverage_check, coverage_list};
-use crate::plain::writing::coverage_write;
-use jeguarivo::{jgv_coverage_ask, jgv_coverage_check, jgv_coverage_list, jgv_coverage_write};
+use crate::plain::writing::{coverage_write, write as written, FULL};
+use jeguarivo::{
+    jgv_coverage_ask, jgv_coverage_check, jgv_coverage_compare, jgv_coverage_list,
+    jgv_coverage_write,
+};
 use std::cell::RefCell;
 
 const GOAL: Option<f64> = Some(1.1);
+
+/// Two texts compared, against plain Rust of the same algorithm.
+const COMPARE_GOAL: Option<f64> = Some(1.2);
 
 /// A text, the cells it was written from, and cells to ask for: half of them covered.
 struct Text {
@@ -16,12 +25,14 @@ struct Text {
     codes: Vec<u64>,
     text: Vec<u8>,
     asked: Vec<u64>,
+    /// Another text, of about the same length: half of the cells are this one's, half are others.
+    other: Vec<u8>,
 }
 
 pub fn run(plan: Plan, random: &mut Random) -> Vec<Row> {
     let texts: Vec<Text> = [1, 4, 16, 64].map(|size| text(random, size)).into();
     let mut rows = Vec::new();
-    for work in [check, list, ask, write] {
+    for work in [check, list, ask, write, compare_two] {
         texts.iter().for_each(|text| rows.extend(work(plan, text)));
     }
     rows
@@ -38,16 +49,23 @@ fn text(random: &mut Random, size: usize) -> Text {
             }
         })
         .collect();
+    let (others, _) = swath(random, 12, size * 1024 / 2);
+    let mut mixed = [&codes[..codes.len() / 2], &others].concat();
+    mixed.sort_unstable();
+    mixed.dedup();
+    let other = written(FULL, 0, 0, &mixed);
     eprintln!(
-        "bench: {size} KiB: {} bytes from {} cells of resolution 12",
+        "bench: {size} KiB: {} bytes from {} cells of resolution 12, compared with {} bytes",
         text.len(),
-        codes.len()
+        codes.len(),
+        other.len()
     );
     Text {
         size,
         codes,
         text,
         asked,
+        other,
     }
 }
 
@@ -119,4 +137,38 @@ fn write(plan: Plan, at: &Text) -> Vec<Row> {
     });
     let name = format!("write {} KiB, a byte", at.size);
     compare(plan, Work::new(&name, at.text.len()), sides)
+}
+
+fn compare_two(plan: Plan, at: &Text) -> Vec<Row> {
+    let both = at.text.len() + at.other.len();
+    let rooms = RefCell::new([(); 3].map(|_| vec![0; 3 * both]));
+    let pass = |compare: CoverageCompare, _| {
+        let mut rooms = rooms.borrow_mut();
+        let [firsts, seconds, boths] = rooms.each_mut();
+        let answer = unsafe {
+            compare(
+                at.text.as_ptr(),
+                at.text.len(),
+                at.other.as_ptr(),
+                at.other.len(),
+                firsts.as_mut_ptr(),
+                firsts.len(),
+                seconds.as_mut_ptr(),
+                seconds.len(),
+                boths.as_mut_ptr(),
+                boths.len(),
+            )
+        };
+        answer.fold(boths[answer.both_cells as usize - 1])
+    };
+    let mut all = Vec::new();
+    for entry in [jgv_coverage_compare, coverage_compare as CoverageCompare] {
+        rooms.borrow_mut().iter_mut().for_each(|room| room.fill(0));
+        pass(entry, 0);
+        all.push(rooms.borrow().clone());
+    }
+    assert!(all[0] == all[1], "the listings differ");
+    let sides = pair::<CoverageCompare>(COMPARE_GOAL, jgv_coverage_compare, coverage_compare, pass);
+    let name = format!("compare two of {} KiB, a byte", at.size);
+    compare(plan, Work::new(&name, both), sides)
 }

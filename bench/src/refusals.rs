@@ -2,13 +2,15 @@
 
 use crate::inputs::{code, swath, Random};
 use crate::plain::codes::{cell_code, code_cell, code_name, name_code};
+use crate::plain::comparing::coverage_compare;
 use crate::plain::coverage::{coverage_ask, coverage_check, coverage_list};
 use crate::plain::fixes::{
     fix_code, geodetic_code, geodetic_z, geodetic_z_divided, ground_nucleus,
 };
 use crate::plain::neighbour::neighbour;
 use crate::plain::plotter::{frame_first, frame_grow, mark_code, mark_point};
-use crate::plain::writing::{coverage_write, write, Profile};
+use crate::plain::writing::{coverage_write, write, Profile, FULL};
+use crate::plain::NINE;
 use jeguarivo::{
     jgv_cell_code, jgv_code_cell, jgv_fix_code, jgv_frame_first, jgv_frame_grow, jgv_geodetic_code,
     jgv_geodetic_z, jgv_ground_nucleus, jgv_mark_code, jgv_mark_point, jgv_neighbour, lent, Frame,
@@ -250,6 +252,60 @@ fn texts(random: &mut Random) {
         coverage_list(at, length, plain.as_mut_ptr(), room),
     );
     same("list", (counts.0, library), (counts.1, plain));
+    compared(random, &text);
+}
+
+/// A text and another one, with some of its cells and some others, spoilt now and then.
+fn compared(random: &mut Random, first: &[u8]) {
+    let resolution = 5 + random.below(11);
+    let (mut codes, _) = swath(random, resolution, 200);
+    let mut own = [0; 400];
+    let listed = lent::coverage_list(first, &mut own);
+    if listed.refusal == 0 {
+        let half = listed.count as usize / 2;
+        codes.extend(own[..half].iter().map(|code| code & !15));
+        codes.sort_unstable();
+        codes.retain({
+            let mut end = 0;
+            move |code| {
+                let free = end <= code >> 8;
+                if free {
+                    end = (code >> 8) + NINE[15 - (code >> 4 & 15) as usize];
+                }
+                free
+            }
+        });
+    }
+    let mut second = write(FULL, 0, 0, &codes);
+    if first.len() > 7 && random.below(8) > 0 {
+        second[5..7].copy_from_slice(&first[5..7]);
+    }
+    if random.below(4) == 0 {
+        spoil(random, &mut second);
+    }
+    let rooms = [(); 3].map(|_| random.below(1_500) as usize);
+    let (mut library, mut plain) = ([[7; 1_500]; 3], [[7; 1_500]; 3]);
+    let [one, two, three] = library.each_mut();
+    let by_library = lent::coverage_compare(
+        first,
+        &second,
+        &mut one[..rooms[0]],
+        &mut two[..rooms[1]],
+        &mut three[..rooms[2]],
+    );
+    let by_plain = coverage_compare(
+        first.as_ptr(),
+        first.len(),
+        second.as_ptr(),
+        second.len(),
+        plain[0].as_mut_ptr(),
+        rooms[0],
+        plain[1].as_mut_ptr(),
+        rooms[1],
+        plain[2].as_mut_ptr(),
+        rooms[2],
+    );
+    same("compare", (by_library, library), (by_plain, plain));
 }
 
 /// A text of version 2 of the cells, most often with a depth that they keep to.

@@ -165,10 +165,13 @@ fn numbers(inputs: &Inputs) -> Vec<(&'static str, usize)> {
 fn texts(inputs: &Inputs) -> Vec<(&'static str, usize)> {
     let (texts, lists) = (&inputs.texts, &inputs.lists);
     let (mut codes, mut room) = (vec![0; 65_536], vec![0; 65_536]);
+    let [mut firsts, mut seconds, mut boths] = [(); 3].map(|_| vec![0; 65_536]);
+    let whole = b"CVR\0\x0100NOPQRS";
     depths! {
         jgv_coverage_check: texts, text => (text.as_ptr(), text.len());
         jgv_coverage_list: texts, text => (text.as_ptr(), text.len(), codes.as_mut_ptr(), codes.len());
         jgv_coverage_write: lists, list => (1, 15, 0, 0, list.as_ptr(), list.len(), room.as_mut_ptr(), room.len());
         jgv_coverage_ask: texts, text => (text.as_ptr(), text.len(), 15 << 4);
+        jgv_coverage_compare: texts, text => (text.as_ptr(), text.len(), whole.as_ptr(), whole.len(), firsts.as_mut_ptr(), firsts.len(), seconds.as_mut_ptr(), seconds.len(), boths.as_mut_ptr(), boths.len());
     }
 }

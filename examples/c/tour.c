@@ -399,6 +399,28 @@ static void coverage(void) {
     print_bad_text("O(012345678)");
 }
 
+static void print_listing(const char *which, const uint64_t *codes, uint64_t count, uint64_t size) {
+    printf("coverage_compare: P(34(1)) and P(4): %s ->", which);
+    for (uint64_t i = 0; i < count; i++)
+        printf(" %s", name_of(codes[i]).text);
+    printf(", size %" PRIu64 "\n", size);
+}
+
+/* What you flew and I did not: two texts of one arrangement, which may be of two versions. Each listing is the fewest cells of its ground. */
+static void crews(void) {
+    static const uint8_t first[] = {'C', 'V', 'R', 0, 1, '0', '0', 'P', '(', '3', '4', '(', '1', ')', ')'};
+    static const uint8_t second[] = {'C', 'V', 'R', 0, 2, '0', '0', 'b', 'P', '(', '4', ')'};
+    static const uint8_t another[] = {'C', 'V', 'R', 0, 1, '1', '0', 'P', '(', '4', ')'};
+    uint64_t firsts[96], seconds[96], boths[96];
+    jgv_compare found = jgv_coverage_compare(first, sizeof first, second, sizeof second, firsts, 96, seconds, 96, boths, 96);
+    expect_answer(found.refusal);
+    print_listing("only the first", firsts, found.first_cells, found.first_size);
+    print_listing("only the second", seconds, found.second_cells, found.second_size);
+    print_listing("both", boths, found.both_cells, found.both_size);
+    found = jgv_coverage_compare(first, sizeof first, another, sizeof another, firsts, 96, seconds, 96, boths, 96);
+    printf("coverage_compare: P(34(1)), n 0, and P(4), n 1 -> refused with %" PRIu64 "\n", found.refusal);
+}
+
 int main(void) {
     codes_and_names();
     families();
@@ -412,5 +434,6 @@ int main(void) {
     two_arrangements();
     handhelds();
     plotter();
+    crews();
     return 0;
 }

@@ -34,7 +34,7 @@ REASONS = {
     11: "a list of codes that does not rise strictly, or with one cell inside another",
     12: "the parent of a cell of resolution 0, or a child of one of resolution 15",
     13: "a text longer than 65,536 bytes",
-    14: "a question of another arrangement than the text's, or a list with a code of another arrangement than the asked one",
+    14: "a question of another arrangement than the text's, a list with a code of another arrangement than the asked one, or two texts that differ in n or s",
     15: "a list outside the profile: a part of N or S, or a cell deeper than the asked depth",
     19: "a face side that is not a number from 1 to 2^30, or a frame with an edge that is not a number",
 }
@@ -56,6 +56,11 @@ class Cell(NamedTuple):
     resolution: int
     row: int
     column: int
+
+
+class Listing(NamedTuple):
+    codes: List[int]
+    size: int
 
 
 class Square(NamedTuple):
@@ -135,6 +140,7 @@ class _MarkAnswer(ctypes.Structure):
 
 class _Frame(ctypes.Structure):
     _fields_ = [(edge, c_double) for edge in Frame._fields]
+_Compare = _struct("jgv_compare", c_uint64, "place", "first_cells", "second_cells", "both_cells", "first_size", "second_size", "both_size")
 
 
 class _U64:
@@ -205,6 +211,7 @@ _mark_point = _entry("jgv_mark_point", _MarkAnswer, c_double, _U64, _U64, _I64, 
 _mark_code = _entry("jgv_mark_code", _MarkAnswer, c_double, _U64)
 _frame_first = _entry("jgv_frame_first", _FrameAnswer, c_double, _U64)
 _frame_grow = _entry("jgv_frame_grow", _FrameAnswer, c_double, _Frame, _U64)
+_coverage_compare = _entry("jgv_coverage_compare", _Compare, _BYTES, c_size_t, _BYTES, c_size_t, _CODES, c_size_t, _CODES, c_size_t, _CODES, c_size_t)
 
 
 def cell_code(n: int, s: int, face: int, resolution: int, row: int, column: int) -> int:
@@ -373,3 +380,15 @@ def frame_first(side: float, code: int) -> Frame:
 def frame_grow(side: float, frame: Frame, code: int) -> Frame:
     """A frame grown to hold the box of a further cell."""
     return _frame(_frame_grow(side, _Frame(*frame), code))
+
+
+def coverage_compare(first: bytes, second: bytes) -> Tuple[Listing, Listing, Listing]:
+    """What two texts of one arrangement cover: only the first, only the second, and both, each as the fewest cells, rising."""
+    room = 3 * (len(first) + len(second))  # always enough
+    firsts, seconds, boths = ((c_uint64 * room)() for _ in range(3))
+    got = _coverage_compare(first, len(first), second, len(second), firsts, room, seconds, room, boths, room)
+    return (
+        Listing(firsts[: got.first_cells], got.first_size),
+        Listing(seconds[: got.second_cells], got.second_size),
+        Listing(boths[: got.both_cells], got.both_size),
+    )

@@ -228,6 +228,18 @@ def plotter():
     print(f"frame_grow: side {side:.1f}, a top that is not a number, and P1 -> {refusal(jgv.frame_grow, side, bad, code_of('P1'))}")
 
 
+def crews():
+    """What you flew and I did not: two texts of one arrangement, which may be of two versions. Each listing is the fewest cells of its ground."""
+    first, second = b"CVR\0\x0100P(34(1))", b"CVR\0\x0200bP(4)"
+    for which, listing in zip(("only the first", "only the second", "both"), jgv.coverage_compare(first, second)):
+        names = " ".join(map(code_name, listing.codes))
+        print(f"coverage_compare: P(34(1)) and P(4): {which} -> {names}, size {listing.size}")
+    another = refusal(jgv.coverage_compare, first, b"CVR\0\x0110P(4)")
+    print(f"coverage_compare: P(34(1)), n 0, and P(4), n 1 -> {another}")
+
+
 if __name__ == "__main__":
-    for part in (codes_and_names, families, shapes, plane, ground, neighbours, corners, coverage, additions, two_arrangements, handhelds, plotter):
+    for part in (
+        codes_and_names, families, shapes, plane, ground, neighbours, corners, coverage, additions, two_arrangements, handhelds, plotter, crews,
+    ):
         part()

@@ -45,6 +45,9 @@ ANSWER(jgv_mark_answer, 48); UNSIGNED(jgv_mark_answer, kind, 8); DOUBLE(jgv_mark
 ASSERT(sizeof(jgv_frame) == 32); DOUBLE(jgv_frame, left, 0); DOUBLE(jgv_frame, bottom, 8); DOUBLE(jgv_frame, right, 16); DOUBLE(jgv_frame, top, 24);
 ANSWER(jgv_frame_answer, 40); DOUBLE(jgv_frame_answer, left, 8); DOUBLE(jgv_frame_answer, bottom, 16); DOUBLE(jgv_frame_answer, right, 24);
 DOUBLE(jgv_frame_answer, top, 32);
+ANSWER(jgv_compare, 64); UNSIGNED(jgv_compare, place, 8); UNSIGNED(jgv_compare, first_cells, 16); UNSIGNED(jgv_compare, second_cells, 24);
+UNSIGNED(jgv_compare, both_cells, 32); UNSIGNED(jgv_compare, first_size, 40); UNSIGNED(jgv_compare, second_size, 48);
+UNSIGNED(jgv_compare, both_size, 56);
 
 /* Counting checks. */
 static unsigned long passed, failed;
@@ -994,6 +997,81 @@ static void coverage_add(void) {
     CHECK(none.refusal, 9, "jgv_coverage_add of no memory: refusal");
 }
 
+/* Three rooms in the lent codes, the second behind the first and the third behind that. */
+enum { ROOM_OF_THREE = ROOM / 4 };
+
+static jgv_compare compared(const uint8_t *first, size_t first_length, const uint8_t *second, size_t second_length, size_t a, size_t b, size_t c) {
+    uint64_t *rooms = lend_codes();
+    return jgv_coverage_compare(first, first_length, second, second_length, rooms, a, rooms + ROOM_OF_THREE, b, rooms + 2 * ROOM_OF_THREE, c);
+}
+
+/* How many lent bytes have changed that are none of these many codes at the front of each room. */
+static size_t room_strays(size_t a, size_t b, size_t c) {
+    const uint64_t *rooms = lent_codes + GUARD, *second = rooms + ROOM_OF_THREE, *third = second + ROOM_OF_THREE;
+    return changes(lent_codes, rooms) + changes(rooms + a, second) + changes(second + b, third) + changes(third + c, rooms + ROOM + GUARD);
+}
+
+static void compares_nothing(const uint8_t *first, size_t first_length, const uint8_t *second, size_t second_length, size_t a, size_t b, size_t c,
+                             uint64_t refusal, uint64_t place) {
+    jgv_compare got = compared(first, first_length, second, second_length, a, b, c);
+    CHECK(got.refusal, refusal, "jgv_coverage_compare refused: refusal");
+    CHECK(got.place, place, "jgv_coverage_compare refused: place");
+    CHECK(got.first_cells | got.second_cells | got.both_cells, 0, "jgv_coverage_compare refused: numbers of cells");
+    CHECK(got.first_size | got.second_size | got.both_size, 0, "jgv_coverage_compare refused: sizes");
+    CHECK(room_strays(0, 0, 0), 0, "jgv_coverage_compare refused: lent codes");
+}
+
+/* These cells of an arrangement stand in a room, and no more were counted. */
+static void has_listed(uint64_t n, uint64_t s, const uint64_t *codes, uint64_t count, const char *const *names, size_t wanted) {
+    CHECK(count, wanted, "jgv_coverage_compare: number of cells");
+    for (size_t i = 0; i < wanted; i++)
+        CHECK(codes[i], code_at(n, s, names[i]), names[i]);
+}
+
+static void coverage_compare(void) {
+    static const char *const first[] = {"O0", "O3", "O4", "O5", "O6", "O7", "O8", "P3"};
+    static const char *const second[] = {"P40", "P42", "P43", "P44", "P45", "P46", "P47", "P48"};
+    static const char *const both[] = {"O1", "O2", "P41"};
+    const uint64_t *rooms = lent_codes + GUARD;
+    /* a text of version 1 and one of version 2, in rooms that are just enough */
+    jgv_compare got = compared(TEXT("CVR\0\1" "21" "OP(34(1))"), TEXT("CVR\0\2" "21b" "O(12)P(4)"), 8, 8, 3);
+    CHECK(got.refusal, 0, "jgv_coverage_compare: refusal");
+    CHECK(got.place, 0, "jgv_coverage_compare: place");
+    has_listed(2, 1, rooms, got.first_cells, first, 8);
+    has_listed(2, 1, rooms + ROOM_OF_THREE, got.second_cells, second, 8);
+    has_listed(2, 1, rooms + 2 * ROOM_OF_THREE, got.both_cells, both, 3);
+    CHECK(room_strays(8, 8, 3), 0, "jgv_coverage_compare: codes about the listings");
+    CHECK(got.first_size, NINE_15 - NINE_14, "jgv_coverage_compare: first size");
+    CHECK(got.second_size, NINE_14 - NINE_13, "jgv_coverage_compare: second size");
+    CHECK(got.both_size, 2 * NINE_14 + NINE_13, "jgv_coverage_compare: both size");
+
+    got = compared(TEXT(HEAD "P"), TEXT(HEAD "P"), 0, 0, 1);
+    CHECK(got.refusal, 0, "jgv_coverage_compare of one text twice: refusal");
+    CHECK(got.both_cells, 1, "jgv_coverage_compare of one text twice: cells");
+    CHECK(got.both_size, NINE_15, "jgv_coverage_compare of one text twice: size");
+    CHECK(got.first_cells | got.second_cells | got.first_size | got.second_size, 0, "jgv_coverage_compare of one text twice: the others");
+
+    /* 8 where any room is short; the order is 13, 10, 9 of the first, 13, 10, 9 of the second, 14, 8 */
+    compares_nothing(TEXT(HEAD "OP(34(1))"), TEXT(HEAD "O(12)P(4)"), 7, 8, 3, 8, 0);
+    compares_nothing(TEXT(HEAD "OP(34(1))"), TEXT(HEAD "O(12)P(4)"), 8, 7, 3, 8, 0);
+    compares_nothing(TEXT(HEAD "OP(34(1))"), TEXT(HEAD "O(12)P(4)"), 8, 8, 2, 8, 0);
+    compares_nothing(TEXT(HEAD "O"), TEXT("CVR\0\1" "10" "P"), 0, 0, 0, 14, 0);
+    compares_nothing(TEXT(HEAD "O"), TEXT("CVR\0\1" "01" "P"), 16, 16, 16, 14, 0);
+    compares_nothing(TEXT(HEAD "O"), TEXT("CVR\0\2" "10a" "P"), 16, 16, 16, 14, 0);
+    compares_nothing(TEXT(HEAD "O"), TEXT("CVR\0\1" "10" "P()"), 16, 16, 16, 9, 9);
+    compares_nothing(TEXT(HEAD "O"), TEXT("CVR\0\3" "10P"), 16, 16, 16, 10, 0);
+    compares_nothing(TEXT(HEAD "O"), long_text, LONGEST + 1, 16, 16, 16, 13, 0);
+    compares_nothing(TEXT(HEAD "O("), TEXT("CVR\0\3" "10P"), 16, 16, 16, 9, 9);
+    compares_nothing(TEXT(HEAD "O("), long_text, LONGEST + 1, 16, 16, 16, 9, 9);
+    compares_nothing(TEXT("CVR\0\3" "10P"), TEXT(HEAD "O()"), 16, 16, 16, 10, 0);
+    compares_nothing(long_text, LONGEST + 1, TEXT(HEAD "O()"), 16, 16, 16, 13, 0);
+    compares_nothing(NULL, 0, TEXT(HEAD), 16, 16, 16, 9, 0);
+    compares_nothing(TEXT(HEAD), NULL, 0, 16, 16, 16, 9, 0);
+    got = jgv_coverage_compare(TEXT(HEAD), TEXT(HEAD_2 "p"), NULL, 0, NULL, 0, NULL, 0);
+    CHECK(got.refusal, 0, "jgv_coverage_compare to no memory: refusal");
+    CHECK(got.first_cells | got.second_cells | got.both_cells, 0, "jgv_coverage_compare to no memory: cells");
+}
+
 /* Finest cells of N without the last child of any: nothing merges, each eight take eleven bytes and more, `d(01234567)`. */
 static void long_lists(void) {
     for (uint64_t i = 0; i < TOO_MANY; i++)
@@ -1177,6 +1255,7 @@ int main(void) {
     mark_code();
     frame_first();
     frame_grow();
+    coverage_compare();
     long_lists(); /* last, since it fills `long_text` and `many` */
     if (failed)
         printf("%lu checks failed\n", failed);

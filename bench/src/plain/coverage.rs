@@ -142,7 +142,7 @@ fn walk(text: &[u8], mut visit: impl FnMut(usize, u64)) {
     }
 }
 
-fn checked(text: &[u8]) -> Check {
+pub fn checked(text: &[u8]) -> Check {
     let (mut cells, mut size) = (0, 0);
     match read(text, |depth, _, whole| {
         if whole {

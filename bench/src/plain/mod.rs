@@ -2,6 +2,7 @@
 //! through a C entry that is not inlined.
 
 pub mod codes;
+pub mod comparing;
 pub mod coverage;
 pub mod fixes;
 pub mod neighbour;

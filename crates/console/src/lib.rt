@@ -6,6 +6,7 @@ ghost use Rattle.console.specs.Arguments.{latitudeGiven, settingGiven, O
 ghost use Rattle.console.specs.Beside.{besideOf};
 ghost use Rattle.console.specs.Input.{unread, Given, Fits, lastLine};
 ghost use Rattle.console.specs.Room.{Made};
+ghost use Rattle.console.specs.Names.{NamesWritten};
 use cell::Arrangement;
 use decimal::Whole;
 use flight::Latitude;
@@ -94,6 +95,22 @@ pub fn make_room(out: &[u8], at: usize, size: usize) -> Room
     Room::From(at)
 }
 
+// The names of codes, one a line: what is left of them in front, behind what was printed.
+pub fn put_all_names(codes: &[u64], out: &mut [u8]) -> usize
+    requires { ⌜ 17 ≤ length (now out) ⌝ }
+    ensures { λ r. ⌜ NamesWritten (now (codes .entry)) (now (out .exit)) r ⌝ }
+{
+    let mut from: usize = 0;
+    let mut end: usize = 0;
+    while from < codes.len() {
+        print_first(out, end);
+        let names = report::put_names(&codes[from..], out);
+        from = from + names.count;
+        end = names.end;
+    }
+    end
+}
+
 // A number in decimal, to standard error.
 pub fn say_whole(x: u64) {
     let mut digits = [0u8; 20];
@@ -109,10 +126,12 @@ fn say_meaning(refusal: u64) {
         3 => say(b": after its letter a name has digits 0 to 8\n"),
         5 => say(b": n and s are 0 to 3\n"),
         6 => say(b": no fix, or a fix or an eccentricity out of range\n"),
+        8 => say(b": more cells than there is room for\n"),
         9 => say(b": not a coverage text\n"),
         10 => say(b": a coverage text of a version that is neither 1 nor 2\n"),
         11 => say(b": the names do not rise, or one cell lies inside another\n"),
         13 => say(b": the text or the list is too long\n"),
+        14 => say(b": the two texts differ in n or s\n"),
         15 => say(b": the cells do not keep to the profile: N or S in part, or a cell too deep\n"),
         19 => say(b": a face's side in metres is 1 to 1073741824, with at most 15 digits\n"),
         _ => say(b"\n"),
@@ -328,6 +347,29 @@ pub fn read_all(fd: i32, buf: &mut [u8]) -> BytesRead
         }
     }
     BytesRead::Count(count)
+}
+
+// The file that the argument with this number names, as much of it as there is room for. Where it cannot be read, standard error says why.
+pub fn load(program: &[u8], i: usize, path: &mut [u8], text: &mut [u8]) -> BytesRead
+    ensures { λ r. ⌜ Fits (now (text .exit)) r ⌝ }
+{
+    let n = os::arg(i, path);
+    if os::errno() != 0 {
+        say_failure(program, b"FILE");
+        return BytesRead::Failed;
+    }
+    let fd = os::open_read(&path[..n]);
+    if fd < 0 {
+        say_failure(program, &path[..n]);
+        return BytesRead::Failed;
+    }
+    let BytesRead::Count(count) = read_all(fd, text) else {
+        say_failure(program, &path[..n]);
+        libc::close(fd);
+        return BytesRead::Failed;
+    };
+    libc::close(fd);
+    BytesRead::Count(count) // of the file
 }
 
 // What comes next of standard input. Where reading fails, standard error says why.

@@ -1,10 +1,11 @@
 -- The list of the cells that meet a cell at a corner (02, W-204): "list these cells in rising code order, under any arrangement". What is here is the
 -- computing form. Laws/List shows that it has the codes of the cells that `MeetsAtCorner` says, no others, rising. Assumes nothing.
 use mathlib.Core.Bool.{Bool, _&&_, cond}
-use mathlib.Core.List.{List, [], _++_}
+use mathlib.Core.List.{List, []}
 use Prim.Native.Nat.{ℕ, zero, suc, _+_, _%_}
 use lib.Dec.{ltb}
-use lib.ListN.{length, drop}
+use lib.ListN.{length}
+pub use Rattle.logic.specs.Lent.{inFront}
 use Rattle.logic.specs.Refusal.{refuse, _otherwise_, given}
 use Rattle.cell.specs.declared.Cell.{Cell}
 use Rattle.cell.specs.declared.Arrangement.{Arrangement}
@@ -48,10 +49,6 @@ codesAt code = cornerCodes (arrangementOf code) (cellOf code)
 -- 4: "a code is no cell's". 8: "lent buffer shorter than the answer"
 unfoldable pub cornersRefusal : (code room : ℕ) → ℕ
 cornersRefusal code room = codeRefusal code otherwise refuse (ltb room (length (codesAt code))) 8
-
--- the lent codes with these in front: "an answer changes only its own length"
-abbrev pub inFront : (codes lent : List ℕ) → List ℕ
-inFront codes lent = codes ++ drop (length codes) lent
 
 -- the lent codes afterwards: the list in front, and with a refusal what stood there
 abbrev pub cornerMemory : (code : ℕ) (lent : List ℕ) → List ℕ

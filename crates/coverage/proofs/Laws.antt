@@ -1,14 +1,14 @@
 -- A name more is read; a name is asked for; names are printed part by part. Assumes nothing.
-use mathlib.Core.Path.{_≡_, refl, sym, ap, ap₂, _∙_, subst}
+use mathlib.Core.Path.{_≡_, refl, sym, ap, _∙_, subst}
 use mathlib.Core.Logic.{_⊎_, ⊎-elim}
 use mathlib.Core.Bool.{Bool, true, false, not}
 use mathlib.Core.List.{List, [], _∷_, _++_}
-use Prim.Native.Nat.{ℕ, zero, suc, _+_, _-_, _*_, _≤_, _<_}
+use Prim.Native.Nat.{ℕ, zero, suc, _+_, _-_, _≤_, _<_}
 use native.Mathlib.Numerals.{add-one}
 use native.Mathlib.Omega.{arith}
 use lib.Dec.{leb, ltb}
-use lib.ListN.{length, take, drop, set, length-drop, length-set}
-use lib.Seq.{take-all, take-add, take-suc-set, take-at, length-take-le}
+use lib.ListN.{length, take, drop, set, length-set}
+use lib.Seq.{take-all, take-suc-set, take-at, length-take-le}
 use borrow.Author.Tests.{lt-ltb, ltb-false, lt-leb, le-leb}
 use Rattle.logic.specs.Laws.Order.{lt-or}
 use Rattle.logic.specs.Refusal.{refuse, given, _otherwise_}
@@ -25,9 +25,6 @@ use Rattle.lines.specs.Fold.{OfBytes, OfEnded}
 use Rattle.lines.specs.Laws.Fold.{then-line, then-last, then-none}
 use Rattle.console.specs.declared.LineRead.the-variants.{Line, Last}
 use Rattle.console.specs.Input.{Given}
-use Rattle.report.specs.declared.Names.{Names as NamesPart}
-use Rattle.report.specs.Names.{namesOf, NamesPut}
-use Rattle.report.specs.Laws.Names.{names-some, names-all}
 use Rattle.report.specs.Put.{Put}
 use Rattle.report.specs.Lines.{numberLine}
 use Rattle.report.specs.Laws.Put.{put-taken}
@@ -50,7 +47,8 @@ use Rattle.coverage.specs.declared.Taken.the-variants as taken-as
 use Rattle.coverage.specs.declared.NamesRead.the-variants as read-as
 use Rattle.coverage.specs.Names.{Names, read, stopped, namedOr, withName, NameTaken, AllTaken}
 use Rattle.coverage.specs.Own.{Own}
-use Rattle.coverage.specs.Printed.{askedName, NamesWritten, ListWritten, TextWritten, NamesText}
+use Rattle.console.specs.Names.{NamesWritten}
+use Rattle.coverage.specs.Printed.{askedName, ListWritten, TextWritten, NamesText}
 
 -- ---- one name
 
@@ -160,29 +158,6 @@ module _ (a : Arrangement) (room : List ℕ) (big : 18 ≤ length room) (codes l
 
     pub last-stops : (left bytes : List ℕ) (q : ℕ) → Given left bytes room (Last n) → r ≡ taken-as.Refused q → AllTaken a (length codes) later (read-as.Stopped q)
     last-stops left bytes q g e = (_, last-comes left bytes g (taken-as.Refused q) (subst (NameTaken a (take n room) codes count later) e h))
-
--- ---- names printed part by part
-
-module _ (codes out later : List ℕ) (from end : ℕ) (r : NamesPart) (h : from < length codes) (q : NamesPut (take (length codes - from) (drop from codes)) out later r) where
-  part : take (length codes - from) (drop from codes) ≡ drop from codes
-  part = take-all (length codes - from) (drop from codes) (omega (arith, length-drop from codes))
-
-  pub part-within : from + r .count ≤ length codes
-  part-within = omega (arith, q .count, ap length part, length-drop from codes)
-
-  pub part-some : 17 ≤ length out → 0 < r .count
-  part-some k = names-some (take (length codes - from) (drop from codes)) out later r q (omega (arith, ap length part, length-drop from codes)) k
-
-  -- what stands in front then
-  pub part-written : take (r .end) later ≡ namesOf (take (r .count) (drop from codes))
-  part-written = put-taken (q .put) (q .within) ∙ ap (λ (l : List ℕ). namesOf (take (r .count) l)) part
-
-  -- all that is left of them where the room has 17 bytes for each
-  pub part-all : 17 * length codes ≤ length out → from + r .count ≡ length codes
-  part-all k =
-      let l : length (take (length codes - from) (drop from codes)) ≡ length codes - from = ap length part ∙ length-drop from codes in
-      let a = names-all (take (length codes - from) (drop from codes)) out later r q (omega arith) in
-      omega (arith, a)
 
 -- ---- a name asked for
 

@@ -1,8 +1,8 @@
 -- What `coverage ask`, `coverage list` and `coverage write` print. Assumes nothing.
 use mathlib.Core.Path.{_≡_}
 use mathlib.Core.List.{List, []}
-use Prim.Native.Nat.{ℕ, zero, suc, _*_, _≤_, _<_}
-use lib.ListN.{length, take, drop}
+use Prim.Native.Nat.{ℕ, zero, suc, _≤_}
+use lib.ListN.{length, take}
 use Rattle.logic.specs.Refusal.{_otherwise_}
 use Rattle.name.specs.Name.{nameRefusal, nameCode}
 use Rattle.reading.specs.TextReading.{textArrangement}
@@ -12,7 +12,7 @@ use Rattle.asking.specs.Ask.{asked}
 use Rattle.writing.specs.Write.{asksFor, textOf, writeRefusal}
 use Rattle.lines.specs.Fold.{OfBytes}
 use Rattle.listing.specs.List.{codesOf}
-use Rattle.report.specs.Names.{namesOf}
+use Rattle.console.specs.Names.{NamesWritten}
 use Rattle.report.specs.Lines.{numberLine}
 use Rattle.coverage.specs.declared.Form.{Form}
 use Rattle.coverage.specs.declared.Text.{Text}
@@ -23,15 +23,6 @@ use Rattle.coverage.specs.Names.{read, withName}
 unfoldable pub askedName : (t name : List ℕ) → Asked
 unfolding asked
 askedName t name = asked (nameRefusal name otherwise textRefusal t) t (nameCode (textArrangement t) name)
-
--- Names are put part by part into a room, and each part is printed before the next is put. Of what was printed no statement can speak; so this one
--- speaks of what waits: the last part, whole lines up to the last name, all of them where the room has 17 bytes for each
-pub record NamesWritten (codes out : List ℕ) (waiting : ℕ) : Type 0 where
-  pub from : ℕ
-  pub names : take waiting out ≡ namesOf (drop from codes)
-  pub some : 0 < length codes → from < length codes
-  pub all : 17 * length codes ≤ length out → from ≡ 0
-  pub fits : waiting ≤ length out
 
 -- `coverage list`: the names of the text's codes, or the refusal number on a line
 abbrev pub ListWritten : (refusal : ℕ) (t out : List ℕ) (waiting : ℕ) → Type 0

@@ -6,12 +6,11 @@ ghost use lib.ListN.{length, take};
 ghost use Rattle.cell.specs.Cell.{IsArrangement};
 ghost use Rattle.reader.specs.Check.{checkedOf};
 ghost use Rattle.listing.specs.List.{listingRefusal};
-ghost use Rattle.console.specs.Input.{Fits};
 ghost use Rattle.report.specs.Put.{Put};
 ghost use Rattle.report.specs.Lines.{checkLine, askedLine};
 ghost use Rattle.coverage.specs.Names.{NameTaken, AllTaken};
 ghost use Rattle.coverage.specs.Own.{Own};
-ghost use Rattle.coverage.specs.Printed.{askedName, NamesWritten, ListWritten, TextWritten, NamesText};
+ghost use Rattle.coverage.specs.Printed.{askedName, ListWritten, TextWritten, NamesText};
 use asking::Asked;
 use cell::Arrangement;
 use code::Coded;
@@ -101,29 +100,6 @@ fn refuse(refusal: u64, place: u64) {
     );
 }
 
-// The file that the second argument names. Where it cannot be read, standard error says why.
-fn load(path: &mut [u8], text: &mut [u8]) -> BytesRead
-    ensures { λ r. ⌜ Fits (now (text .exit)) r ⌝ }
-{
-    let n = os::arg(2, path);
-    if os::errno() != 0 {
-        console::say_failure(b"coverage", b"FILE");
-        return BytesRead::Failed;
-    }
-    let fd = os::open_read(&path[..n]);
-    if fd < 0 {
-        console::say_failure(b"coverage", &path[..n]);
-        return BytesRead::Failed;
-    }
-    let BytesRead::Count(count) = console::read_all(fd, text) else {
-        console::say_failure(b"coverage", &path[..n]);
-        libc::close(fd);
-        return BytesRead::Failed;
-    };
-    libc::close(fd);
-    BytesRead::Count(count)
-}
-
 // check: the line of what the reader answers, in front.
 fn check_text(text: &[u8], out: &mut [u8]) -> Shown
     requires { ⌜ 168 ≤ length (now out) ⌝ }
@@ -146,22 +122,6 @@ fn check_text(text: &[u8], out: &mut [u8]) -> Shown
     }
 }
 
-// The names of codes, one a line: what is left of them in front, behind what was printed.
-fn put_all_names(codes: &[u64], out: &mut [u8]) -> usize
-    requires { ⌜ 17 ≤ length (now out) ⌝ }
-    ensures { λ r. ⌜ NamesWritten (now (codes .entry)) (now (out .exit)) r ⌝ }
-{
-    let mut from: usize = 0;
-    let mut end: usize = 0;
-    while from < codes.len() {
-        console::print_first(out, end);
-        let names = report::put_names(&codes[from..], out);
-        from = from + names.count;
-        end = names.end;
-    }
-    end
-}
-
 // list: the names of the whole cells, or the refusal's line: what is left of them in front, behind what was printed.
 fn list_text(text: &[u8], codes: &mut [u64], out: &mut [u8]) -> Shown
     requires { ⌜ 21 ≤ length (now out) ⌝ }
@@ -170,7 +130,7 @@ fn list_text(text: &[u8], codes: &mut [u64], out: &mut [u8]) -> Shown
 {
     match listing::list(text, codes) {
         Listed::Count(count) => Shown {
-            end: put_all_names(&codes[..count as usize], out),
+            end: console::put_all_names(&codes[..count as usize], out),
             refusal: 0,
             place: 0,
         },
@@ -442,7 +402,7 @@ fn answer(command: Command, text: &[u8]) {
 fn answer_file(command: Command) {
     let mut path = io::buffer();
     let mut text = [0u8; 65537];
-    let BytesRead::Count(count) = load(&mut path, &mut text) else {
+    let BytesRead::Count(count) = console::load(b"coverage", 2, &mut path, &mut text) else {
         return;
     };
     answer(command, &text[..count]);

@@ -62,3 +62,8 @@ absent n (m ∷ ns) = not (eqb n m) && absent n ns
 abbrev pub distinct : List ℕ → Bool
 distinct [] = true
 distinct (n ∷ ns) = absent n ns && distinct ns
+
+-- a number stands once or not at all
+abbrev pub once : ℕ → List ℕ → Bool
+once q [] = true
+once q (n ∷ ns) = cond (eqb n q) (absent q ns) (once q ns)

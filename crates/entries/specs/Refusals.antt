@@ -25,6 +25,7 @@ use Rattle.reader.specs.Check.{WrongVersion}
 use Rattle.listing.specs.List.{codesOf}
 use Rattle.writing.specs.Write.{Another, asksFor, textOf}
 use Rattle.adding.specs.Add.{cellsWith, textWith}
+use Rattle.comparing.specs.Compare.{ThreeLists, sharedCodes}
 use Rattle.entries.specs.Entries.{arrangement}
 use Rattle.entries.specs.Order.{Chain}
 
@@ -151,3 +152,20 @@ addTests bytes end code =
     (15, TextOf (profileOf t) (northOf t) (southOf t) (cellsWith t (cellOf code)) → ⊥) ∷
     (13, 65536 < length (textWith t (cellOf code))) ∷
     (8, length bytes < length (textWith t (cellOf code))) ∷ []
+
+-- 8: "if any room is short"
+abbrev pub RoomShort : (lent codes : ThreeLists) → Type 0
+RoomShort lent codes =
+    (length (lent .firsts) < length (codes .firsts)) ⊎ ((length (lent .seconds) < length (codes .seconds)) ⊎ (length (lent .boths) < length (codes .boths)))
+
+-- the first text's 13, 10, 9, then the second's. 14: "for differing n or s, after both texts are read in order" (02, W-205)
+abbrev pub compareTests : (t u : List ℕ) → ThreeLists → Chain
+compareTests t u lent =
+    (13, 65536 < length t) ∷
+    (10, WrongVersion t) ∷
+    (9, Accepted t → ⊥) ∷
+    (13, 65536 < length u) ∷
+    (10, WrongVersion u) ∷
+    (9, Accepted u → ⊥) ∷
+    (14, take 2 (drop 5 t) ≡ take 2 (drop 5 u) → ⊥) ∷
+    (8, RoomShort lent (sharedCodes t u)) ∷ []

@@ -15,8 +15,11 @@ use Rattle.adding.specs.declared.Added.the-variants as added
 use Rattle.entries.specs.declared.LengthAnswer.{LengthAnswer}
 use Rattle.entries.specs.declared.CheckAnswer.{CheckAnswer}
 use Rattle.entries.specs.declared.ListAnswer.{ListAnswer}
+use Rattle.comparing.specs.declared.Compared.{Compared}
+use Rattle.comparing.specs.declared.Compared.the-variants as compared
 use Rattle.entries.specs.declared.AskAnswer.{AskAnswer}
 use Rattle.entries.specs.declared.AddAnswer.{AddAnswer}
+use Rattle.entries.specs.declared.CompareAnswer.{CompareAnswer}
 
 -- the heading's version, depth, n and s, "the number of whole cells in the reading and the sum of their sizes"
 abbrev pub checkNumbers : Checked → CheckAnswer
@@ -44,3 +47,19 @@ writtenNumbers (written.Refused refusal) = record { refusal = refusal; length = 
 abbrev pub addNumbers : Added → AddAnswer
 addNumbers (added.Length length) = record { refusal = 0; place = 0; length = length }
 addNumbers (added.Refused refusal place) = record { refusal = refusal; place = place; length = 0 }
+
+-- of each listing the number of its cells and the sum of their sizes
+abbrev pub compareNumbers : Compared → CompareAnswer
+compareNumbers (compared.Listings first second both) =
+    record {
+      refusal = 0;
+      place = 0;
+      «first_cells» = first .count;
+      «second_cells» = second .count;
+      «both_cells» = both .count;
+      «first_size» = first .size;
+      «second_size» = second .size;
+      «both_size» = both .size;
+    }
+compareNumbers (compared.Refused refusal place) =
+    record { refusal = refusal; place = place; «first_cells» = 0; «second_cells» = 0; «both_cells» = 0; «first_size» = 0; «second_size» = 0; «both_size» = 0 }

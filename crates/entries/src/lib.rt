@@ -132,3 +132,15 @@ pub struct AddAnswer {
     pub place: u64,
     pub length: u64,
 }
+
+#[repr(C)]
+pub struct CompareAnswer {
+    pub refusal: u64,
+    pub place: u64,
+    pub first_cells: u64,
+    pub second_cells: u64,
+    pub both_cells: u64,
+    pub first_size: u64,
+    pub second_size: u64,
+    pub both_size: u64,
+}

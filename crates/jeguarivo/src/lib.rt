@@ -12,7 +12,8 @@ ghost use Rattle.reader.specs.Check.{checkedOf};
 ghost use Rattle.listing.specs.List.{listingRefusal, listed, codesIn};
 ghost use Rattle.asking.specs.Ask.{askRefusal, asked};
 ghost use Rattle.adding.specs.Add.{textWith, addRefusal, added, placed};
-ghost use Rattle.entries.specs.Texts.{checkNumbers, listNumbers, askNumbers, writtenNumbers, addNumbers};
+ghost use Rattle.comparing.specs.Compare.{lists, sharedCodes, compareRefusal, compared, withCodes};
+ghost use Rattle.entries.specs.Texts.{checkNumbers, listNumbers, askNumbers, writtenNumbers, addNumbers, compareNumbers};
 ghost use Rattle.writing.specs.Write.{asksFor, writeRefusal, textOf, textIn, written};
 ghost use Rattle.entries.specs.Entries.{arrangement, codedAnswer, codeAnswer, codeOfCell, codeCell, nameAnswer, writtenName, parentCode, childCode};
 ghost use Rattle.entries.specs.Entries.{cellSize, cellShape, cornerCount, cellSquare, cellNucleus, cellVertices, pointCode, neighbourCode, fixCode, groundFix};
@@ -24,12 +25,14 @@ use cell::Arrangement;
 use cell::Cell;
 use cell::Found;
 use code::Coded;
+use comparing::Compared;
 use corner::Cornered;
 use entries::AddAnswer;
 use entries::AskAnswer;
 use entries::CellAnswer;
 use entries::CheckAnswer;
 use entries::CodeAnswer;
+use entries::CompareAnswer;
 use entries::CountAnswer;
 use entries::FixAnswer;
 use entries::FrameAnswer;
@@ -663,4 +666,45 @@ pub extern "C" fn jgv_frame_grow(side: f64, frame: Frame, code: u64) -> FrameAns
     ensures { λ r. ⌜ r ≡ frameGrown side frame code ⌝ }
 {
     frame_answer(plotter::frame_grow(side, frame, code))
+}
+
+// "ground only in the first, only in the second, and in both": the first text's 13, 10 or 9, then the second's, 14 where their headings differ in n or s,
+// 8 where any room is short.
+#[no_mangle]
+pub extern "C" fn jgv_coverage_compare(
+    first: &[u8],
+    second: &[u8],
+    firsts: &mut [u64],
+    seconds: &mut [u64],
+    boths: &mut [u64],
+) -> CompareAnswer
+    ensures { λ r. ⌜ r ≡ compareNumbers (compared (compareRefusal (now (first .entry)) (now (second .entry)) (lists (now (firsts .entry)) (now (seconds .entry)) (now (boths .entry)))) (now (first .entry)) (now (second .entry))) ⌝ }
+    ensures { λ r. ⌜ lists (now (firsts .exit)) (now (seconds .exit)) (now (boths .exit)) ≡ given (compareRefusal (now (first .entry)) (now (second .entry)) (lists (now (firsts .entry)) (now (seconds .entry)) (now (boths .entry)))) (withCodes (sharedCodes (now (first .entry)) (now (second .entry))) (lists (now (firsts .entry)) (now (seconds .entry)) (now (boths .entry)))) (lists (now (firsts .entry)) (now (seconds .entry)) (now (boths .entry))) ⌝ }
+{
+    match comparing::compare(first, second, firsts, seconds, boths) {
+        Compared::Listings {
+            first,
+            second,
+            both,
+        } => CompareAnswer {
+            refusal: 0,
+            place: 0, // of two texts
+            first_cells: first.count,
+            second_cells: second.count,
+            both_cells: both.count,
+            first_size: first.size,
+            second_size: second.size,
+            both_size: both.size,
+        },
+        Compared::Refused { refusal, place } => CompareAnswer {
+            refusal,
+            place,
+            first_cells: 0,
+            second_cells: 0,
+            both_cells: 0,
+            first_size: 0,
+            second_size: 0,
+            both_size: 0,
+        },
+    }
 }

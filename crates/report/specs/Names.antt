@@ -21,6 +21,10 @@ abbrev pub namesOf : List ℕ → List ℕ
 namesOf [] = []
 namesOf (code ∷ codes) = nameLine code ++ namesOf codes
 
+-- "names, one a line, an empty line after each listing" (02, W-205)
+abbrev pub listingLines : List ℕ → List ℕ
+listingLines codes = namesOf codes ++ (10 ∷ [])
+
 -- the names of the first codes are put, and more only where no further one may have room: a line has at most 17 bytes
 pub record NamesPut (codes out later : List ℕ) (r : Names) : Type 0 where
   pub count : r .count ≤ length codes

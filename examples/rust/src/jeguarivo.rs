@@ -54,6 +54,7 @@ answers! {
     List at place { count: u64 }
     Ask at place { covered: u64, settled: u64 }
     Add at place { length: u64 }
+    Compare at place { first_cells: u64, second_cells: u64, both_cells: u64, first_size: u64, second_size: u64, both_size: u64 }
     MarkAnswer { kind: u64, numbers: [f64; 4] }
     FrameAnswer { left: f64, bottom: f64, right: f64, top: f64 }
 }
@@ -107,6 +108,10 @@ unsafe extern "C" {
     pub safe fn jgv_mark_code(side: f64, code: u64) -> MarkAnswer;
     pub safe fn jgv_frame_first(side: f64, code: u64) -> FrameAnswer;
     pub safe fn jgv_frame_grow(side: f64, frame: Frame, code: u64) -> FrameAnswer;
+    pub fn jgv_coverage_compare(
+        first: *const u8, first_length: usize, second: *const u8, second_length: usize,
+        firsts: *mut u64, first_room: usize, seconds: *mut u64, second_room: usize, boths: *mut u64, both_room: usize,
+    ) -> Compare;
 }
 
 /// The entries that take memory, on slices. Each is safe: the library reads and writes lent memory within its length only.
@@ -143,6 +148,15 @@ pub mod lent {
 
     pub fn coverage_add(text: &mut [u8], length: u64, code: u64) -> Add {
         unsafe { jgv_coverage_add(text.as_mut_ptr(), text.len(), length, code) }
+    }
+
+    pub fn coverage_compare(first: &[u8], second: &[u8], firsts: &mut [u64], seconds: &mut [u64], boths: &mut [u64]) -> Compare {
+        unsafe {
+            jgv_coverage_compare(
+                first.as_ptr(), first.len(), second.as_ptr(), second.len(),
+                firsts.as_mut_ptr(), firsts.len(), seconds.as_mut_ptr(), seconds.len(), boths.as_mut_ptr(), boths.len(),
+            )
+        }
     }
 }
 
@@ -297,4 +311,30 @@ pub fn frame_grow(side: f64, before: Frame, code: u64) -> Answer<Frame> {
 pub fn coverage_add(text: &mut [u8], length: usize, code: u64) -> Answer<&[u8]> {
     let added = lent::coverage_add(text, length as u64, code).read()?;
     Ok(&text[..added.length as usize])
+}
+
+/// What two texts cover, each as the fewest cells: only the first, only the second, and both, with the sums of their sizes.
+#[derive(Clone, Copy, Debug, PartialEq, Eq)]
+pub struct Compared<'a> {
+    pub first_only: &'a [u64],
+    pub second_only: &'a [u64],
+    pub both: &'a [u64],
+    pub first_size: u64,
+    pub second_size: u64,
+    pub both_size: u64,
+}
+
+/// Refused with 14 where the two headings differ in n or s.
+pub fn coverage_compare<'a>(
+    first: &[u8], second: &[u8], firsts: &'a mut [u64], seconds: &'a mut [u64], boths: &'a mut [u64],
+) -> Answer<Compared<'a>> {
+    let found = lent::coverage_compare(first, second, firsts, seconds, boths).read()?;
+    Ok(Compared {
+        first_only: &firsts[..found.first_cells as usize],
+        second_only: &seconds[..found.second_cells as usize],
+        both: &boths[..found.both_cells as usize],
+        first_size: found.first_size,
+        second_size: found.second_size,
+        both_size: found.both_size,
+    })
 }

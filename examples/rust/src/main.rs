@@ -297,6 +297,25 @@ fn plotter() -> Answer<()> {
     Ok(())
 }
 
+/// What you flew and I did not: two texts of one arrangement, which may be of two versions. Each listing is the fewest cells of its ground.
+fn crews() -> Answer<()> {
+    let (first, second) = (b"CVR\0\x0100P(34(1))", b"CVR\0\x0200bP(4)");
+    let [mut one, mut two, mut three] = [[0; 96]; 3];
+    let found = coverage_compare(first, second, &mut one, &mut two, &mut three)?;
+    let listings = [
+        ("only the first", found.first_only, found.first_size),
+        ("only the second", found.second_only, found.second_size),
+        ("both", found.both, found.both_size),
+    ];
+    for (which, codes, size) in listings {
+        let names = codes.iter().map(|&code| name_of(code)).collect::<Answer<Vec<String>>>()?;
+        println!("coverage_compare: P(34(1)) and P(4): {which} -> {}, size {size}", names.join(" "));
+    }
+    let another = coverage_compare(first, b"CVR\0\x0110P(4)", &mut one, &mut two, &mut three);
+    println!("coverage_compare: P(34(1)), n 0, and P(4), n 1 -> {}", refusal(another));
+    Ok(())
+}
+
 fn main() -> Answer<()> {
     codes_and_names()?;
     families()?;
@@ -309,5 +328,6 @@ fn main() -> Answer<()> {
     additions()?;
     two_arrangements()?;
     handhelds()?;
-    plotter()
+    plotter()?;
+    crews()
 }

@@ -240,7 +240,7 @@ pub fn place(rules: Rules, text: &[u8]) -> u64 {
 }
 
 /// Refuses 13, 10, 9.
-fn checked_text(text: &[u8]) -> TextAnswer<()> {
+pub fn checked_text(text: &[u8]) -> TextAnswer<()> {
     if text.len() > LONGEST {
         return Err(13.into());
     }

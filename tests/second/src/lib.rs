@@ -3,8 +3,8 @@
 //! with the proved library, entry by entry. They prove nothing; the library's contracts do that.
 //!
 //! RATTLE_LIBS names the folder of libjeguarivo.a: `cargo test --release --offline`. Without it
-//! the tests `grid`, `straight`, `ground`, `ellipsoid`, `coverage` and `plotter` fail, and without RATTLE_BIN, the
-//! folder of the proved programs, the tests `programs` and `frame_program`; the others try this program alone.
+//! the tests `grid`, `straight`, `ground`, `ellipsoid`, `coverage`, `plotter` and `crews` fail, and without RATTLE_BIN,
+//! the folder of the proved programs, the tests `programs` and `frame_program`; the others try this program alone.
 //! SECOND_SEED sets another seed for the inputs.
 //!
 //! - `grid`: names, codes, the plane, shapes, neighbours, cells that meet at a corner
@@ -12,6 +12,7 @@
 //! - `ellipsoid`: the authalic sine of a geodetic latitude (request W-203)
 //! - `coverage`: the coverage text: check, list, write, ask
 //! - `plotter`: metres, marks and frames for the plotter (request W-214), with no doubles computed
+//! - `crews`: what two coverage texts cover (request W-205)
 //! - `proved`: the proved library's entries, as examples/rust declares them
 //! - `straight`: straight lines through cells (request W-212)
 //! - `flights`: the programs `record` and `name_fixes` (`second_record` is a program of its own)
@@ -22,6 +23,7 @@
 pub mod big;
 pub mod compare;
 pub mod coverage;
+pub mod crews;
 pub mod ellipsoid;
 pub mod fixes;
 pub mod flights;

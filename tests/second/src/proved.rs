@@ -3,9 +3,12 @@
 
 use crate::compare::Refusing;
 use crate::coverage::{Asked, Checked, Refused, TextAnswer};
+use crate::crews::Compared;
 use crate::grid::{self, Answer, Place};
 use crate::plotter::{Edges, Mark};
-use jeguarivo::{Add, Ask, Cell, Check, Code, Count, Fix, Length, List, Name, Point, Shape, Size};
+use jeguarivo::{
+    Add, Ask, Cell, Check, Code, Compare, Count, Fix, Length, List, Name, Point, Shape, Size,
+};
 use jeguarivo::{Frame, FrameAnswer, MarkAnswer, Square, Vertices, Z};
 use std::fmt::Debug;
 
@@ -35,8 +38,8 @@ pub fn frame_grow(side: f64, frame: Edges, code: u64) -> FrameAnswer {
 /// The coverage entries.
 pub mod coverage {
     pub use jeguarivo::lent::{
-        coverage_add as add, coverage_ask as ask, coverage_check as check, coverage_list as list,
-        coverage_write as write,
+        coverage_add as add, coverage_ask as ask, coverage_check as check,
+        coverage_compare as compare, coverage_list as list, coverage_write as write,
     };
 }
 
@@ -88,6 +91,10 @@ like! {
     Ask at place, TextAnswer<Asked>, of =>
         { covered: u64::from(of.covered), settled: of.settled };
     Add at place, TextAnswer<u64>, length => { length: length };
+    Compare at place, TextAnswer<Compared>, of => {
+        first_cells: of.cells[0], second_cells: of.cells[1], both_cells: of.cells[2],
+        first_size: of.sizes[0], second_size: of.sizes[1], both_size: of.sizes[2]
+    };
 }
 
 /// An answer together with the lent bytes or codes after it.

@@ -3,8 +3,9 @@
 //! here only makes a dull input.
 
 use crate::coverage::{
-    accepts, arrangement_of_text, handheld, heading, heading_length, name_of_span, profile_of_text,
-    span_of, text_of, whole_cells, Profile, FIRST, LONGEST, RULES,
+    accepts, arrangement_of_text, fewest, ground_of, handheld, heading, heading_length,
+    name_of_span, profile_of_text, span_of, span_of_name, text_of, whole_cells, written, Profile,
+    FIRST, LONGEST, RULES,
 };
 use crate::grid::{arrangement_of, code_of, resolution_of, Name, LETTERS};
 use crate::random::{Kind, Random, GUARD};
@@ -760,5 +761,113 @@ impl Random {
         let split = self.pick(&[50, 1000, 1_000_000]);
         let names = self.split(whole_cells(&text), split);
         codes_of(n, s, &names)
+    }
+}
+
+// ---------------------------------------------------------------- two texts
+
+/// One cell more or less, or another for it.
+enum Change {
+    Drop,
+    Divide,
+    Widen,
+    Add,
+}
+
+impl Random {
+    /// A text of the same arrangement that has much of an accepted text's ground: some of its cells
+    /// are dropped, divided, or widened to their parents, and some others come in; of either version
+    /// where the fewest cells keep to it.
+    pub fn similar_text(&mut self, text: &[u8]) -> Vec<u8> {
+        let mut names = whole_cells(text);
+        for _ in 0..self.pick(&[0, 1, 1, 2, 3, 8]) {
+            self.change(&mut names);
+        }
+        let spans = names.iter().map(span_of_name).collect();
+        let names: Vec<Name> = fewest(&ground_of(spans)).iter().map(name_of_span).collect();
+        let (n, s) = arrangement_of_text(text);
+        let codes = codes_of(n, s, &names);
+        let any = self.profile();
+        let asked = self.pick(&[FIRST, handheld(15), any]);
+        let fits = written(asked, n, s, &codes).or_else(|_| written(FIRST, n, s, &codes));
+        fits.unwrap_or_else(|_| text.to_vec())
+    }
+
+    fn change(&mut self, names: &mut Vec<Name>) {
+        let kinds = [Change::Drop, Change::Divide, Change::Widen, Change::Add];
+        let change = &kinds[self.below(4) as usize];
+        if names.is_empty() {
+            names.push(self.name(Kind::Random));
+        }
+        let at = self.below(names.len() as u64) as usize;
+        let name = names[at].clone();
+        match change {
+            Change::Drop => drop(names.remove(at)),
+            Change::Divide if name.len() < 16 => {
+                let keep = self.any();
+                let kept = children(&name).into_iter().enumerate();
+                names.remove(at);
+                names.extend(
+                    kept.filter(|(nth, _)| keep >> nth & 1 == 1)
+                        .map(|(_, name)| name),
+                );
+            }
+            Change::Widen if name.len() > 1 => names.push(name[..name.len() - 1].to_vec()),
+            _ => names.push(self.name(Kind::Random)),
+        }
+    }
+
+    /// Two texts: often with much in common, most often of one arrangement; bad ones are damaged,
+    /// the one, the other, or both.
+    pub fn pair(&mut self, kind: Kind) -> [Vec<u8>; 2] {
+        let good = match kind {
+            Kind::Bad => self.pick(&[Kind::Random, Kind::Border]),
+            _ => kind,
+        };
+        let first = self.text(good);
+        let mut second = match self.below(4) {
+            0 => self.text(good),
+            _ if accepts(RULES, &first) => self.similar_text(&first),
+            _ => first.clone(),
+        };
+        self.arrange(&first, &mut second);
+        let mut pair = [first, second];
+        if self.chance(2) {
+            pair.swap(0, 1);
+        }
+        if kind == Kind::Bad {
+            let (first, second) = self.pick(&[(1, 0), (0, 1), (0, 1), (2, 1)]);
+            (0..first).for_each(|_| self.damage(&mut pair[0]));
+            (0..second).for_each(|_| self.damage(&mut pair[1]));
+        }
+        pair
+    }
+
+    /// Gives a text the n and s of another; one time in ten not, or only one of them.
+    fn arrange(&mut self, from: &[u8], to: &mut [u8]) {
+        if from.len() < 7 || to.len() < 7 {
+            return;
+        }
+        match self.below(30) {
+            0 => to[5] = from[5],
+            1 => to[6] = from[6],
+            2 => (),
+            _ => to[5..7].copy_from_slice(&from[5..7]),
+        }
+    }
+
+    /// Two texts of which one is about as long as a text may be, or longer; half of the time the
+    /// other has much of its ground.
+    pub fn long_pair(&mut self, longer: bool) -> [Vec<u8>; 2] {
+        let first = self.long_text(longer);
+        let mut second = match accepts(RULES, &first) && self.chance(2) {
+            true => self.similar_text(&first),
+            false => self.long_text(false),
+        };
+        self.arrange(&first, &mut second);
+        match self.chance(2) {
+            true => [first, second],
+            false => [second, first],
+        }
     }
 }

@@ -1,6 +1,8 @@
-//! The sample flight in examples/flight: its expected text is the second program's.
+//! The sample flights in examples/flight: the expected text of the first is the second program's, and so
+//! is what two crews' flights are compared to.
 
 use second::coverage::{ask, check, whole_cells};
+use second::crews::printed;
 use second::ellipsoid::WGS84;
 use second::flights::{geodetic_line_code, line_code, lines, named, named_by};
 use second::flights::{recorded, recorded_anew, recorded_by};
@@ -117,5 +119,29 @@ fn what_the_example_prints_is_the_second_programs() {
     let on_wgs84 = |line: &[u8]| geodetic_line_code(0, 0, 9, WGS84, line).expect("one cell");
     let names = named_by(&lines(&flight)[..3].join(&b'\n'), on_wgs84);
     wanted.extend(lines(&names).iter().map(|name| string(name)));
+    let compared = compared_crews();
+    wanted.extend(lines(&compared).iter().map(|line| string(line)));
     assert_eq!(answers, wanted);
+}
+
+/// What comparing the two crews' flights prints.
+fn compared_crews() -> Vec<u8> {
+    let [first, second] = ["flight/first.txt", "flight/second.txt"].map(|file| {
+        let flown = recorded(0, 0, 9, &example(file));
+        assert_eq!(flown.left_out, [], "lines left out");
+        flown.text
+    });
+    printed(&first, &second)
+}
+
+/// So that the sample of two crews shows what it is meant to: ground of each alone and of both, and a
+/// cell in place of nine.
+#[test]
+fn two_crews_fly_ground_of_their_own_and_ground_in_common() {
+    let compared = compared_crews();
+    let lines = lines(&compared);
+    let listings: Vec<&[&[u8]]> = lines.split(|line| line.is_empty()).collect();
+    assert_eq!(listings.len(), 4); // the last is what follows the last empty line: nothing
+    assert!(listings[..3].iter().all(|listing| listing.len() > 3));
+    assert!(listings[2].iter().any(|name| name.len() < 10));
 }

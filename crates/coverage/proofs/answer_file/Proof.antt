@@ -15,6 +15,9 @@ slice-aggregate-load c = search needs
 slice-aggregate-load-2 : tie.Need-slice-aggregate-load-2
 slice-aggregate-load-2 c = search needs
 
+slice-aggregate-load-3 : tie.Need-slice-aggregate-load-3
+slice-aggregate-load-3 c = search needs
+
 load-requires : tie.Need-load-requires
 load-requires c κs = search needs
 
@@ -46,6 +49,7 @@ answer-file-spec =
     buffer-requires
     slice-aggregate-load
     slice-aggregate-load-2
+    slice-aggregate-load-3
     load-requires
     enum-known-count
     enum-told

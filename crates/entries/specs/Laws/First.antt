@@ -134,7 +134,7 @@ pub code-first : (code : ℕ) → FirstOf (codeTests code) (codeRefusal code)
 unfolding codeRefusal
 code-first code = last 3 (cell-of code)
 
-text-first : (t : List ℕ) → FirstOf (textTests t) (textRefusal t)
+pub text-first : (t : List ℕ) → FirstOf (textTests t) (textRefusal t)
 unfolding textRefusal
 text-first t = then (last 12 (lt-decides 65536 (length t))) refl (λ _. then (last 9 (version t)) refl (λ _. last 8 (not-decides (grammar t))))
 
@@ -351,6 +351,13 @@ list-first t room =
     subst (FirstOf (listTests t room)) (sym (list-refusal (listingRefusal t room) t))
     (then (text-first t) refl (λ _. last 7 (lt-decides room (length (codesOf t)))))
 
+-- n and s by their digits
+pub digits-tell : (n s n′ s′ : ℕ) → (48 + n) ∷ (48 + s) ∷ [] ≡ (48 + n′) ∷ (48 + s′) ∷ [] → (n ≡ n′) × (s ≡ s′)
+digits-tell n s n′ s′ e =
+    let i : 48 + n ≡ 48 + n′ = cc in
+    let j : 48 + s ≡ 48 + s′ = cc in
+    (omega arith, omega arith)
+
 -- jgv_coverage_ask
 module _ (t : List ℕ) where
   -- a text that is not one not of the grammar is of the grammar
@@ -361,25 +368,23 @@ module _ (t : List ℕ) where
   read : NoneOf (textTests t) → ReadsAs (profileOf t) (northOf t) (southOf t) t (nodesOf t)
   read n = reads-own t (passed (grammar t) (n .1 .1 .0))
 
+  -- its n and s stand behind the version
+  pub turns-told : NoneOf (textTests t) → take 2 (drop 5 t) ≡ (48 + northOf t) ∷ (48 + southOf t) ∷ []
+  turns-told k =
+      ap (λ (x : List ℕ). take 2 (drop 5 x)) (read k .body .all) ∙ turn-bytes (northOf t) (southOf t) (render (levelOf (profileOf t)) (nodesOf t)) (profileOf t)
+
   -- "the heading's"
   pub headed : (code : ℕ) → NoneOf (textTests t) → Decides (isOf (textArrangement t) code) (take 2 (drop 5 t) ≡ turnsOf code)
   unfolding isOf
   headed code k =
       let n : ℕ = arrangementOf code .north in
       let s : ℕ = arrangementOf code .south in
-      let h : take 2 (drop 5 t) ≡ (48 + northOf t) ∷ (48 + southOf t) ∷ [] =
-      ap (λ (x : List ℕ). take 2 (drop 5 x)) (read k .body .all) ∙ turn-bytes (northOf t) (southOf t) (render (levelOf (profileOf t)) (nodesOf t)) (profileOf t) in
+      let h = turns-told k in
       let d = and-decides (eq-decides n (northOf t)) (eq-decides s (southOf t)) in
       record {
         holds = λ e. let p = d .holds e in h ∙ ap₂ (λ (x y : ℕ). (48 + x) ∷ (48 + y) ∷ []) (sym (p .0)) (sym (p .1));
-        fails = λ e q. d .fails e (same n s (northOf t) (southOf t) (sym q ∙ h));
+        fails = λ e q. d .fails e (digits-tell n s (northOf t) (southOf t) (sym q ∙ h));
       }
-    where
-      same : (n s n′ s′ : ℕ) → (48 + n) ∷ (48 + s) ∷ [] ≡ (48 + n′) ∷ (48 + s′) ∷ [] → (n ≡ n′) × (s ≡ s′)
-      same n s n′ s′ e =
-          let i : 48 + n ≡ 48 + n′ = cc in
-          let j : 48 + s ≡ 48 + s′ = cc in
-          (omega arith, omega arith)
 
   pub ask-refusal : (r code : ℕ) → askNumbers (asked r t code) .refusal ≡ r
   unfolding asked

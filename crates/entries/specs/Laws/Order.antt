@@ -1,8 +1,8 @@
 -- The first refusal that applies: what a chain of tests answers, and when a number is given. Assumes nothing.
 use mathlib.Core.Path.{_≡_, refl, sym, _∙_}
 use mathlib.Core.Logic.{_↔_, _⊎_, inl, inr, ⊎-elim}
-use mathlib.Core.Bool.{Bool, true, false, _&&_, _||_, not}
-use mathlib.Core.List.{[], _∷_, _++_}
+use mathlib.Core.Bool.{Bool, true, false, _&&_, _||_, not, cond}
+use mathlib.Core.List.{List, [], _∷_, _++_}
 use Prim.Native.Nat.{ℕ, suc, _≤_, _<_}
 use native.Mathlib.Omega.{arith}
 use lib.IntN.{ℤ}
@@ -12,7 +12,7 @@ use borrow.Author.Tests.{ltb-true, ltb-false, leb-true, leb-false, eqb-true, eqb
 use Rattle.logic.specs.Laws.Bools.{and-left, and-right, clash}
 use Rattle.logic.specs.Refusal.{refuse, _otherwise_}
 use Rattle.logic.specs.Laws.Refusal.{stops, passes}
-use Rattle.entries.specs.Order.{Chain, numbers, First, FirstOf, Choice, Applies, NoneOf, absent, distinct}
+use Rattle.entries.specs.Order.{Chain, numbers, First, FirstOf, Choice, Applies, NoneOf, absent, distinct, once}
 
 -- ---- a test and its condition
 
@@ -91,24 +91,20 @@ not-given (x ∷ xs) q r a z (inr h) e = not-given xs q r (and-right (not (eqb q
 
 -- it is given exactly when it applies
 module _ (q : ℕ) (z : q ≡ 0 → ⊥) where
-  given-applies : (xs : Chain) (r : ℕ) → distinct (numbers xs) ≡ true → First xs r → r ≡ q → Applies xs q
-  given-applies [] r d f e = absurd (z (sym e ∙ f))
-  given-applies (x ∷ xs) r d (inl h) e = go (eqb (x .0) q) (eq-eqb (x .0) q (sym (h .1) ∙ e))
+  given-applies : (xs : Chain) (r : ℕ) → once q (numbers xs) ≡ true → First xs r → r ≡ q → Applies xs q
+  given-applies [] r o f e = absurd (z (sym e ∙ f))
+  given-applies (x ∷ xs) r o (inl h) e = go (eqb (x .0) q) (eq-eqb (x .0) q (sym (h .1) ∙ e))
     where
       go : (t : Bool) → t ≡ true → Choice t (x .1) ((x .1 → ⊥) × Applies xs q)
       go true i = h .0
       go false i = clash (sym i)
-  given-applies (x ∷ xs) r d (inr h) e =
-      go (eqb (x .0) q) refl (given-applies xs r (and-right (absent (x .0) (numbers xs)) (distinct (numbers xs)) d) (h .1) e)
+  given-applies (x ∷ xs) r o (inr h) e = go (eqb (x .0) q) o (λ a. given-applies xs r a (h .1) e)
     where
-      a : absent (x .0) (numbers xs) ≡ true
-      a = and-left (absent (x .0) (numbers xs)) (distinct (numbers xs)) d
-
-      go : (t : Bool) → eqb (x .0) q ≡ t → Applies xs q → Choice t (x .1) ((x .1 → ⊥) × Applies xs q)
-      go true i k =
-          let p : x .0 ≡ q = eqb-true (x .0) q i in
-          absurd (not-given xs (x .0) r a (λ y. z (sym p ∙ y)) (h .1) (e ∙ sym p))
-      go false i k = (h .0, k)
+      go :
+          (t : Bool) → cond t (absent q (numbers xs)) (once q (numbers xs)) ≡ true → (once q (numbers xs) ≡ true → Applies xs q) →
+          Choice t (x .1) ((x .1 → ⊥) × Applies xs q)
+      go true a k = absurd (not-given xs q r a z (h .1) e)
+      go false a k = (h .0, k a)
 
   applies-given : (xs : Chain) (r : ℕ) → First xs r → Applies xs q → r ≡ q
   applies-given [] r f a = absurd a
@@ -123,9 +119,20 @@ module _ (q : ℕ) (z : q ≡ 0 → ⊥) where
       go true c k = absurd (h .0 c)
       go false c k = k (c .1)
 
--- a refusal is given exactly when its condition holds and none before it in the order
+-- a refusal that stands once is given exactly when its condition holds and none before it in the order
+pub given-once : {xs : Chain} {r : ℕ} (q : ℕ) → FirstOf xs r → once (suc q) (numbers xs) ≡ true → (r ≡ suc q) ↔ Applies xs (suc q)
+given-once {xs} {r} q f o = (given-applies (suc q) (λ e. omega arith) xs r o (f .first), applies-given (suc q) (λ e. omega arith) xs r (f .first))
+
+distinct-once : (q : ℕ) (ns : List ℕ) → distinct ns ≡ true → once q ns ≡ true
+distinct-once q [] d = refl
+distinct-once q (n ∷ ns) d = go (eqb n q) refl (distinct-once q ns (and-right (absent n ns) (distinct ns) d))
+  where
+    go : (t : Bool) → eqb n q ≡ t → once q ns ≡ true → cond t (absent q ns) (once q ns) ≡ true
+    go true i k = rw (eqb-true n q i) at (and-left (absent n ns) (distinct ns) d)
+    go false i k = k
+
 pub given-exactly : {xs : Chain} {r : ℕ} (q : ℕ) → FirstOf xs r → distinct (numbers xs) ≡ true → (r ≡ suc q) ↔ Applies xs (suc q)
-given-exactly {xs} {r} q f d = (given-applies (suc q) (λ e. omega arith) xs r d (f .first), applies-given (suc q) (λ e. omega arith) xs r (f .first))
+given-exactly {xs} q f d = given-once q f (distinct-once (suc q) (numbers xs) d)
 
 -- and nothing is refused exactly when none applies
 none-of : (xs : Chain) (r : ℕ) → absent 0 (numbers xs) ≡ true → First xs r → (r ≡ 0) ↔ NoneOf xs

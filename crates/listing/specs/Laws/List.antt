@@ -28,17 +28,17 @@ abbrev pub spotCode : Arrangement → Spot → ℕ
 spotCode a s = codeAs a (s .resolution) (s .number)
 
 module _ (a : Arrangement) where
-  spot-codes : (cs : List Cell) → Cells cs → map (spotCode a) (map spotOf cs) ≡ map (codeOf a) cs
+  pub spot-codes : (cs : List Cell) → Cells cs → map (spotCode a) (map spotOf cs) ≡ map (codeOf a) cs
   spot-codes [] h = refl
   spot-codes (c ∷ cs) h = ap₂ _∷_ (code-as a c (h .0)) (spot-codes cs (h .1))
 
   module _ (g : IsArrangement a) where
     -- a code's cell is the cell, and its arrangement the one it was made in
-    cells-back : (cs : List Cell) → Cells cs → map cellOf (map (codeOf a) cs) ≡ cs
+    pub cells-back : (cs : List Cell) → Cells cs → map cellOf (map (codeOf a) cs) ≡ cs
     cells-back [] h = refl
     cells-back (c ∷ cs) h = ap₂ _∷_ (cell-code g c (h .0)) (cells-back cs (h .1))
 
-    all-of : (cs : List Cell) → Cells cs → All (λ (code : ℕ). arrangementOf code ≡ a) (map (codeOf a) cs)
+    pub all-of : (cs : List Cell) → Cells cs → All (λ (code : ℕ). arrangementOf code ≡ a) (map (codeOf a) cs)
     all-of [] h = tt
     all-of (c ∷ cs) h = (arrangement-code g c (h .0), all-of cs (h .1))
 

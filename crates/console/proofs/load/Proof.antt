@@ -1,8 +1,8 @@
--- `load` meets its contract: what was read has its room. Assumes nothing.
+-- `console::load` meets its contract: what was read has its room. Assumes nothing.
 use Rattle.console.specs.Laws.Input.{count-fits}
 use borrow.Author.Needs.{needs}
-use Rattle.coverage.proofs.load.Statement.{statement}
-use Rattle.coverage.proofs.load.Tie as tie
+use Rattle.console.proofs.load.Statement.{statement}
+use Rattle.console.proofs.load.Tie as tie
 
 arg-requires : tie.Need-arg-requires
 arg-requires c κs = search needs
@@ -12,9 +12,6 @@ errno-requires c κs = search needs
 
 slice-aggregate-say-failure : tie.Need-slice-aggregate-say-failure
 slice-aggregate-say-failure c = search needs
-
-slice-aggregate-say-failure-2 : tie.Need-slice-aggregate-say-failure-2
-slice-aggregate-say-failure-2 c = search needs
 
 say-failure-requires : tie.Need-say-failure-requires
 say-failure-requires c κs = search needs
@@ -34,14 +31,11 @@ slice-aggregate-open-read c = search needs
 open-read-requires : tie.Need-open-read-requires
 open-read-requires c κs = search needs
 
-slice-aggregate-say-failure-3 : tie.Need-slice-aggregate-say-failure-3
-slice-aggregate-say-failure-3 c = search needs
-
 slice-reshare-prefix-say-failure : tie.Need-slice-reshare-prefix-say-failure
 slice-reshare-prefix-say-failure c = search needs
 
-slice-aggregate-say-failure-4 : tie.Need-slice-aggregate-say-failure-4
-slice-aggregate-say-failure-4 c = search needs
+slice-aggregate-say-failure-2 : tie.Need-slice-aggregate-say-failure-2
+slice-aggregate-say-failure-2 c = search needs
 
 say-failure-requires-2 : tie.Need-say-failure-requires-2
 say-failure-requires-2 c κs = search needs
@@ -61,14 +55,11 @@ enum-known-count c = search needs
 enum-told : tie.Need-enum-told
 enum-told c = search needs
 
-slice-aggregate-say-failure-5 : tie.Need-slice-aggregate-say-failure-5
-slice-aggregate-say-failure-5 c = search needs
-
 slice-reshare-prefix-say-failure-2 : tie.Need-slice-reshare-prefix-say-failure-2
 slice-reshare-prefix-say-failure-2 c = search needs
 
-slice-aggregate-say-failure-6 : tie.Need-slice-aggregate-say-failure-6
-slice-aggregate-say-failure-6 c = search needs
+slice-aggregate-say-failure-3 : tie.Need-slice-aggregate-say-failure-3
+slice-aggregate-say-failure-3 c = search needs
 
 say-failure-requires-3 : tie.Need-say-failure-requires-3
 say-failure-requires-3 c κs = search needs
@@ -104,25 +95,22 @@ load-spec =
     arg-requires
     errno-requires
     slice-aggregate-say-failure
-    slice-aggregate-say-failure-2
     say-failure-requires
     same-length
     returns
     slice-reshare-prefix-open-read
     slice-aggregate-open-read
     open-read-requires
-    slice-aggregate-say-failure-3
     slice-reshare-prefix-say-failure
-    slice-aggregate-say-failure-4
+    slice-aggregate-say-failure-2
     say-failure-requires-2
     same-length-2
     returns-2
     read-all-requires
     enum-known-count
     enum-told
-    slice-aggregate-say-failure-5
     slice-reshare-prefix-say-failure-2
-    slice-aggregate-say-failure-6
+    slice-aggregate-say-failure-3
     say-failure-requires-3
     close-requires
     same-length-3

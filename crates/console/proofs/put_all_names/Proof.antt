@@ -1,4 +1,4 @@
--- `put_all_names` meets its contract: each turn prints what waits and puts the next names. Assumes nothing.
+-- `console::put_all_names` meets its contract: each turn prints what waits and puts the next names. Assumes nothing.
 use mathlib.Core.Path.{_≡_, refl, ap, _∙_}
 use mathlib.Core.Logic.{_⊎_, inl, inr, ⊎-elim}
 use mathlib.Core.List.{List}
@@ -7,12 +7,12 @@ use lib.ListN.{length, take, drop, length-drop}
 use lib.Seq.{take-all}
 use Rattle.report.specs.declared.Names.{Names}
 use Rattle.report.specs.Names.{namesOf, NamesPut}
-use Rattle.coverage.specs.Printed.{NamesWritten}
-use Rattle.coverage.proofs.Laws.{part-within, part-some, part-written, part-all}
+use Rattle.console.specs.Names.{NamesWritten}
+use Rattle.console.proofs.Parts.{part-within, part-some, part-written, part-all}
 use native.Mathlib.Omega.{arith}
 use borrow.Author.Needs.{needs}
-use Rattle.coverage.proofs.put_all_names.Statement.{statement}
-use Rattle.coverage.proofs.put_all_names.Tie as tie
+use Rattle.console.proofs.put_all_names.Statement.{statement}
+use Rattle.console.proofs.put_all_names.Tie as tie
 
 -- what waits are the names of the codes from `first` on, up to `from`
 pub record Waits (codes out : List ℕ) (from end : ℕ) : Type 0 where

@@ -1,0 +1,5 @@
+pub mod Answers
+pub mod Cells
+pub mod Children
+pub mod Steps
+pub mod Texts

@@ -1,0 +1,5 @@
+pub mod Cover
+pub mod Found
+pub mod Grammar
+pub mod Portions
+pub mod Sums

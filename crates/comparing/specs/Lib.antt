@@ -1,0 +1,4 @@
+pub mod Compare
+pub mod Internal
+pub mod Laws
+pub mod Shared
