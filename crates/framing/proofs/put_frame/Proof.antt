@@ -18,8 +18,8 @@ use Rattle.listing.specs.Laws.Listed.{listed-allowed, listed-text, listed-fits,
 use Rattle.plotter.specs.declared.Around.{Around}
 use Rattle.plotter.specs.Plotter.{frameAround}
 use Rattle.framing.specs.Framing.{sideIn, Numbers, frameRefusal, frameLine}
-use Rattle.framing.specs.Laws.Framing.{frame-numbers}
-use Rattle.framing.proofs.Laws.{put-as, side-stops, side-goes, line-refused, line-framed}
+use Rattle.framing.specs.Laws.Framing.{frame-numbers, side-stops, side-goes}
+use Rattle.framing.proofs.Laws.{put-as, line-refused, line-framed}
 use Rattle.framing.proofs.put_frame.Statement.{statement}
 use Rattle.framing.proofs.put_frame.Tie as tie
 
