@@ -1,14 +1,13 @@
 -- A double's bits have sixteen hexadecimal digits; edges that are numbers; which line is put. Assumes nothing.
 use mathlib.Core.Path.{_≡_, refl, sym, ap, _∙_, subst}
 use mathlib.Core.Logic.{⊎-elim}
-use mathlib.Core.Bool.{Bool, false, _||_}
-use mathlib.Core.List.{List, [], _∷_, _++_}
-use Prim.Native.Nat.{ℕ, zero, suc, _+_, _-_, _/_, _%_, _^_, _≤_, _<_}
+use mathlib.Core.Bool.{false, _||_}
+use mathlib.Core.List.{List}
+use Prim.Native.Nat.{ℕ, zero, suc, _-_, _^_, _≤_, _<_}
 use native.Mathlib.Nat.{pow-le-pow-right, zero-lt-suc}
 use native.Mathlib.Omega.{arith}
-use lib.ListN.{length, length-append}
 use lib.Ieee.{Float, isNan}
-use Rattle.io.specs.Digits.{glyph, digits, Fewest}
+use Rattle.io.specs.Digits.{Fewest}
 use Rattle.logic.specs.Laws.Order.{lt-or}
 use Rattle.logic.specs.Laws.Bools.{or-left, or-right}
 use Rattle.report.specs.Put.{Put}
@@ -29,10 +28,6 @@ sixteen n r f h = ⊎-elim more (λ k. omega (arith, f .0)) (lt-or 16 r)
     more k =
         let p : 16 ^ 16 ≤ 16 ^ (r - 1) = power-up 16 (r - 1) (omega arith) in
         absurd (omega (arith, f .2 k))
-
-pub digits-length : (b k n : ℕ) → length (digits b k n) ≡ k
-digits-length b zero n = refl
-digits-length b (suc k) n = length-append (digits b k (n / b)) (glyph (n % b) ∷ []) ∙ omega (arith, digits-length b k (n / b))
 
 -- ---- the edges of a frame whose edges are numbers
 

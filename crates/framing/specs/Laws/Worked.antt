@@ -21,6 +21,17 @@ pub edges-worked :
 unfolding edgesLine hexadecimal toBits
 edges-worked = refl
 
+-- 0, with no digit but zeros, and 1/3, with digits in every place: `3fd5555555555555`
+pub zero-worked : hexadecimal (fin false 0 (pos 0)) ≡
+    48 ∷ 48 ∷ 48 ∷ 48 ∷ 48 ∷ 48 ∷ 48 ∷ 48 ∷ 48 ∷ 48 ∷ 48 ∷ 48 ∷ 48 ∷ 48 ∷ 48 ∷ 48 ∷ []
+unfolding hexadecimal toBits
+zero-worked = refl
+
+pub third-worked : hexadecimal (fin false 6004799503160661 (negsuc 53)) ≡
+    51 ∷ 102 ∷ 100 ∷ 53 ∷ 53 ∷ 53 ∷ 53 ∷ 53 ∷ 53 ∷ 53 ∷ 53 ∷ 53 ∷ 53 ∷ 53 ∷ 53 ∷ 53 ∷ []
+unfolding hexadecimal toBits
+third-worked = refl
+
 -- `12.5`, `7`, and `.5`, which is none
 pub point-worked : sideIn (49 ∷ 50 ∷ 46 ∷ 53 ∷ []) ≡ fin false 25 (negsuc 0)
 unfolding sideIn fractionIn wholeFraction pointFraction wholeIn allDecimal value ofInt div round
