@@ -1,22 +1,18 @@
 -- A double's bits have sixteen hexadecimal digits; edges that are numbers; which line is put. Assumes nothing.
 use mathlib.Core.Path.{_≡_, refl, sym, ap, _∙_, subst}
 use mathlib.Core.Logic.{⊎-elim}
-use mathlib.Core.Bool.{Bool, true, false, _||_, not}
-use mathlib.Core.List.{List, [], _∷_, _++_}
-use Prim.Native.Nat.{ℕ, zero, suc, _+_, _-_, _/_, _%_, _^_, _≤_, _<_}
+use mathlib.Core.Bool.{false, _||_}
+use mathlib.Core.List.{List}
+use Prim.Native.Nat.{ℕ, zero, suc, _-_, _^_, _≤_, _<_}
 use native.Mathlib.Nat.{pow-le-pow-right, zero-lt-suc}
 use native.Mathlib.Omega.{arith}
-use lib.ListN.{length, length-append}
 use lib.Ieee.{Float, isNan}
-use Rattle.io.specs.Digits.{glyph, digits, Fewest}
-use Rattle.logic.specs.Refusal.{refuse, _otherwise_}
+use Rattle.io.specs.Digits.{Fewest}
 use Rattle.logic.specs.Laws.Order.{lt-or}
-use Rattle.logic.specs.Laws.Refusal.{passes}
 use Rattle.logic.specs.Laws.Bools.{or-left, or-right}
 use Rattle.report.specs.Put.{Put}
 use Rattle.report.specs.Lines.{numberLine}
-use Rattle.listing.specs.List.{codesOf, listingRefusal}
-use Rattle.metres.specs.Metres.{isSide, sideRefusal}
+use Rattle.listing.specs.List.{codesOf}
 use Rattle.plotter.specs.declared.Frame.{Frame}
 use Rattle.plotter.specs.declared.Around.{Around}
 use Rattle.plotter.specs.Plotter.{hasNan, frameAround}
@@ -32,10 +28,6 @@ sixteen n r f h = ⊎-elim more (λ k. omega (arith, f .0)) (lt-or 16 r)
     more k =
         let p : 16 ^ 16 ≤ 16 ^ (r - 1) = power-up 16 (r - 1) (omega arith) in
         absurd (omega (arith, f .2 k))
-
-pub digits-length : (b k n : ℕ) → length (digits b k n) ≡ k
-digits-length b zero n = refl
-digits-length b (suc k) n = length-append (digits b k (n / b)) (glyph (n % b) ∷ []) ∙ omega (arith, digits-length b k (n / b))
 
 -- ---- the edges of a frame whose edges are numbers
 
@@ -61,18 +53,9 @@ module _ (f : Frame) (e : hasNan f ≡ false) where
 pub put-as : {at : ℕ} {a b out later : List ℕ} {end : ℕ} → a ≡ b → Put at a out later end → Put at b out later end
 put-as {at} {out = out} {later = later} {end = end} e p = subst (λ (x : List ℕ). Put at x out later end) e p
 
--- ---- the refusals of `coverage frame`
+-- ---- the line that is put
 
 module _ (side : Float) (t : List ℕ) (room : ℕ) where
-  pub side-stops : isSide side ≡ false → frameRefusal side t room ≡ 19
-  unfolding frameRefusal sideRefusal _otherwise_
-  side-stops e = ap (λ (b : Bool). refuse (not b) 19 otherwise listingRefusal t room) e
-
-  pub side-goes : isSide side ≡ true → frameRefusal side t room ≡ listingRefusal t room
-  unfolding frameRefusal sideRefusal
-  side-goes e = passes (listingRefusal t room) (ap (λ (b : Bool). refuse (not b) 19) e)
-
-  -- the line that is put then
   pub line-refused : (q : ℕ) → frameRefusal side t room ≡ q → (q ≡ 0 → ⊥) → numberLine q ≡ frameLine side t room
   unfolding frameLine
   line-refused q e n = as-number q n ∙ sym (ap (λ (r : ℕ). lineWith r side t) e)

@@ -1,8 +1,9 @@
 -- What `coverage frame` reads and prints: the face side, and the frame around a text's whole cells. Assumes nothing.
 use mathlib.Core.Path.{_≡_}
-use mathlib.Core.Bool.{false}
+use mathlib.Core.Bool.{false, cond}
 use mathlib.Core.List.{List, [], _∷_, _++_}
-use Prim.Native.Nat.{ℕ, zero, suc}
+use Prim.Native.Nat.{ℕ, zero, suc, _-_}
+use lib.Dec.{ltb}
 use lib.IntN.{pos}
 use lib.Ieee.{Float, binary64, ofInt, div, fin, toBits}
 use Rattle.io.specs.Digits.{digits}
@@ -29,6 +30,10 @@ sideIn bs = sideOf (fractionIn bs)
 -- a double's bits, as sixteen hexadecimal digits
 unfoldable pub hexadecimal : Float → List ℕ
 hexadecimal x = digits 16 16 (toBits binary64 x)
+
+-- the digit that a byte writes: `0` to `9`, then `a` to `f`
+abbrev pub glyphValue : ℕ → ℕ
+glyphValue b = cond (ltb b 58) (b - 48) (b - 87)
 
 -- left, bottom, right and top, a space between them
 unfoldable pub edgesLine : Frame → List ℕ

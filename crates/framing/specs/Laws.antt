@@ -1,2 +1,4 @@
 pub mod Framing
+pub mod Hexadecimal
+pub mod Side
 pub mod Worked

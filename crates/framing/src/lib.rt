@@ -5,6 +5,9 @@ ghost use mathlib.Core.List.{[], _∷_, _++_};
 ghost use Prim.Native.Nat.{_+_, _≤_};
 ghost use lib.Ieee.{isNan};
 ghost use lib.ListN.{length};
+ghost use Rattle.logic.specs.Refusal.{given};
+ghost use Rattle.reader.specs.Check.{placeWith};
+ghost use Rattle.listing.specs.List.{codesIn};
 ghost use Rattle.plotter.specs.Plotter.{hasNan};
 ghost use Rattle.report.specs.Put.{Put};
 ghost use Rattle.framing.specs.Framing.{sideIn, hexadecimal, edgesLine, aroundLine, Numbers, frameRefusal, frameLine};
@@ -76,6 +79,8 @@ pub fn put_frame(text: &[u8], word: &[u8], codes: &mut [u64], out: &mut [u8]) ->
     requires { ⌜ 68 ≤ length (now out) ⌝ }
     ensures { λ r. ⌜ Put 0 (frameLine (sideIn (now (word .entry))) (now (text .entry)) (length (now (codes .entry)))) (now (out .entry)) (now (out .exit)) (r .end) ⌝ }
     ensures { λ r. ⌜ r .refusal ≡ frameRefusal (sideIn (now (word .entry))) (now (text .entry)) (length (now (codes .entry))) ⌝ }
+    ensures { λ r. ⌜ r .place ≡ placeWith (r .refusal) (now (text .entry)) ⌝ }
+    ensures { λ r. ⌜ now (codes .exit) ≡ given (r .refusal) (codesIn (now (text .entry)) (now (codes .entry))) (now (codes .entry)) ⌝ }
     ensures { λ r. ⌜ r .end ≤ 68 ⌝ }
 {
     let side = side_in(word);

@@ -107,7 +107,7 @@ abbrev pub Free : ℕ → List ℕ → Type 0
 Free stop [] = Unit {0}
 Free stop (b ∷ bs) = (b ≡ stop → ⊥) × Free stop bs
 
-free-digits : (stop : ℕ) (bs : List ℕ) → stop < 48 → allDecimal bs ≡ true → Free stop bs
+pub free-digits : (stop : ℕ) (bs : List ℕ) → stop < 48 → allDecimal bs ≡ true → Free stop bs
 unfolding allDecimal
 free-digits stop [] h e = tt
 free-digits stop (b ∷ bs) h e =

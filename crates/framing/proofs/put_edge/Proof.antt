@@ -14,7 +14,7 @@ use Rattle.io.specs.Digits.{digits}
 use Rattle.report.specs.Laws.Put.{then-byte}
 use Rattle.report.specs.Laws.Part.{part-room, part-put}
 use Rattle.framing.specs.Framing.{hexadecimal}
-use Rattle.framing.proofs.Laws.{sixteen, digits-length}
+use Rattle.framing.proofs.Laws.{sixteen}
 use Rattle.framing.proofs.put_edge.Statement.{statement}
 use Rattle.framing.proofs.put_edge.Tie as tie
 

@@ -1,5 +1,6 @@
--- 19 of the side, then what listing answers; the codes listed are the text's, so every edge is a number. Assumes nothing.
-use mathlib.Core.Path.{_≡_, sym, ap, ap₂, _∙_, subst}
+-- 19 of the side, then what listing answers, its place and the codes it leaves; the codes listed are the text's, so every edge is a number.
+-- Assumes nothing.
+use mathlib.Core.Path.{_≡_, refl, sym, ap, ap₂, _∙_, subst}
 use mathlib.Core.Bool.{true}
 use mathlib.Core.List.{List}
 use Prim.Native.Nat.{ℕ, _≤_}
@@ -9,14 +10,16 @@ use lib.Seq.{length-take-le}
 use lib.Ieee.{Float}
 use borrow.Author.Needs.{needs}
 use borrow.Author.Tests.{not-true, not-false}
+use Rattle.logic.specs.Refusal.{given}
+use Rattle.logic.specs.Laws.Refusal.{given-none}
 use Rattle.metres.specs.Metres.{isSide}
-use Rattle.listing.specs.List.{codesOf}
-use Rattle.listing.specs.Laws.Listed.{listed-allowed, listed-text, listed-fits, listed-taken, listed-refused}
+use Rattle.listing.specs.List.{codesOf, codesIn}
+use Rattle.listing.specs.Laws.Listed.{listed-allowed, listed-text, listed-fits, listed-taken, listed-refused, listed-place}
 use Rattle.plotter.specs.declared.Around.{Around}
 use Rattle.plotter.specs.Plotter.{frameAround}
 use Rattle.framing.specs.Framing.{sideIn, Numbers, frameRefusal, frameLine}
-use Rattle.framing.specs.Laws.Framing.{frame-numbers}
-use Rattle.framing.proofs.Laws.{put-as, side-stops, side-goes, line-refused, line-framed}
+use Rattle.framing.specs.Laws.Framing.{frame-numbers, side-stops, side-goes}
+use Rattle.framing.proofs.Laws.{put-as, line-refused, line-framed}
 use Rattle.framing.proofs.put_frame.Statement.{statement}
 use Rattle.framing.proofs.put_frame.Tie as tie
 
@@ -47,7 +50,7 @@ returns c =
     let side = sideIn (a .word .now) in
     let e = side-stops side (a .text .now) (length (a .codes .now)) (ap isSide (sym (k .side-in .ensures)) ∙ sym (i .before .is-side .ensures) ∙ not-true _ (i .if1 .taken)) in (
       put-as (line-refused side (a .text .now) (length (a .codes .now)) 19 e (λ z. omega arith)) (q .0),
-      (sym e, omega (arith, q .1)),
+      (sym e, (refl, (sym (given-none 19 (codesIn (a .text .now) (a .codes .now)) (a .codes .now) (λ z. omega arith)), omega (arith, q .1)))),
     )
 
 list-requires : tie.Need-list-requires
@@ -114,9 +117,11 @@ returns-2 c =
     let l = n .before .before .before .before in
     let a = l .before .before .before .before .before .before .before .before .before .args in
     let side = sideIn (a .word .now) in
-    let e = side-goes side (a .text .now) (length (a .codes .now)) (taken (l .before .before)) ∙ listed-allowed (a .text .now) (a .codes .now) (l .list .ensures .0) _ (n .count .given .1) in (
+    let k = listed-allowed (a .text .now) (a .codes .now) (l .list .ensures .0) _ (n .count .given .1) in
+    let e = side-goes side (a .text .now) (length (a .codes .now)) (taken (l .before .before)) ∙ k in
+    let lent = l .list .ensures .1 ∙ ap (λ (q : ℕ). given q (codesIn (a .text .now) (a .codes .now)) (a .codes .now)) k in (
       put-as (line-framed side (a .text .now) (length (a .codes .now)) _ e (around-is f)) (p .put-around .ensures .0),
-      (sym e, p .put-around .ensures .1),
+      (sym e, (refl, (lent, p .put-around .ensures .1))),
     )
 
 same-length-4 : tie.Need-same-length-4
@@ -134,7 +139,9 @@ returns-3 c =
     let side = sideIn (a .word .now) in
     let k = listed-refused (a .text .now) (a .codes .now) (l .list .ensures .0) _ _ (n .refusal .given .1) in
     let e = side-goes side (a .text .now) (length (a .codes .now)) (taken (l .before .before)) ∙ k .0 in
-    (put-as (line-refused side (a .text .now) (length (a .codes .now)) _ e (k .1)) (q .0), (sym e, omega (arith, q .1)))
+    let place = listed-place (a .text .now) (a .codes .now) (l .list .ensures .0) _ _ (n .refusal .given .1) in
+    let lent = l .list .ensures .1 ∙ ap (λ (x : ℕ). given x (codesIn (a .text .now) (a .codes .now)) (a .codes .now)) (k .0) in
+    (put-as (line-refused side (a .text .now) (length (a .codes .now)) _ e (k .1)) (q .0), (sym e, (place, (lent, omega (arith, q .1)))))
 
 pub put-frame-spec : {M : Type 1} → statement M
 put-frame-spec =

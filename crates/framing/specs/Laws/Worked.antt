@@ -21,10 +21,26 @@ pub edges-worked :
 unfolding edgesLine hexadecimal toBits
 edges-worked = refl
 
--- `12.5`, `7`, and `.5`, which is none
+-- 0, with no digit but zeros, and 1/3, with digits in every place: `3fd5555555555555`
+pub zero-worked : hexadecimal (fin false 0 (pos 0)) ≡
+    48 ∷ 48 ∷ 48 ∷ 48 ∷ 48 ∷ 48 ∷ 48 ∷ 48 ∷ 48 ∷ 48 ∷ 48 ∷ 48 ∷ 48 ∷ 48 ∷ 48 ∷ 48 ∷ []
+unfolding hexadecimal toBits
+zero-worked = refl
+
+pub third-worked : hexadecimal (fin false 6004799503160661 (negsuc 53)) ≡
+    51 ∷ 102 ∷ 100 ∷ 53 ∷ 53 ∷ 53 ∷ 53 ∷ 53 ∷ 53 ∷ 53 ∷ 53 ∷ 53 ∷ 53 ∷ 53 ∷ 53 ∷ 53 ∷ []
+unfolding hexadecimal toBits
+third-worked = refl
+
+-- `12.5`, `1.05`, `7`, and `.5`, which is none
 pub point-worked : sideIn (49 ∷ 50 ∷ 46 ∷ 53 ∷ []) ≡ fin false 25 (negsuc 0)
 unfolding sideIn fractionIn wholeFraction pointFraction wholeIn allDecimal value ofInt div round
 point-worked = refl
+
+-- 105/100 is nearest to 4728779608739021 / 2^52
+pub places-worked : sideIn (49 ∷ 46 ∷ 48 ∷ 53 ∷ []) ≡ fin false 4728779608739021 (negsuc 51)
+unfolding sideIn fractionIn wholeFraction pointFraction wholeIn allDecimal value ofInt div round
+places-worked = refl
 
 pub whole-worked : sideIn (55 ∷ []) ≡ fin false 7 (pos 0)
 unfolding sideIn fractionIn wholeFraction pointFraction wholeIn allDecimal value ofInt div round

@@ -8,7 +8,7 @@ use lib.Seq.{take-at}
 use borrow.Author.Tests.{ltb-false}
 use Rattle.logic.specs.Refusal.{given}
 use Rattle.logic.specs.Laws.Refusal.{both, allowed}
-use Rattle.reader.specs.Check.{textRefusal}
+use Rattle.reader.specs.Check.{textRefusal, placeWith}
 use Rattle.listing.specs.declared.Listed.{Listed}
 use Rattle.listing.specs.declared.Listed.the-variants as listed-by
 use Rattle.listing.specs.List.{codesOf, codesIn, listingRefusal, listed}
@@ -22,6 +22,14 @@ not-listed : (q : ℕ) (t : List ℕ) (r p : ℕ) → listed q t ≡ listed-by.R
 unfolding listed
 not-listed zero t r p e = let z : _≡_ {A = ℕ} 0 1 = cc in absurd (omega arith)
 not-listed (suc q) t r p e = let k : suc q ≡ r = cc in (k, λ z. omega arith)
+
+not-listed-at : (q : ℕ) (t : List ℕ) (r p : ℕ) → listed q t ≡ listed-by.Refused r p → p ≡ placeWith r t
+unfolding listed
+not-listed-at zero t r p e = let z : _≡_ {A = ℕ} 0 1 = cc in absurd (omega arith)
+not-listed-at (suc q) t r p e =
+    let k : suc q ≡ r = cc in
+    let l : placeWith (suc q) t ≡ p = cc in
+    sym l ∙ ap (λ (x : ℕ). placeWith x t) k
 
 module _ (t codes : List ℕ) {r : Listed} (e : r ≡ listed (listingRefusal t (length codes)) t) where
   pub listed-allowed : (n : ℕ) → r ≡ listed-by.Count n → listingRefusal t (length codes) ≡ 0
@@ -49,3 +57,7 @@ module _ (t codes : List ℕ) {r : Listed} (e : r ≡ listed (listingRefusal t (
 
   pub listed-refused : (q p : ℕ) → r ≡ listed-by.Refused q p → (listingRefusal t (length codes) ≡ q) × (q ≡ 0 → ⊥)
   listed-refused q p f = not-listed (listingRefusal t (length codes)) t q p (sym e ∙ f)
+
+  -- with the refusal's place
+  pub listed-place : (q p : ℕ) → r ≡ listed-by.Refused q p → p ≡ placeWith q t
+  listed-place q p f = not-listed-at (listingRefusal t (length codes)) t q p (sym e ∙ f)
