@@ -3,11 +3,11 @@ use mathlib.Core.Path.{sym, _∙_}
 use borrow.Author.Tests.{lt-ltb, le-ltb}
 use Rattle.logic.specs.Refusal.{_otherwise_}
 use Rattle.logic.specs.Laws.Refusal.{passes}
-use Rattle.settings.specs.Settings.{settingsRefusal}
-use Rattle.settings.proofs.Laws.{at-once}
+use Rattle.history.specs.Settings.{settingsRefusal}
+use Rattle.history.proofs.Laws.{at-once}
 use borrow.Author.Needs.{needs}
-use Rattle.settings.proofs.Settings.refusal.Statement.{statement}
-use Rattle.settings.proofs.Settings.refusal.Tie as tie
+use Rattle.history.proofs.Settings.refusal.Statement.{statement}
+use Rattle.history.proofs.Settings.refusal.Tie as tie
 
 refusal-requires : tie.Need-refusal-requires
 refusal-requires c κs = search needs

@@ -7,9 +7,9 @@ use lib.Dec.{leb, ltb}
 use borrow.Author.Tests.{ltb-true, ltb-false, lt-ltb, le-ltb, le-leb, lt-leb, eq-eqb, ne-eqb}
 use Rattle.logic.specs.Refusal.{refuse, _otherwise_, given}
 use Rattle.logic.specs.Laws.Refusal.{stops, given-none, given-value}
-use Rattle.settings.specs.declared.History.{History}
-use Rattle.settings.specs.Settings.{none, isKept, nextRefusal, readRefusal}
-use Rattle.settings.specs.History.{answer, placed, readOf}
+use Rattle.history.specs.declared.History.{History}
+use Rattle.history.specs.Settings.{none, isKept, nextRefusal, readRefusal}
+use Rattle.history.specs.History.{answer, placed, readOf}
 
 -- ---- answers
 

@@ -1,15 +1,15 @@
--- `settings::back` meets its contract. Assumes nothing.
+-- `history::back` meets its contract. Assumes nothing.
 use mathlib.Core.Path.{sym, ap, _∙_}
 use Prim.Native.Nat.{ℕ}
 use borrow.Author.Tests.{not-true, not-false}
 use Rattle.logic.specs.Laws.Refusal.{passes}
-use Rattle.settings.specs.Settings.{nextRefusal}
-use Rattle.settings.specs.History.{answer, next, placed, added, backed}
-use Rattle.settings.proofs.Laws.{refused, at-once, stale, latest, not-kept, is-kept}
+use Rattle.history.specs.Settings.{nextRefusal}
+use Rattle.history.specs.History.{answer, next, placed, added, backed}
+use Rattle.history.proofs.Laws.{refused, at-once, stale, latest, not-kept, is-kept}
 use native.Mathlib.Omega.{arith}
 use borrow.Author.Needs.{needs}
-use Rattle.settings.proofs.back.Statement.{statement}
-use Rattle.settings.proofs.back.Tie as tie
+use Rattle.history.proofs.back.Statement.{statement}
+use Rattle.history.proofs.back.Tie as tie
 
 is-kept-requires : tie.Need-is-kept-requires
 is-kept-requires c κs = search needs

@@ -13,11 +13,11 @@ use Rattle.logic.specs.Laws.Bools.{and-left, and-right}
 use Rattle.logic.specs.Laws.Order.{lt-or}
 use Rattle.logic.specs.Refusal.{refuse, _otherwise_, given}
 use Rattle.logic.specs.Laws.Refusal.{both, allowed, given-value, given-none}
-use Rattle.settings.specs.declared.Settings.{Settings}
-use Rattle.settings.specs.declared.History.{History}
-use Rattle.settings.specs.Settings.{none, settingsRefusal, isKept, nextRefusal, readRefusal}
-use Rattle.settings.specs.Log.{Call, change, back, newest, callRefusal, logAfter, logOf, after, Keeps}
-use Rattle.settings.specs.History.{empty, placed, next, answer, fresh, changed, backed, readOf, asCall, keeper}
+use Rattle.history.specs.declared.Settings.{Settings}
+use Rattle.history.specs.declared.History.{History}
+use Rattle.history.specs.Settings.{none, settingsRefusal, isKept, nextRefusal, readRefusal}
+use Rattle.history.specs.Log.{Call, change, back, newest, callRefusal, logAfter, logOf, after, Keeps}
+use Rattle.history.specs.History.{empty, placed, next, answer, fresh, changed, backed, readOf, asCall, keeper}
 
 -- the history keeps this log
 pub record Holds (log : List Settings) (h : History) : Type 0 where
@@ -131,7 +131,7 @@ unfolding changed backed answer
 call-same h (change from x) n = given-none _ (next h x) h n
 call-same h (back from to) n = given-none _ (next h (placed h to)) h n
 
--- the functions of `settings` keep the settings
+-- the functions of `history` keep the settings
 pub kept : Keeps keeper
 unfolding fresh answer
 kept =

@@ -1,14 +1,14 @@
--- `settings::change` meets its contract. Assumes nothing.
+-- `history::change` meets its contract. Assumes nothing.
 use mathlib.Core.Path.{sym, ap, _∙_}
 use Prim.Native.Nat.{ℕ}
 use Rattle.logic.specs.Laws.Refusal.{passes}
-use Rattle.settings.specs.Settings.{nextRefusal}
-use Rattle.settings.specs.History.{answer, next, added, changed}
-use Rattle.settings.proofs.Laws.{refused, at-once, stale, latest}
+use Rattle.history.specs.Settings.{nextRefusal}
+use Rattle.history.specs.History.{answer, next, added, changed}
+use Rattle.history.proofs.Laws.{refused, at-once, stale, latest}
 use native.Mathlib.Omega.{arith}
 use borrow.Author.Needs.{needs}
-use Rattle.settings.proofs.change.Statement.{statement}
-use Rattle.settings.proofs.change.Tie as tie
+use Rattle.history.proofs.change.Statement.{statement}
+use Rattle.history.proofs.change.Tie as tie
 
 refusal-requires : tie.Need-refusal-requires
 refusal-requires c κs = search needs
