@@ -1,5 +1,6 @@
 pub mod Choice
 pub mod Laws
 pub mod Lists
+pub mod Longest
 pub mod Refusal
 pub mod Rise
