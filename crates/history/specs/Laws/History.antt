@@ -67,14 +67,14 @@ module _ (log : List Settings) (h : History) (x : Settings) (w : Holds log h) wh
 -- ---- refusals are those of the log
 
 -- 17 is not given
-room-left : (n from : ℕ) → nextRefusal n from ≡ 0 → n < 65535
+pub room-left : (n from : ℕ) → nextRefusal n from ≡ 0 → n < 65535
 unfolding nextRefusal
 room-left n from e =
     let f : refuse (leb 65535 n) 17 ≡ 0 = both (refuse (not (eqb from n)) 16) (refuse (leb 65535 n) 17) e .1 in
     leb-false 65535 n (allowed 16 (leb 65535 n) f)
 
 -- 18 is not given
-kept-is : (n r : ℕ) → readRefusal n r ≡ 0 → (r ≤ n) × (n < r + 32)
+pub kept-is : (n r : ℕ) → readRefusal n r ≡ 0 → (r ≤ n) × (n < r + 32)
 unfolding readRefusal isKept
 kept-is n r e =
     let f : (leb r n && ltb n (r + 32)) ≡ true = not-false _ (allowed 17 (not (leb r n && ltb n (r + 32))) e) in
