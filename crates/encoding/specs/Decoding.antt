@@ -52,7 +52,7 @@ decodedOf t = answerTo (readAs historyForm t)
 -- ---- at a place of the bytes, as the code answers it
 
 -- what follows a number
-abbrev withNumber : NumberRead → (ℕ → SettingsRead) → SettingsRead
+abbrev pub withNumber : NumberRead → (ℕ → SettingsRead) → SettingsRead
 withNumber (number-as.Is v) next = next v
 withNumber (number-as.Wrong place) next = Wrong place
 
@@ -69,7 +69,7 @@ bySettings (Is x) next = next x
 bySettings (Wrong place) next = wrong place
 
 -- the newest revision behind the mark and the version
-abbrev thenNumber : NumberRead → NumberRead → NumberRead
+abbrev pub thenNumber : NumberRead → NumberRead → NumberRead
 thenNumber (number-as.Is v) next = next
 thenNumber (number-as.Wrong place) next = number-as.Wrong place
 

@@ -90,6 +90,9 @@ module _ {s : List ℕ} {at w least most place unit from : ℕ} (g : Gone s at w
     pub unit-next : unit / 256 ≡ 256 ^ m
     unit-next = let e : unit ≡ 256 ^ m * 256 = g .unit-is ∙ ap (λ (i : ℕ). 256 ^ i) more ∙ pow-suc 256 m in omega arith
 
+    unit-whole : unit ≡ unit / 256 * 256
+    unit-whole = let e : unit ≡ 256 ^ m * 256 = g .unit-is ∙ ap (λ (i : ℕ). 256 ^ i) more ∙ pow-suc 256 m in omega (arith, unit-next)
+
     module _ {x : ℕ} (l : place < length s) (byte : x ≡ getD s place 0) where
       abbrev further : ℕ
       further = from + x * (unit / 256)
@@ -115,7 +118,7 @@ module _ {s : List ℕ} {at w least most place unit from : ℕ} (g : Gone s at w
       -- the byte's part of the number is no longer than the unit
       pub room : x < 256 → further + unit / 256 ≤ from + unit
       room b =
-          let e : unit ≡ unit / 256 * 256 = let d : unit ≡ 256 ^ m * 256 = g .unit-is ∙ ap (λ (i : ℕ). 256 ^ i) more ∙ pow-suc 256 m in omega (arith, unit-next) in
+          let e : unit ≡ unit / 256 * 256 = unit-whole in
           let p : suc x * (unit / 256) ≤ 256 * (unit / 256) = mul-le-mul-right (unit / 256) b in
           let q : suc x * (unit / 256) ≡ x * (unit / 256) + unit / 256 = suc-mul x (unit / 256) in
           omega arith
@@ -138,13 +141,14 @@ module _ {s : List ℕ} {at w least most place unit from : ℕ} (g : Gone s at w
             unit-is = unit-next;
             small = let r = room b in let z = g .small in omega arith;
             value-is = sum-is (value 256 (take (place - at) t)) (g .value-is) ∙ ap (λ (j : ℕ). j * (unit / 256)) (sym d);
-            tied = let e : reach (at + w - place) least most from (drop place s) ≡ suc (reach m least most further (drop (place + 1) s)) = test ∙ rw (le-leb further most p, lt-ltb least (further + unit / 256) q) in
+            tied = let e : reach (at + w - place) least most from (drop place s) ≡ suc (reach m least most further (drop (place + 1) s)) =
+                test ∙ rw (le-leb further most p, lt-ltb least (further + unit / 256) q) in
                 let f = g .tied in omega arith;
           }
         where
           sum-is : (v : ℕ) → from ≡ v * unit → further ≡ (v * 256 + x) * (unit / 256)
           sum-is v e =
-              let u : unit ≡ unit / 256 * 256 = let f : unit ≡ 256 ^ m * 256 = g .unit-is ∙ ap (λ (j : ℕ). 256 ^ j) more ∙ pow-suc 256 m in omega (arith, unit-next) in
+              let u : unit ≡ unit / 256 * 256 = unit-whole in
               let a : v * unit ≡ v * 256 * (unit / 256) = ap (λ (j : ℕ). v * j) (u ∙ mul-comm (unit / 256) 256) ∙ sym (mul-assoc v 256 (unit / 256)) in
               let c : (v * 256 + x) * (unit / 256) ≡ v * 256 * (unit / 256) + x * (unit / 256) = add-mul (v * 256) x (unit / 256) in
               omega arith

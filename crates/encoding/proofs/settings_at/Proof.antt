@@ -31,8 +31,9 @@ enum-known-place-2 : tie.Need-enum-known-place-2
 enum-known-place-2 c = search needs
 
 returns-2 : tie.Need-returns-2
-returns-2 c = wrong-s _ _ _ (sym (c .before .before .before .before .before .before .before .number-up-to .ensures) ∙ c .before .before .before .before .before .n .given .1)
-    (sym (c .before .before .before .number-up-to2 .ensures) ∙ c .before .place2 .given .1)
+returns-2 c =
+    let n = c .before .before .before .before in
+    wrong-s _ _ _ (sym (n .before .before .before .number-up-to .ensures) ∙ n .before .n .given .1) (sym (c .before .before .before .number-up-to2 .ensures) ∙ c .before .place2 .given .1)
 
 add-number-up-to-2 : tie.Need-add-number-up-to-2
 add-number-up-to-2 c = search needs
@@ -48,8 +49,9 @@ enum-known-place-3 c = search needs
 
 returns-3 : tie.Need-returns-3
 returns-3 c =
-    wrong-resolution _ _ _ (sym (c .before .before .before .before .before .before .before .before .before .before .before .number-up-to .ensures) ∙ c .before .before .before .before .before .before .before .before .before .n .given .1)
-    (sym (c .before .before .before .before .before .before .before .number-up-to2 .ensures) ∙ c .before .before .before .before .before .s .given .1)
+    let s = c .before .before .before .before in
+    let n = s .before .before .before .before in
+    wrong-resolution _ _ _ (sym (n .before .before .before .number-up-to .ensures) ∙ n .before .n .given .1) (sym (s .before .before .before .number-up-to2 .ensures) ∙ s .before .s .given .1)
     (sym (c .before .before .before .number-up-to3 .ensures) ∙ c .before .place3 .given .1)
 
 add-number-up-to-3 : tie.Need-add-number-up-to-3
@@ -66,17 +68,19 @@ enum-known-place-4 c = search needs
 
 returns-4 : tie.Need-returns-4
 returns-4 c =
-    settings-right _ _ _ (sym (c .before .before .before .before .before .before .before .before .before .before .before .before .before .before .before .number-up-to .ensures) ∙ c .before .before .before .before .before .before .before .before .before .before .before .before .before .n .given .1)
-    (sym (c .before .before .before .before .before .before .before .before .before .before .before .number-up-to2 .ensures) ∙ c .before .before .before .before .before .before .before .before .before .s .given .1)
-    (sym (c .before .before .before .before .before .before .before .number-up-to3 .ensures) ∙ c .before .before .before .before .before .resolution .given .1)
-    (sym (c .before .before .before .number-up-to4 .ensures) ∙ c .before .eccentricity .given .1)
+    let k = c .before .before .before .before in
+    let s = k .before .before .before .before in
+    let n = s .before .before .before .before in
+    settings-right _ _ _ (sym (n .before .before .before .number-up-to .ensures) ∙ n .before .n .given .1) (sym (s .before .before .before .number-up-to2 .ensures) ∙ s .before .s .given .1)
+    (sym (k .before .before .before .number-up-to3 .ensures) ∙ k .before .resolution .given .1) (sym (c .before .before .before .number-up-to4 .ensures) ∙ c .before .eccentricity .given .1)
 
 returns-5 : tie.Need-returns-5
 returns-5 c =
-    wrong-eccentricity _ _ _ (sym (c .before .before .before .before .before .before .before .before .before .before .before .before .before .before .before .number-up-to .ensures) ∙ c .before .before .before .before .before .before .before .before .before .before .before .before .before .n .given .1)
-    (sym (c .before .before .before .before .before .before .before .before .before .before .before .number-up-to2 .ensures) ∙ c .before .before .before .before .before .before .before .before .before .s .given .1)
-    (sym (c .before .before .before .before .before .before .before .number-up-to3 .ensures) ∙ c .before .before .before .before .before .resolution .given .1)
-    (sym (c .before .before .before .number-up-to4 .ensures) ∙ c .before .place4 .given .1)
+    let k = c .before .before .before .before in
+    let s = k .before .before .before .before in
+    let n = s .before .before .before .before in
+    wrong-eccentricity _ _ _ (sym (n .before .before .before .number-up-to .ensures) ∙ n .before .n .given .1) (sym (s .before .before .before .number-up-to2 .ensures) ∙ s .before .s .given .1)
+    (sym (k .before .before .before .number-up-to3 .ensures) ∙ k .before .resolution .given .1) (sym (c .before .before .before .number-up-to4 .ensures) ∙ c .before .place4 .given .1)
 
 pub settings-at-spec : {M : Type 1} → statement M
 settings-at-spec =

@@ -56,15 +56,18 @@ module _ {A : Type 0} (reached : Bool) (next : Settings → Form A) where
 
   spells-settings : (y : A) (t : List ℕ) → Spells (settingsForm reached next) y t → (x : Settings) × InPlace reached x × ((u : List ℕ) × (t ≡ settingsBytes x ++ u) × Spells (next x) y u)
   unfolding settingsForm settingsBytes
-  spells-settings y t (n, n-low, n-high, (t1, p, (s, s-low, s-high, (t2, q, (k, k-low, k-high, (t3, r, (e, e-low, e-high, (u, o, h)))))))) =
-      (settings n s k e,
-      in-place reached n s k e n-high s-high k-high e-high,
-      (u,
+  spells-settings y t (n, n-low, n-high, (t1, p, (s, s-low, s-high, (t2, q, (k, k-low, k-high, (t3, r, (e, e-low, e-high, (u, o, h)))))))) = (
+    settings n s k e,
+    in-place reached n s k e n-high s-high k-high e-high,
+    (
+      u,
       p
-      ∙ ap (λ (a : List ℕ). digits 256 1 n ++ a)
-      (q ∙ ap (λ (b : List ℕ). digits 256 1 s ++ b) (r ∙ ap (λ (c : List ℕ). digits 256 1 k ++ c) o))
-      ∙ sym (joined (digits 256 1 n) (digits 256 1 s) (digits 256 1 k) (digits 256 5 e) u),
-      h))
+          ∙ ap (λ (a : List ℕ). digits 256 1 n ++ a)
+          (q ∙ ap (λ (b : List ℕ). digits 256 1 s ++ b) (r ∙ ap (λ (c : List ℕ). digits 256 1 k ++ c) o))
+          ∙ sym (joined (digits 256 1 n) (digits 256 1 s) (digits 256 1 k) (digits 256 5 e) u),
+      h,
+    ),
+  )
 
   settings-spells : (y : A) (x : Settings) (u : List ℕ) → InPlace reached x → Spells (next x) y u → Spells (settingsForm reached next) y (settingsBytes x ++ u)
   unfolding settingsForm settingsBytes
@@ -73,11 +76,21 @@ module _ {A : Type 0} (reached : Bool) (next : Settings → Form A) where
       let a = digits 256 1 (x .n) in
       let b = digits 256 1 (x .s) in
       let c = digits 256 1 (x .resolution) in
-      let d = digits 256 5 (x .eccentricity) in
-      (x .n, omega arith, l .north,
-      (b ++ (c ++ (d ++ u)), joined a b c d u,
-      (x .s, omega arith, l .south,
-      (c ++ (d ++ u), refl, (x .resolution, omega arith, l .fine, (d ++ u, refl, (x .eccentricity, omega arith, l .round, (u, refl, h))))))))
+      let d = digits 256 5 (x .eccentricity) in (
+        x .n,
+        omega arith,
+        l .north,
+        (
+          b ++ (c ++ (d ++ u)),
+          joined a b c d u,
+          (
+            x .s,
+            omega arith,
+            l .south,
+            (c ++ (d ++ u), refl, (x .resolution, omega arith, l .fine, (d ++ u, refl, (x .eccentricity, omega arith, l .round, (u, refl, h))))),
+          ),
+        ),
+      )
 
   settings-sound : ((x : Settings) → Sound (next x)) → Sound (settingsForm reached next)
   unfolding settingsForm
@@ -146,9 +159,10 @@ reached-place q newest x f g = go (leb q newest) refl
 valid-places : (q newest : ℕ) (xs : List Settings) → ((i : ℕ) → i < length xs → q + i ≤ newest → settingsRefusal (getD xs i none) ≡ 0) →
     ((i : ℕ) → i < length xs → newest < q + i → getD xs i none ≡ none) → InPlaces q newest xs
 valid-places q newest [] f g = tt
-valid-places q newest (x ∷ xs) f g =
-    (reached-place q newest x (λ h. f 0 (omega arith) (omega arith)) (λ h. g 0 (omega arith) (omega arith)),
-    valid-places (suc q) newest xs (λ i l h. f (suc i) (omega arith) (omega arith)) (λ i l h. g (suc i) (omega arith) (omega arith)))
+valid-places q newest (x ∷ xs) f g = (
+  reached-place q newest x (λ h. f 0 (omega arith) (omega arith)) (λ h. g 0 (omega arith) (omega arith)),
+  valid-places (suc q) newest xs (λ i l h. f (suc i) (omega arith) (omega arith)) (λ i l h. g (suc i) (omega arith) (omega arith)),
+)
 
 place-reached : (q newest : ℕ) (x : Settings) → InPlace (leb q newest) x → q ≤ newest → settingsRefusal x ≡ 0
 place-reached q newest x g h = good-exactly x .1 (go (leb q newest) (le-leb q newest h) g)
@@ -176,7 +190,7 @@ places-other q newest (x ∷ xs) g (suc i) l h = places-other (suc q) newest xs 
 
 -- ---- the whole
 
-mark-bytes : digits 256 5 319024201729 ≡ mark
+pub mark-bytes : digits 256 5 319024201729 ≡ mark
 unfolding digits
 mark-bytes = refl
 
@@ -216,7 +230,13 @@ encoding-spells h g =
     valid-places 0 n xs (λ j l o. g .reached j (omega (arith, g .places)) (omega arith)) (λ j l o. g .others j (omega (arith, g .places)) (omega arith)) in
     let s : Spells (placesForm 32 0 n (λ zs. done (history n zs))) h (placesBytes 32 0 xs) =
     subst (Spells (placesForm 32 0 n (λ zs. done (history n zs))) h) (append-nil (placesBytes 32 0 xs))
-    (places-spells 32 0 n (λ zs. done (history n zs)) h xs [] (g .places) i (refl, refl)) in
-    (319024201729, omega arith, omega arith,
-    (digits 256 2 n ++ placesBytes 32 0 xs, ap (λ (y : List ℕ). y ++ (digits 256 2 n ++ placesBytes 32 0 xs)) (sym mark-bytes),
-    (n, omega arith, g .few, (placesBytes 32 0 xs, refl, s))))
+    (places-spells 32 0 n (λ zs. done (history n zs)) h xs [] (g .places) i (refl, refl)) in (
+      319024201729,
+      omega arith,
+      omega arith,
+      (
+        digits 256 2 n ++ placesBytes 32 0 xs,
+        ap (λ (y : List ℕ). y ++ (digits 256 2 n ++ placesBytes 32 0 xs)) (sym mark-bytes),
+        (n, omega arith, g .few, (placesBytes 32 0 xs, refl, s)),
+      ),
+    )

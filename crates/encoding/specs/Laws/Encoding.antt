@@ -29,22 +29,23 @@ below-append b (x ∷ s) t h k = (h .0, below-append b s t (h .1) k)
 number-bytes : (w x : ℕ) → Below 256 (digits 256 w x)
 number-bytes w x = digits-below 256 w x (omega arith)
 
-settings-length : (x : Settings) → length (settingsBytes x) ≡ 8
+pub settings-length : (x : Settings) → length (settingsBytes x) ≡ 8
 unfolding settingsBytes
 settings-length x =
     let a = digits 256 1 (x .n) in
     let b = digits 256 1 (x .s) in
     let c = digits 256 1 (x .resolution) in
     let d = digits 256 5 (x .eccentricity) in
-    omega
-    (arith,
-    length-append a (b ++ (c ++ d)),
-    length-append b (c ++ d),
-    length-append c d,
-    length-digits 256 1 (x .n),
-    length-digits 256 1 (x .s),
-    length-digits 256 1 (x .resolution),
-    length-digits 256 5 (x .eccentricity))
+    omega (
+      arith,
+      length-append a (b ++ (c ++ d)),
+      length-append b (c ++ d),
+      length-append c d,
+      length-digits 256 1 (x .n),
+      length-digits 256 1 (x .s),
+      length-digits 256 1 (x .resolution),
+      length-digits 256 5 (x .eccentricity),
+    )
 
 settings-below : (x : Settings) → Below 256 (settingsBytes x)
 unfolding settingsBytes
@@ -123,15 +124,17 @@ module _ (t : List ℕ) (bytes : Below 256 t) where
 
   -- exactly the encodings are accepted
   pub encodes-exactly : (decodedOf t .refusal ≡ 0) ↔ Encodes t
-  encodes-exactly =
-      (λ e. ⊎-elim (λ a. (decodedOf t .history, a .2, a .3)) (λ a. let z : _≡_ {A = ℕ} 0 9 = sym e ∙ a .0 in absurd (omega arith)) answers,
-      λ e. ⊎-elim (λ a. a .0) (λ a. absurd (a .2 e)) answers)
+  encodes-exactly = (
+    λ e. ⊎-elim (λ a. (decodedOf t .history, a .2, a .3)) (λ a. let z : _≡_ {A = ℕ} 0 9 = sym e ∙ a .0 in absurd (omega arith)) answers,
+    λ e. ⊎-elim (λ a. a .0) (λ a. absurd (a .2 e)) answers,
+  )
 
   -- and everything else gets 9
   pub nine-exactly : (decodedOf t .refusal ≡ 9) ↔ (Encodes t → ⊥)
-  nine-exactly =
-      (λ e. ⊎-elim (λ a. let z : _≡_ {A = ℕ} 0 9 = sym (a .0) ∙ e in absurd (omega arith)) (λ a. a .2) answers,
-      λ n. ⊎-elim (λ a. absurd (n (decodedOf t .history, a .2, a .3))) (λ a. a .0) answers)
+  nine-exactly = (
+    λ e. ⊎-elim (λ a. let z : _≡_ {A = ℕ} 0 9 = sym (a .0) ∙ e in absurd (omega arith)) (λ a. a .2) answers,
+    λ n. ⊎-elim (λ a. absurd (n (decodedOf t .history, a .2, a .3))) (λ a. a .0) answers,
+  )
 
   -- encoding undoes decoding
   pub encode-decode : decodedOf t .refusal ≡ 0 → Valid (decodedOf t .history) × (encodingOf (decodedOf t .history) ≡ t)
@@ -144,8 +147,11 @@ module _ (t : List ℕ) (bytes : Below 256 t) where
 -- ---- bytes worked out by hand: the mark, the version, revision 1, and the two places that it has reached, the eccentricity that of WGS84
 
 pub written-out :
-    take 32 (encodingOf (record { newest = 1; kept = set (set (replicate 32 none) 0 (record { n = 1; s = 2; resolution = 9; eccentricity = 6694379990 })) 1
-    (record { n = 0; s = 3; resolution = 15; eccentricity = 10000000000 }) }))
+    take 32 (encodingOf (record {
+      newest = 1;
+      kept = set (set (replicate 32 none) 0 (record { n = 1; s = 2; resolution = 9; eccentricity = 6694379990 })) 1
+          (record { n = 0; s = 3; resolution = 15; eccentricity = 10000000000 });
+    }))
     ≡ 74 ∷ 71 ∷ 83 ∷ 0 ∷ 1 ∷ 0 ∷ 1 ∷
     1 ∷ 2 ∷ 9 ∷ 1 ∷ 143 ∷ 4 ∷ 33 ∷ 214 ∷
     0 ∷ 3 ∷ 15 ∷ 2 ∷ 84 ∷ 11 ∷ 228 ∷ 0 ∷

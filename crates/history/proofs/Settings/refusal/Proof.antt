@@ -25,12 +25,16 @@ returns-2 c =
 returns-3 : tie.Need-returns-3
 unfolding settingsRefusal _otherwise_
 returns-3 c =
-    sym (passes _ (sym (c .before .before .before .before .before .refusal .ensures) ∙ c .before .before .before .before .if1 .left) ∙ simp (le-ltb _ _ (c .before .before .if2 .left), lt-ltb _ _ (c .if3 .taken)))
+    sym
+    (passes _ (sym (c .before .before .before .before .before .refusal .ensures) ∙ c .before .before .before .before .if1 .left)
+    ∙ simp (le-ltb _ _ (c .before .before .if2 .left), lt-ltb _ _ (c .if3 .taken)))
 
 returns-4 : tie.Need-returns-4
 unfolding settingsRefusal _otherwise_
 returns-4 c =
-    sym (passes _ (sym (c .before .before .before .before .before .refusal .ensures) ∙ c .before .before .before .before .if1 .left) ∙ simp (le-ltb _ _ (c .before .before .if2 .left), le-ltb _ _ (c .if3 .left)))
+    sym
+    (passes _ (sym (c .before .before .before .before .before .refusal .ensures) ∙ c .before .before .before .before .if1 .left)
+    ∙ simp (le-ltb _ _ (c .before .before .if2 .left), le-ltb _ _ (c .if3 .left)))
 
 pub refusal-spec : {M : Type 1} → statement M
 refusal-spec = tie.close (tie.spec refusal-requires returns returns-2 returns-3 returns-4)
