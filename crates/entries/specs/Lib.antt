@@ -3,4 +3,5 @@ pub mod Entries
 pub mod Laws
 pub mod Order
 pub mod Refusals
+pub mod Settings
 pub mod Texts
