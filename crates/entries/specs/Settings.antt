@@ -14,16 +14,16 @@ use Rattle.entries.specs.Order.{Chain}
 abbrev pub settings : (n s resolution eccentricity : ℕ) → Settings
 settings n s k e = record { n = n; s = s; resolution = k; eccentricity = e }
 
-unfoldable pub freshHistory : (n s resolution eccentricity : ℕ) → HistoryAnswer
+abbrev pub freshHistory : (n s resolution eccentricity : ℕ) → HistoryAnswer
 freshHistory n s k e = fresh (settings n s k e)
 
-unfoldable pub changedHistory : History → (revision n s resolution eccentricity : ℕ) → HistoryAnswer
+abbrev pub changedHistory : History → (revision n s resolution eccentricity : ℕ) → HistoryAnswer
 changedHistory h from n s k e = changed h from (settings n s k e)
 
-unfoldable pub backHistory : History → (revision wanted : ℕ) → HistoryAnswer
+abbrev pub backHistory : History → (revision wanted : ℕ) → HistoryAnswer
 backHistory h from to = backed h from to
 
-unfoldable pub readSettings : History → (revision : ℕ) → SettingsAnswer
+abbrev pub readSettings : History → (revision : ℕ) → SettingsAnswer
 readSettings h r = readOf h r
 
 -- ---- refusals

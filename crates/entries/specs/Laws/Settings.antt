@@ -35,12 +35,12 @@ settings-first n s k e = then (arrangement-first n s) refl (λ _. then (last 1 (
 
 -- jgv_settings_fresh
 pub fresh-first : (n s k e : ℕ) → FirstOf (freshTests n s k e) (freshHistory n s k e .refusal)
-unfolding freshHistory fresh answer
+unfolding fresh answer
 fresh-first n s k e = settings-first n s k e
 
 -- jgv_settings_change
 pub change-first : (h : History) (from n s k e : ℕ) → FirstOf (changeTests (h .newest) from n s k e) (changedHistory h from n s k e .refusal)
-unfolding changedHistory changed answer nextRefusal
+unfolding changed answer nextRefusal
 change-first h from n s k e =
     then (settings-first n s k e) refl (λ _. then (last 15 (not-decides (eq-decides from (h .newest)))) refl (λ _. last 16 (le-decides 65535 (h .newest))))
 
@@ -56,14 +56,14 @@ not-kept newest r = not-and (leb r newest) (ltb newest (r + 32)) (above r newest
 
 -- jgv_settings_back
 pub back-first : (h : History) (from to : ℕ) → FirstOf (backTests (h .newest) from to) (backHistory h from to .refusal)
-unfolding backHistory backed answer nextRefusal readRefusal
+unfolding backed answer nextRefusal readRefusal
 back-first h from to =
     then (last 17 (not-kept (h .newest) to)) refl
     (λ _. then (last 15 (not-decides (eq-decides from (h .newest)))) refl (λ _. last 16 (le-decides 65535 (h .newest))))
 
 -- jgv_settings_read
 pub settings-read-first : (h : History) (r : ℕ) → FirstOf (readTests (h .newest) r) (readSettings h r .refusal)
-unfolding readSettings readOf readRefusal
+unfolding readOf readRefusal
 settings-read-first h r = last 17 (not-kept (h .newest) r)
 
 -- ---- in their order: "contents by 5, 2 and 6, then 16 .., 17 ..", "18, judged before 16"
@@ -135,27 +135,26 @@ accepted-read h r = none-exactly (settings-read-first h r) refl
 
 -- "A refused change leaves the history the same."
 pub refused-change : (h : History) (from n s k e : ℕ) → (changedHistory h from n s k e .refusal ≡ 0 → ⊥) → changedHistory h from n s k e .history ≡ h
-unfolding changedHistory changed answer
+unfolding changed answer
 refused-change h from n s k e r = given-none _ (next h (settings n s k e)) h r
 
 pub refused-back : (h : History) (from to : ℕ) → (backHistory h from to .refusal ≡ 0 → ⊥) → backHistory h from to .history ≡ h
-unfolding backHistory backed answer
+unfolding backed answer
 refused-back h from to r = given-none _ (next h (placed h to)) h r
 
 -- a fresh one that is refused is zeros, and so are settings that are not read
 pub refused-fresh : (n s k e : ℕ) → (freshHistory n s k e .refusal ≡ 0 → ⊥) → freshHistory n s k e .history ≡ empty
-unfolding freshHistory fresh answer
+unfolding fresh answer
 refused-fresh n s k e r = given-none _ _ empty r
 
 pub refused-read : (h : History) (r : ℕ) → (readSettings h r .refusal ≡ 0 → ⊥) → readSettings h r .settings ≡ none
-unfolding readSettings readOf
+unfolding readOf
 refused-read h r n = given-none _ (placed h r) none n
 
 -- ---- over runs of calls
 
 -- "After any run of calls from a fresh history, each given what the last handed back, reading a kept revision gives what was accepted under it"
 pub entries-keep : Keeps entries
-unfolding freshHistory changedHistory backHistory readSettings
 entries-keep = kept
 
 -- ---- from another side
@@ -171,7 +170,7 @@ in-range e = go (leb e 10000000000) refl
 
 -- settings are refused as a fix on the equator at Greenwich would be, with the same n, s, resolution and eccentricity
 pub fresh-as-fix : (n s k e : ℕ) → freshHistory n s k e .refusal ≡ geodeticCode n s k (pos 0) (pos 0) e .refusal
-unfolding freshHistory fresh answer settingsRefusal geodeticCode geodeticRefusal
+unfolding fresh answer settingsRefusal geodeticCode geodeticRefusal
 fresh-as-fix n s k e =
     ap (λ (r : ℕ). arrangementRefusal (arrangement n s) otherwise refuse (ltb 15 k) 2 otherwise r) (in-range e)
     ∙ sym (code-refusal (geodeticRefusal (arrangement n s) k (pos 0) (pos 0) e) (codeOf (arrangement n s) (geodeticCell (arrangement n s) k (pos 0) (pos 0) e)))
