@@ -83,20 +83,10 @@ fn newest_in(bytes: &[u8]) -> NumberRead
 fn refused_at(place: usize) -> Decoded
     ensures { λ r. ⌜ r ≡ refusedAt place ⌝ }
 {
-    let none = Settings {
-        n: 0,
-        s: 0,
-        resolution: 0,
-        eccentricity: 0,
-    };
-    let history = History {
-        newest: 0,
-        kept: [none; 32],
-    };
     Decoded {
         refusal: 9,
         place: place as u64,
-        history,
+        history: history::no_history(),
     }
 }
 
@@ -108,13 +98,7 @@ pub fn decode(bytes: &[u8]) -> Decoded
         NumberRead::Is(newest) => newest,
         NumberRead::Wrong(place) => return refused_at(place),
     };
-    let none = Settings {
-        n: 0,
-        s: 0,
-        resolution: 0,
-        eccentricity: 0,
-    };
-    let mut kept = [none; 32];
+    let mut kept = history::no_history().kept;
     let mut place: usize = 0;
     while place < 32 {
         match settings_at(bytes, 7 + 8 * place, place as u64 <= newest) {

@@ -1,8 +1,8 @@
 -- `encoding::decode` meets its contract: place by place, what is read from there on makes the answer. Assumes nothing.
-use mathlib.Core.Path.{refl, sym, _∙_}
+use mathlib.Core.Path.{sym, ap, _∙_}
 use Prim.Native.Nat.{_-_}
-use lib.ListN.{replicate}
-use Rattle.history.specs.Settings.{none}
+use lib.ListN.{length}
+use Rattle.history.specs.declared.History.{History}
 use Rattle.encoding.proofs.Turns.{Reading, not-read, begun, place-wrong, place-right, too-long, all-read}
 use native.Mathlib.Omega.{arith}
 use borrow.Author.Needs.{needs}
@@ -30,8 +30,13 @@ refused-at-requires c κs = search needs
 returns : tie.Need-returns Inv-loop μ-loop
 returns c = c .refused-at .ensures ∙ not-read _ (sym (c .before .before .before .before .newest-in .ensures) ∙ c .before .before .place .given .1)
 
+no-history-requires : tie.Need-no-history-requires Inv-loop μ-loop
+no-history-requires c κs = search needs
+
 loop-holds : tie.Need-loop-holds Inv-loop μ-loop
-loop-holds c = begun _ _ (replicate 32 none) (sym (c .before .before .before .newest-in .ensures) ∙ c .before .newest .given .1) refl
+loop-holds c =
+    begun _ _ (c .before .no-history .result .kept) (sym (c .before .before .before .before .before .newest-in .ensures) ∙ c .before .before .before .newest .given .1)
+    (ap (λ (h : History). length (h .kept)) (c .before .no-history .ensures))
 
 mul-settings-at : tie.Need-mul-settings-at Inv-loop μ-loop
 mul-settings-at c = search needs
@@ -94,6 +99,7 @@ decode-spec =
     enum-known-place
     refused-at-requires
     returns
+    no-history-requires
     loop-holds
     mul-settings-at
     add-settings-at

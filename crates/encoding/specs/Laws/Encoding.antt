@@ -13,8 +13,11 @@ use Rattle.fields.specs.Read.{Read, said, wrong, readAs}
 use Rattle.fields.specs.Laws.Read.{Right, read-right, said-read}
 use Rattle.history.specs.declared.Settings.{Settings}
 use Rattle.history.specs.declared.History.{History}
-use Rattle.history.specs.Settings.{none}
+use Rattle.history.specs.Settings.{none, settingsRefusal}
+use Rattle.history.specs.Log.{Call, after}
+use Rattle.history.specs.History.{fresh, keeper}
 use Rattle.history.specs.Valid.{Valid}
+use Rattle.history.specs.Laws.Valid.{runs-valid}
 use Rattle.encoding.specs.declared.Decoded.{Decoded}
 use Rattle.encoding.specs.Encoding.{mark, settingsBytes, placesBytes, encodingOf, Encodes}
 use Rattle.encoding.specs.Decoding.{historyForm, answerTo, decodedOf}
@@ -158,3 +161,9 @@ pub written-out :
     0 ∷ 0 ∷ 0 ∷ 0 ∷ 0 ∷ 0 ∷ 0 ∷ 0 ∷ 0 ∷ []
 unfolding encodingOf placesBytes settingsBytes digits
 written-out = refl
+
+-- what any run of calls from a fresh history hands back is decoded from its encoding
+pub run-encoded : (x : Settings) → settingsRefusal x ≡ 0 → (run : List Call) →
+    let h = after keeper (fresh x .history) run in
+    decodedOf (encodingOf h) ≡ record { refusal = 0; place = 0; history = h }
+run-encoded x e run = decode-encode (after keeper (fresh x .history) run) (runs-valid x e run)
