@@ -8,7 +8,7 @@ use native.Mathlib.Omega.{arith}
 use lib.Dec.{leb, ltb, eqb}
 use lib.ListN.{length, getD, set, replicate, length-set, length-append, List·getD-append}
 use lib.Seq.{getD-set-same, getD-set-other, getD-at}
-use borrow.Author.Tests.{leb-true, leb-false, ltb-true, not-false}
+use borrow.Author.Tests.{leb-true, leb-false, ltb-true, not-false, le-leb, lt-ltb}
 use Rattle.logic.specs.Laws.Bools.{and-left, and-right}
 use Rattle.logic.specs.Laws.Order.{lt-or}
 use Rattle.logic.specs.Refusal.{refuse, _otherwise_, given}
@@ -79,6 +79,10 @@ unfolding readRefusal isKept
 kept-is n r e =
     let f : (leb r n && ltb n (r + 32)) ≡ true = not-false _ (allowed 17 (not (leb r n && ltb n (r + 32))) e) in
     (leb-true r n (and-left (leb r n) (ltb n (r + 32)) f), ltb-true n (r + 32) (and-right (leb r n) (ltb n (r + 32)) f))
+
+pub is-kept : (n r : ℕ) → r ≤ n → n < r + 32 → readRefusal n r ≡ 0
+unfolding readRefusal isKept
+is-kept n r h k = rw (le-leb r n h, lt-ltb n (r + 32) k)
 
 same-refusal : (log : List Settings) (h : History) → Holds log h → (c : Call) → asCall h c .refusal ≡ callRefusal log c
 unfolding changed backed answer
