@@ -5,10 +5,12 @@ ghost use lib.ListN.{length};
 ghost use Rattle.console.specs.Arguments.{latitudeGiven, settingGiven, OfWord, Usable};
 ghost use Rattle.console.specs.Input.{unread, Given, Fits, lastLine};
 ghost use Rattle.console.specs.Room.{Made};
+ghost use Rattle.console.specs.History.{loadedFrom, OfBytes, revisionWanted, settingAt};
 use cell::Arrangement;
 use decimal::Whole;
 use flight::Latitude;
 use flight::Setting;
+use history::History;
 use libc::STDERR_FILENO;
 use libc::STDIN_FILENO;
 use libc::STDOUT_FILENO;
@@ -24,6 +26,12 @@ pub enum Arguments {
 enum LatitudeGiven {
     Good(Latitude),
     Wrong,
+}
+
+// A history that was read from a file, or that there is none.
+pub struct Loaded {
+    pub done: bool,
+    pub history: History,
 }
 
 // How many bytes were read. No byte is the end of the input.
@@ -113,6 +121,9 @@ fn say_meaning(refusal: u64) {
         11 => say(b": the names do not rise, or one cell lies inside another\n"),
         13 => say(b": the text or the list is too long\n"),
         15 => say(b": the cells do not keep to the profile: N or S in part, or a cell too deep\n"),
+        16 => say(b": the change was made from a revision that is not the newest\n"),
+        17 => say(b": there is no revision past 65535\n"),
+        18 => say(b": the revision is not made yet, or it is dropped: the last 32 are kept\n"),
         _ => say(b"\n"),
     }
 }
@@ -204,30 +215,6 @@ fn setting_given(latitude: LatitudeGiven, n: Whole, s: Whole, resolution: Whole)
     })
 }
 
-// The arguments n, s, resolution and, where there is a fourth, eccentricity. Where they cannot be used, standard error says why.
-pub fn given_setting(program: &[u8]) -> Arguments
-    ensures { λ r. ⌜ Usable r ⌝ }
-{
-    let latitude = latitude_given(os::arg_count(), whole_argument(4));
-    let given = setting_given(
-        latitude,
-        whole_argument(1),
-        whole_argument(2),
-        whole_argument(3),
-    );
-    let Arguments::Good(setting) = given else {
-        return Arguments::Wrong;
-    };
-    let refusal = setting.refusal();
-    if refusal != 0 {
-        say(program);
-        say(b": ");
-        say_refusal(refusal);
-        return Arguments::Wrong;
-    }
-    Arguments::Good(setting)
-}
-
 // What comes first of the input.
 fn read(fd: i32, buf: &mut [u8]) -> BytesRead
     ensures { λ r. ⌜ Fits (now (buf .exit)) r ⌝ }
@@ -263,6 +250,173 @@ pub fn read_all(fd: i32, buf: &mut [u8]) -> BytesRead
         }
     }
     BytesRead::Count(count)
+}
+
+// A file to its end, or as much of it as there is room for. Where it cannot be read, standard error says why.
+pub fn read_file(program: &[u8], path: &[u8], buf: &mut [u8]) -> BytesRead
+    ensures { λ r. ⌜ Fits (now (buf .exit)) r ⌝ }
+{
+    let fd = os::open_read(path);
+    if fd < 0 {
+        say_failure(program, path);
+        return BytesRead::Failed;
+    }
+    let BytesRead::Count(count) = read_all(fd, buf) else {
+        say_failure(program, path);
+        libc::close(fd);
+        return BytesRead::Failed;
+    };
+    libc::close(fd);
+    BytesRead::Count(count)
+}
+
+// The history that the bytes of a file encode. Where they encode none, standard error says so.
+fn history_in(program: &[u8], path: &[u8], bytes: &[u8]) -> Loaded
+    ensures { λ r. ⌜ r ≡ loadedFrom (now (bytes .entry)) ⌝ }
+{
+    let decoded = encoding::decode(bytes);
+    let refusal = decoded.refusal;
+    let history = decoded.history;
+    if refusal != 0 {
+        say(program);
+        say(b": ");
+        say(path);
+        say(b": refusal 9 at place ");
+        say_whole(decoded.place);
+        say(b": not a history of settings\n");
+        return Loaded {
+            done: false,
+            history,
+        };
+    }
+    Loaded {
+        done: true,
+        history,
+    }
+}
+
+// The history in a file. Where there is none, standard error says why. A file that is longer than an encoding fills the room, and is refused.
+pub fn load_history(program: &[u8], path: &[u8]) -> Loaded
+    ensures { λ r. ⌜ OfBytes r ⌝ }
+{
+    let mut bytes = [0u8; 264];
+    let BytesRead::Count(count) = read_file(program, path, &mut bytes) else {
+        return Loaded {
+            done: false,
+            history: history::no_history(),
+        };
+    };
+    history_in(program, path, &bytes[..count])
+}
+
+// The revision that is asked for, by the number of words, the program's own name among them: the newest, or with one word more the one that it says.
+fn revision_wanted(count: usize, word: Whole, newest: u64) -> Whole
+    ensures { λ r. ⌜ r ≡ revisionWanted count word newest ⌝ }
+{
+    if count == 3 {
+        return Whole::Is(newest);
+    }
+    if count != 4 {
+        return Whole::Not;
+    }
+    word
+}
+
+// The setting of a revision: its lines have the sine of a geodetic latitude. None where the revision is not kept.
+fn setting_at(history: History, revision: u64) -> Arguments
+    ensures { λ r. ⌜ r ≡ settingAt history revision ⌝ }
+{
+    let answer = history::read(history, revision);
+    if answer.refusal != 0 {
+        return Arguments::Wrong;
+    }
+    let settings = answer.settings;
+    Arguments::Good(Setting {
+        arrangement: Arrangement {
+            north: settings.n, // of the revision
+            south: settings.s, // of the revision
+        },
+        resolution: settings.resolution,
+        latitude: Latitude::Geodetic(settings.eccentricity), // held with it
+    })
+}
+
+// The setting of a history's revision. Standard error says which revision is used, or why there is none.
+fn setting_of(program: &[u8], path: &[u8], history: History) -> Arguments {
+    let wanted = revision_wanted(os::arg_count(), whole_argument(3), history.newest);
+    let Whole::Is(revision) = wanted else {
+        return Arguments::Wrong;
+    };
+    let given = setting_at(history, revision);
+    say(program);
+    let Arguments::Good(setting) = given else {
+        say(b": ");
+        say_refusal(18);
+        return Arguments::Wrong;
+    };
+    say(b": revision ");
+    say_whole(revision);
+    say(b" of ");
+    say(path);
+    say(b"\n");
+    Arguments::Good(setting)
+}
+
+// The arguments `settings`, a file and, if there is one, a revision.
+fn kept_setting(program: &[u8]) -> Arguments {
+    let mut path = io::buffer();
+    let n = os::arg(2, &mut path);
+    if os::errno() != 0 {
+        say_failure(program, b"FILE");
+        return Arguments::Wrong;
+    }
+    let loaded = load_history(program, &path[..n]);
+    if loaded.done {
+        return setting_of(program, &path[..n], loaded.history);
+    }
+    Arguments::Wrong
+}
+
+// Whether the first argument is `settings`.
+fn is_kept() -> bool {
+    let mut word = [0u8; 8];
+    let n = os::arg(1, &mut word);
+    check::same(&word[..n], b"settings")
+}
+
+// The setting, if it can be used. Where it cannot, standard error says why.
+fn usable(program: &[u8], given: Arguments) -> Arguments
+    ensures { λ r. ⌜ Usable r ⌝ }
+{
+    let Arguments::Good(setting) = given else {
+        return Arguments::Wrong;
+    };
+    let refusal = setting.refusal();
+    if refusal != 0 {
+        say(program);
+        say(b": ");
+        say_refusal(refusal);
+        return Arguments::Wrong;
+    }
+    Arguments::Good(setting)
+}
+
+// The arguments n, s, resolution and, where there is a fourth, eccentricity; or `settings`, a file and, if there is one, a revision (02 W-209). Where
+// they cannot be used, standard error says why.
+pub fn given_setting(program: &[u8]) -> Arguments
+    ensures { λ r. ⌜ Usable r ⌝ }
+{
+    if is_kept() {
+        return usable(program, kept_setting(program));
+    }
+    let latitude = latitude_given(os::arg_count(), whole_argument(4));
+    let given = setting_given(
+        latitude,
+        whole_argument(1),
+        whole_argument(2),
+        whole_argument(3),
+    );
+    usable(program, given)
 }
 
 // What comes next of standard input. Where reading fails, standard error says why.

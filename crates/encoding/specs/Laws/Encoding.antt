@@ -9,13 +9,13 @@ use Rattle.logic.specs.Longest.{BeginsOne, LongestOf}
 use Rattle.ternary.specs.Digits.{digits, Below}
 use Rattle.ternary.specs.Laws.Digits.{length-digits, digits-below}
 use Rattle.fields.specs.Form.{Spells, Spelled}
-use Rattle.fields.specs.Read.{Read, said, wrong, readAs}
+use Rattle.fields.specs.Read.{reach, Read, said, wrong, readAs}
 use Rattle.fields.specs.Laws.Read.{Right, read-right, said-read}
 use Rattle.history.specs.declared.Settings.{Settings}
 use Rattle.history.specs.declared.History.{History}
 use Rattle.history.specs.Settings.{none, settingsRefusal}
 use Rattle.history.specs.Log.{Call, after}
-use Rattle.history.specs.History.{fresh, keeper}
+use Rattle.history.specs.History.{empty, fresh, keeper}
 use Rattle.history.specs.Valid.{Valid}
 use Rattle.history.specs.Laws.Valid.{runs-valid}
 use Rattle.encoding.specs.declared.Decoded.{Decoded}
@@ -146,6 +146,11 @@ module _ (t : List ℕ) (bytes : Below 256 t) where
   -- "the place is the length of the longest leading part" that some encoding begins with
   pub decode-place : decodedOf t .refusal ≡ 9 → LongestOf Encodes t (decodedOf t .place)
   decode-place e = ⊎-elim (λ a. let z : _≡_ {A = ℕ} 0 9 = sym (a .0) ∙ e in absurd (omega arith)) (λ a. a .1) answers
+
+-- no bytes at all
+pub decode-nothing : decodedOf [] ≡ record { refusal = 9; place = 0; history = empty }
+unfolding decodedOf readAs historyForm reach
+decode-nothing = refl
 
 -- ---- bytes worked out by hand: the mark, the version, revision 1, and the two places that it has reached, the eccentricity that of WGS84
 
