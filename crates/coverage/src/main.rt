@@ -107,18 +107,7 @@ fn load(path: &mut [u8], text: &mut [u8]) -> BytesRead
         console::say_failure(b"coverage", b"FILE");
         return BytesRead::Failed;
     }
-    let fd = os::open_read(&path[..n]);
-    if fd < 0 {
-        console::say_failure(b"coverage", &path[..n]);
-        return BytesRead::Failed;
-    }
-    let BytesRead::Count(count) = console::read_all(fd, text) else {
-        console::say_failure(b"coverage", &path[..n]);
-        libc::close(fd);
-        return BytesRead::Failed;
-    };
-    libc::close(fd);
-    BytesRead::Count(count)
+    console::read_file(b"coverage", &path[..n], text)
 }
 
 // check: the line of what the reader answers, in front.
