@@ -377,11 +377,12 @@ fn kept_setting(program: &[u8]) -> Arguments {
     Arguments::Wrong
 }
 
-// Whether the first argument is `settings`.
+// Whether the arguments are `settings` and one or two more.
 fn is_kept() -> bool {
+    let words = os::arg_count();
     let mut word = [0u8; 8];
     let n = os::arg(1, &mut word);
-    check::same(&word[..n], b"settings")
+    check::same(&word[..n], b"settings") && (words == 3 || words == 4)
 }
 
 // The setting, if it can be used. Where it cannot, standard error says why.
