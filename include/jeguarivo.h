@@ -23,8 +23,11 @@
  *   13  text longer than 65,536 bytes, read or to be written
  *   14  a question of another arrangement than the text's heading has, or a list with a code of another arrangement than the asked one
  *   15  list outside the profile of version 2: the fewest cells of its ground hold a part of N or S, or one deeper than the asked depth
+ *   16  a change of settings that was not made from the newest revision
+ *   17  a change of settings past revision 65,535
+ *   18  a revision of settings that is dropped or not yet made
  *
- * Where several apply, the order is 5, 2, 1, 3, 4, 6, 7, 12, 13, 10, 9, 14, 11, 15, 8; in
+ * Where several apply, the order is 5, 2, 1, 3, 4, 6, 7, 12, 13, 10, 9, 14, 11, 15, 8, 18, 16, 17; in
  * writing 13 comes after 15. Faces 0 to 5 are N, O, P, Q, R, S; N lies above face n of O to R and S below
  * face s, both from 0 to 3.
  *
@@ -57,6 +60,13 @@ typedef struct { uint64_t refusal; int64_t z; } jgv_z;
 typedef struct { uint64_t refusal, place, version, depth, n, s, cells, size; } jgv_check;
 typedef struct { uint64_t refusal, place, count; } jgv_list;
 typedef struct { uint64_t refusal, place, covered; } jgv_ask;
+
+/* Settings: an arrangement, the working resolution, and the squared eccentricity, from 0 to 10,000,000,000 in units of 10^-12. */
+typedef struct { uint64_t n, s, resolution, eccentricity; } jgv_settings;
+/* Settings with their past: the newest revision, and what was accepted under the last 32; revision r stands at r modulo 32. */
+typedef struct { uint64_t newest; jgv_settings kept[32]; } jgv_history;
+typedef struct { uint64_t refusal; jgv_history history; } jgv_history_answer;
+typedef struct { uint64_t refusal; jgv_settings settings; } jgv_settings_answer;
 
 /* The code of a cell in an arrangement. Refusals 5, 2, 1, 3. */
 jgv_code jgv_cell_code(uint64_t n, uint64_t s, uint64_t face, uint64_t resolution, uint64_t row, uint64_t column);
@@ -139,6 +149,20 @@ jgv_length jgv_coverage_write(uint64_t version, uint64_t depth, uint64_t n, uint
 
 /* Whether a text covers all finest cells of a cell of its arrangement: 1 or 0. Refusals 4, 13, 10, 9, 14. */
 jgv_ask jgv_coverage_ask(const uint8_t *text, size_t length, uint64_t code);
+
+/* A history whose revision 0 is these settings. It is a value, handed from call to call: each change answers the next one. A history that no such
+ * calls made gets some answer. Refusals 5, 2, 6. */
+jgv_history_answer jgv_settings_fresh(uint64_t n, uint64_t s, uint64_t resolution, uint64_t eccentricity);
+
+/* The history with these settings as a new revision. `revision` is the one that the change was made from, which must be the newest. The
+ * thirty-third revision drops the oldest. A refused change answers the history that it was given. Refusals 5, 2, 6, 16, 17. */
+jgv_history_answer jgv_settings_change(jgv_history history, uint64_t revision, uint64_t n, uint64_t s, uint64_t resolution, uint64_t eccentricity);
+
+/* The same with the settings of a kept revision, `wanted`. Refusals 18, 16, 17. */
+jgv_history_answer jgv_settings_back(jgv_history history, uint64_t revision, uint64_t wanted);
+
+/* What was accepted under a kept revision. Refusal 18. */
+jgv_settings_answer jgv_settings_read(jgv_history history, uint64_t revision);
 
 #ifdef __cplusplus
 }

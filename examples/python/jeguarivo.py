@@ -36,6 +36,9 @@ REASONS = {
     13: "a text longer than 65,536 bytes",
     14: "a question of another arrangement than the text's, or a list with a code of another arrangement than the asked one",
     15: "a list outside the profile: a part of N or S, or a cell deeper than the asked depth",
+    16: "a change of settings that was not made from the newest revision",
+    17: "a change of settings past revision 65,535",
+    18: "a revision of settings that is dropped or not yet made",
 }
 
 
@@ -82,6 +85,15 @@ class Check(NamedTuple):
     size: int
 
 
+class Settings(NamedTuple):
+    """An arrangement, the working resolution and the squared eccentricity."""
+
+    n: int
+    s: int
+    resolution: int
+    eccentricity: int
+
+
 def _struct(name: str, kind: type, *fields: str) -> type:
     """The struct of an answer: `refusal`, then fields of one kind, in the header's order."""
     return type(name, (ctypes.Structure,), {"_fields_": [("refusal", c_uint64), *((field, kind) for field in fields)]})
@@ -102,6 +114,20 @@ _Z = _struct("jgv_z", c_int64, "z")
 _Check = _struct("jgv_check", c_uint64, "place", "version", "depth", "n", "s", "cells", "size")
 _List = _struct("jgv_list", c_uint64, "place", "count")
 _Ask = _struct("jgv_ask", c_uint64, "place", "covered")
+
+
+class _Settings(ctypes.Structure):
+    _fields_ = [(field, c_uint64) for field in Settings._fields]
+
+
+class History(ctypes.Structure):
+    """Settings with their past: `newest` is the newest revision. A value: the functions answer a new one."""
+
+    _fields_ = [("newest", c_uint64), ("_kept", _Settings * 32)]
+
+
+_HistoryAnswer = _struct("jgv_history_answer", History, "history")
+_SettingsAnswer = _struct("jgv_settings_answer", _Settings, "settings")
 
 
 class _U64:
@@ -167,6 +193,10 @@ _coverage_check = _entry("jgv_coverage_check", _Check, _BYTES, c_size_t)
 _coverage_list = _entry("jgv_coverage_list", _List, _BYTES, c_size_t, _CODES, c_size_t)
 _coverage_write = _entry("jgv_coverage_write", _Length, _U64, _U64, _U64, _U64, _CODES, c_size_t, _ROOM, c_size_t)
 _coverage_ask = _entry("jgv_coverage_ask", _Ask, _BYTES, c_size_t, _U64)
+_settings_fresh = _entry("jgv_settings_fresh", _HistoryAnswer, _U64, _U64, _U64, _U64)
+_settings_change = _entry("jgv_settings_change", _HistoryAnswer, History, _U64, _U64, _U64, _U64, _U64)
+_settings_back = _entry("jgv_settings_back", _HistoryAnswer, History, _U64, _U64)
+_settings_read = _entry("jgv_settings_read", _SettingsAnswer, History, _U64)
 
 
 def cell_code(n: int, s: int, face: int, resolution: int, row: int, column: int) -> int:
@@ -297,3 +327,24 @@ def coverage_write(n: int, s: int, codes: Iterable[int], depth: Optional[int] = 
 def coverage_ask(text: bytes, code: int) -> bool:
     """Whether a text covers all finest cells of a cell of its arrangement."""
     return _coverage_ask(text, len(text), code).covered == 1
+
+
+def settings_fresh(settings: Settings) -> History:
+    """A history whose revision 0 is these settings."""
+    return _settings_fresh(*settings).history
+
+
+def settings_change(history: History, revision: int, settings: Settings) -> History:
+    """The history with these settings as a new revision, made from `revision`, which must be the newest."""
+    return _settings_change(history, revision, *settings).history
+
+
+def settings_back(history: History, revision: int, wanted: int) -> History:
+    """The same with the settings of a kept revision."""
+    return _settings_back(history, revision, wanted).history
+
+
+def settings_read(history: History, revision: int) -> Settings:
+    """What was accepted under a kept revision."""
+    got = _settings_read(history, revision).settings
+    return Settings(got.n, got.s, got.resolution, got.eccentricity)

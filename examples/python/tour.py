@@ -188,6 +188,24 @@ def handhelds():
     write_handheld(1, north[1:])  # N is not whole
 
 
+def office():
+    """A history is a value, handed from call to call: each change answers the next one, and a refused change leaves the one at hand."""
+    history = jgv.settings_fresh(jgv.Settings(0, 0, 9, jgv.WGS84))
+    print(f"settings_fresh: 0 0 9 {jgv.WGS84} -> newest {history.newest}")
+    history = jgv.settings_change(history, 0, jgv.Settings(1, 0, 10, jgv.WGS84))
+    print(f"settings_change: from 0, 1 0 10 {jgv.WGS84} -> newest {history.newest}")
+    # Two people changed revision 0: the second of them has to look at revision 1 first.
+    stale = refusal(jgv.settings_change, history, 0, jgv.Settings(0, 0, 11, jgv.WGS84))
+    print(f"settings_change: from 0, 0 0 11 {jgv.WGS84} -> {stale}")
+    history = jgv.settings_back(history, 1, 0)
+    print(f"settings_back: from 1, to 0 -> newest {history.newest}")
+    for revision in range(4):
+        try:
+            print(f"settings_read: {revision} ->", *jgv.settings_read(history, revision))
+        except jgv.Refused as refused:
+            print(f"settings_read: {revision} -> refused with {refused.number}")
+
+
 if __name__ == "__main__":
-    for part in (codes_and_names, families, shapes, plane, ground, neighbours, corners, coverage, two_arrangements, handhelds):
+    for part in (codes_and_names, families, shapes, plane, ground, neighbours, corners, coverage, two_arrangements, handhelds, office):
         part()

@@ -53,6 +53,26 @@ answers! {
     Check at place { version: u64, depth: u64, n: u64, s: u64, cells: u64, size: u64 }
     List at place { count: u64 }
     Ask at place { covered: u64 }
+    HistoryAnswer { history: History }
+    SettingsAnswer { settings: Settings }
+}
+
+/// Settings: an arrangement, the working resolution and the squared eccentricity.
+#[repr(C)]
+#[derive(Clone, Copy, Debug, Default, PartialEq, Eq)]
+pub struct Settings {
+    pub n: u64,
+    pub s: u64,
+    pub resolution: u64,
+    pub eccentricity: u64,
+}
+
+/// Settings with their past: the newest revision, and what was accepted under the last 32; revision r stands at r modulo 32.
+#[repr(C)]
+#[derive(Clone, Copy, Debug, Default, PartialEq, Eq)]
+pub struct History {
+    pub newest: u64,
+    pub kept: [Settings; 32],
 }
 
 // Safe are those that take numbers alone: the library takes any.
@@ -82,6 +102,12 @@ unsafe extern "C" {
         version: u64, depth: u64, n: u64, s: u64, codes: *const u64, count: usize, text: *mut u8, room: usize,
     ) -> Length;
     pub fn jgv_coverage_ask(text: *const u8, length: usize, code: u64) -> Ask;
+    pub safe fn jgv_settings_fresh(n: u64, s: u64, resolution: u64, eccentricity: u64) -> HistoryAnswer;
+    pub safe fn jgv_settings_change(
+        history: History, revision: u64, n: u64, s: u64, resolution: u64, eccentricity: u64,
+    ) -> HistoryAnswer;
+    pub safe fn jgv_settings_back(history: History, revision: u64, wanted: u64) -> HistoryAnswer;
+    pub safe fn jgv_settings_read(history: History, revision: u64) -> SettingsAnswer;
 }
 
 /// The entries that take memory, on slices. Each is safe: the library reads and writes lent memory within its length only.
@@ -227,4 +253,26 @@ pub fn coverage_write_handheld<'a>(depth: u64, n: u64, s: u64, codes: &[u64], te
 /// Refused with 14 where the code is of another arrangement than the text.
 pub fn coverage_ask(text: &[u8], code: u64) -> Answer<bool> {
     Ok(lent::coverage_ask(text, code).read()?.covered == 1)
+}
+
+/// A history whose revision 0 is these settings.
+pub fn settings_fresh(settings: Settings) -> Answer<History> {
+    let Settings { n, s, resolution, eccentricity } = settings;
+    Ok(jgv_settings_fresh(n, s, resolution, eccentricity).read()?.history)
+}
+
+/// The history with these settings as a new revision, made from `revision`, which must be the newest.
+pub fn settings_change(history: &History, revision: u64, settings: Settings) -> Answer<History> {
+    let Settings { n, s, resolution, eccentricity } = settings;
+    Ok(jgv_settings_change(*history, revision, n, s, resolution, eccentricity).read()?.history)
+}
+
+/// The same with the settings of a kept revision.
+pub fn settings_back(history: &History, revision: u64, wanted: u64) -> Answer<History> {
+    Ok(jgv_settings_back(*history, revision, wanted).read()?.history)
+}
+
+/// What was accepted under a kept revision.
+pub fn settings_read(history: &History, revision: u64) -> Answer<Settings> {
+    Ok(jgv_settings_read(*history, revision).read()?.settings)
 }
