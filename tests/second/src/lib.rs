@@ -3,8 +3,8 @@
 //! with the proved library, entry by entry. They prove nothing; the library's contracts do that.
 //!
 //! RATTLE_LIBS names the folder of libjeguarivo.a: `cargo test --release --offline`. Without it
-//! the tests `grid`, `straight`, `ground`, `ellipsoid` and `coverage` fail, and without RATTLE_BIN, the folder of
-//! the proved programs, the test `programs`; the others try this program alone.
+//! the tests `grid`, `straight`, `ground`, `ellipsoid`, `coverage` and `settings` fail, and without RATTLE_BIN,
+//! the folder of the proved programs, the tests `programs` and `office`; the others try this program alone.
 //! SECOND_SEED sets another seed for the inputs.
 //!
 //! - `grid`: names, codes, the plane, shapes, neighbours, cells that meet at a corner
@@ -13,6 +13,7 @@
 //! - `coverage`: the coverage text: check, list, write, ask
 //! - `proved`: the proved library's entries, as examples/rust declares them
 //! - `straight`: straight lines through cells (request W-212)
+//! - `settings`: settings with a past, and a history as bytes (request W-209)
 //! - `flights`: the programs `record` and `name_fixes` (`second_record` is a program of its own)
 //! - `random`: inputs, good, at borders, and bad; `fixes` for fixes, `texts` for coverage texts
 //! - `compare`: runs both programs on many inputs and counts what was met
@@ -28,5 +29,6 @@ pub mod ground;
 #[cfg(proved)]
 pub mod proved;
 pub mod random;
+pub mod settings;
 pub mod straight;
 pub mod texts;

@@ -17,6 +17,14 @@ pub use jeguarivo::{
     jgv_size as size, jgv_square as square, jgv_vertices as vertices,
 };
 
+/// The entries of the settings.
+pub mod settings {
+    pub use jeguarivo::{
+        jgv_settings_back as back, jgv_settings_change as change, jgv_settings_fresh as fresh,
+        jgv_settings_read as read, History, HistoryAnswer, SettingsAnswer,
+    };
+}
+
 /// The coverage entries.
 pub mod coverage {
     pub use jeguarivo::lent::{
