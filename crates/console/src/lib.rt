@@ -259,7 +259,7 @@ pub fn read_file(program: &[u8], path: &[u8], buf: &mut [u8]) -> BytesRead
     let fd = os::open_read(path);
     if fd < 0 {
         say_failure(program, path);
-        return BytesRead::Failed;
+        return BytesRead::Failed; // not opened
     }
     let BytesRead::Count(count) = read_all(fd, buf) else {
         say_failure(program, path);
@@ -267,7 +267,7 @@ pub fn read_file(program: &[u8], path: &[u8], buf: &mut [u8]) -> BytesRead
         return BytesRead::Failed;
     };
     libc::close(fd);
-    BytesRead::Count(count)
+    BytesRead::Count(count) // of the file
 }
 
 // The history that the bytes of a file encode. Where they encode none, standard error says so.
@@ -285,7 +285,7 @@ fn history_in(program: &[u8], path: &[u8], bytes: &[u8]) -> Loaded
         say_whole(decoded.place);
         say(b": not a history of settings\n");
         return Loaded {
-            done: false,
+            done: false, // no encoding
             history,
         };
     }
@@ -302,7 +302,7 @@ pub fn load_history(program: &[u8], path: &[u8]) -> Loaded
     let mut bytes = [0u8; 264];
     let BytesRead::Count(count) = read_file(program, path, &mut bytes) else {
         return Loaded {
-            done: false,
+            done: false, // no file
             history: history::no_history(),
         };
     };
@@ -392,11 +392,11 @@ fn usable(program: &[u8], given: Arguments) -> Arguments
     let Arguments::Good(setting) = given else {
         return Arguments::Wrong;
     };
-    let refusal = setting.refusal();
-    if refusal != 0 {
+    let judged = setting.refusal();
+    if judged != 0 {
         say(program);
         say(b": ");
-        say_refusal(refusal);
+        say_refusal(judged);
         return Arguments::Wrong;
     }
     Arguments::Good(setting)

@@ -66,10 +66,10 @@ fn settings_given(n: Whole, s: Whole, resolution: Whole, eccentricity: Whole) ->
         return SettingsGiven::Wrong;
     };
     SettingsGiven::Good(Settings {
-        n,
+        n, // as given
         s,
         resolution,
-        eccentricity,
+        eccentricity, // as given
     })
 }
 
@@ -78,7 +78,7 @@ fn asked_fresh(given: SettingsGiven) -> Asked
 {
     match given {
         SettingsGiven::Good(settings) => Asked::Changed(Change::Fresh(settings)),
-        SettingsGiven::Wrong => Asked::Wrong,
+        SettingsGiven::Wrong => Asked::Wrong, // nothing fresh
     }
 }
 
@@ -90,7 +90,7 @@ fn asked_change(from: Whole, given: SettingsGiven) -> Asked
     };
     match given {
         SettingsGiven::Good(settings) => Asked::Changed(Change::To { from, settings }),
-        SettingsGiven::Wrong => Asked::Wrong,
+        SettingsGiven::Wrong => Asked::Wrong, // nothing new
     }
 }
 
@@ -172,12 +172,12 @@ fn changed(loaded: Loaded, change: Change) -> Loaded
         console::say(b"settings: ");
         console::say_refusal(refusal);
         return Loaded {
-            done: false,
+            done: false, // refused
             history,
         };
     }
     Loaded {
-        done: true,
+        done: true, // accepted
         history,
     }
 }
