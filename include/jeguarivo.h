@@ -21,14 +21,17 @@
  *   11  list not strictly rising, or one cell inside another
  *   12  parent at resolution 0, child at 15
  *   13  text longer than 65,536 bytes, read or to be written
- *   14  a question of another arrangement than the text's heading has, or a list with a code of another arrangement than the asked one
- *   15  list outside the profile of version 2: the fewest cells of its ground hold a part of N or S, or one deeper than the asked depth
+ *   14  a question or a cell to add of another arrangement than the text's heading has, or a list with a code of another arrangement than
+ *       the asked one
+ *   15  list, or text with a cell, outside the profile of version 2: the fewest cells of its ground hold a part of N or S, or one deeper than
+ *       the asked depth or the text's
  *   16  a change of settings that was not made from the newest revision
  *   17  a change of settings past revision 65,535
  *   18  a revision of settings that is dropped or not yet made
+ *   19  a face side in metres out of range or not a number, a frame handed in with an edge that is not a number
  *
- * Where several apply, the order is 5, 2, 1, 3, 4, 6, 7, 12, 13, 10, 9, 14, 11, 15, 8, 18, 16, 17; in
- * writing 13 comes after 15. Faces 0 to 5 are N, O, P, Q, R, S; N lies above face n of O to R and S below
+ * Where several apply, the order is 19, 5, 2, 1, 3, 4, 6, 7, 12, 13, 10, 9, 14, 11, 15, 8, 18, 16, 17; in
+ * writing 13 comes after 15; jgv_coverage_add has its own order. Faces 0 to 5 are N, O, P, Q, R, S; N lies above face n of O to R and S below
  * face s, both from 0 to 3.
  *
  * A coverage text is a heading and a body: the mark `CVR`, the version in two bytes (00 01 or 00 02), n and s as digits, at version 2 one
@@ -59,7 +62,11 @@ typedef struct { uint64_t refusal; int64_t longitude, z; } jgv_fix;
 typedef struct { uint64_t refusal; int64_t z; } jgv_z;
 typedef struct { uint64_t refusal, place, version, depth, n, s, cells, size; } jgv_check;
 typedef struct { uint64_t refusal, place, count; } jgv_list;
-typedef struct { uint64_t refusal, place, covered; } jgv_ask;
+typedef struct { uint64_t refusal, place, covered, settled; } jgv_ask;
+typedef struct { uint64_t refusal, place, length; } jgv_add;
+typedef struct { uint64_t refusal, kind; double numbers[4]; } jgv_mark_answer;
+typedef struct { double left, bottom, right, top; } jgv_frame;
+typedef struct { uint64_t refusal; double left, bottom, right, top; } jgv_frame_answer;
 
 /* Settings: an arrangement, the working resolution, and the squared eccentricity, from 0 to 10,000,000,000 in units of 10^-12. */
 typedef struct { uint64_t n, s, resolution, eccentricity; } jgv_settings;
@@ -147,8 +154,32 @@ jgv_list jgv_coverage_list(const uint8_t *text, size_t length, uint64_t *codes, 
 jgv_length jgv_coverage_write(uint64_t version, uint64_t depth, uint64_t n, uint64_t s, const uint64_t *codes, size_t count, uint8_t *text,
                               size_t room);
 
-/* Whether a text covers all finest cells of a cell of its arrangement: 1 or 0. Refusals 4, 13, 10, 9, 14. */
+/* Whether a text covers all finest cells of a cell of its arrangement: 1 or 0; and how many letters and digits of the text settle that: those whose
+ * cells' codes are not above `code`, whole or not, and one more if a later one stands in the text. Any other accepted text with the same heading that has
+ * the same bytes through the last of these, and as many of them, gives the same answer. Refusals 4, 13, 10, 9, 14. */
 jgv_ask jgv_coverage_ask(const uint8_t *text, size_t length, uint64_t code);
+
+/* Adds a cell of its arrangement to the text that the first `length` of `room` bytes are: they become the accepted text of the old ground and
+ * the cell, with the same heading, and its length is answered. In place: one run of bytes is taken out or put in, or, where the cell is
+ * covered, none. The text grows by at most 46 bytes. At version 2 a cell that is not covered is refused with 15 where it is deeper than the
+ * depth or a part of N or S. Refusals 4; 13 and 8 of `length`; 10, 9, 14; 15, 13, 8 of the text with the cell. */
+jgv_add jgv_coverage_add(uint8_t *text, size_t room, uint64_t length, uint64_t code);
+
+/* A mark for the plotter at a point of the plane, in metres: kind 1, `numbers` x, y, 0, 0. Here and in the next three `side` is the face side
+ * in metres, from 1 to 2^30. Each number is the planar number times the side, then divided by 28,697,814, each step rounded once: within one
+ * part in 2^51 of the exact quotient, and 0 for 0. Beside a refusal the kind is 0. Refusals 19, 5, 7. */
+jgv_mark_answer jgv_mark_point(double side, uint64_t n, uint64_t s, int64_t x, int64_t y);
+
+/* A mark for the plotter of a cell, in metres: kind 2, a box; `numbers` left, bottom, right, top, the edges of the cell's square. Refusals 19,
+ * 4. */
+jgv_mark_answer jgv_mark_code(double side, uint64_t code);
+
+/* The first frame: a cell's box, in metres. Refusals 19, 4. */
+jgv_frame_answer jgv_frame_first(double side, uint64_t code);
+
+/* A frame grown to hold the box of a further cell, in metres: each edge becomes the one further out, on a tie the frame's, as -0.0 stays beside
+ * 0.0. An infinite edge is a number. Refusals 19, 4. */
+jgv_frame_answer jgv_frame_grow(double side, jgv_frame frame, uint64_t code);
 
 /* A history whose revision 0 is these settings. It is a value, handed from call to call: each change answers the next one. A history that no such
  * calls made gets some answer. Refusals 5, 2, 6. */

@@ -1,6 +1,8 @@
 //! The entries, of the library and of the plain Rust beside it, and a sum over their answers.
 
-use jeguarivo::{Ask, Cell, Check, Code, Fix, Length, List, Name, Z};
+use jeguarivo::{
+    Ask, Cell, Check, Code, Fix, Frame, FrameAnswer, Length, List, MarkAnswer, Name, Z,
+};
 
 pub type CellCode = extern "C" fn(u64, u64, u64, u64, u64, u64) -> Code;
 pub type CodeCell = extern "C" fn(u64) -> Cell;
@@ -11,6 +13,8 @@ pub type GeodeticZ = extern "C" fn(i64, u64) -> Z;
 pub type GeodeticCode = extern "C" fn(u64, u64, u64, i64, i64, u64) -> Code;
 pub type GroundNucleus = extern "C" fn(u64) -> Fix;
 pub type Neighbour = extern "C" fn(u64, u64) -> Code;
+pub type MarkCode = extern "C" fn(f64, u64) -> MarkAnswer;
+pub type FrameGrow = extern "C" fn(f64, Frame, u64) -> FrameAnswer;
 pub type CoverageCheck = unsafe extern "C" fn(*const u8, usize) -> Check;
 pub type CoverageList = unsafe extern "C" fn(*const u8, usize, *mut u64, usize) -> List;
 pub type CoverageWrite =
@@ -45,5 +49,27 @@ folds! {
     Z { z }
     Check { place, version, depth, n, s, cells, size }
     List { place, count }
-    Ask { place, covered }
+    Ask { place, covered, settled }
+}
+
+/// Doubles by their bits.
+fn fold_metres(sum: u64, metres: [f64; 4]) -> u64 {
+    let add = |sum: u64, metres: &f64| sum.rotate_left(5) ^ metres.to_bits();
+    metres.iter().fold(sum, add)
+}
+
+impl Fold for MarkAnswer {
+    #[inline(always)]
+    fn fold(&self, sum: u64) -> u64 {
+        let sum = sum.rotate_left(5) ^ self.refusal;
+        fold_metres(sum.rotate_left(5) ^ self.kind, self.numbers)
+    }
+}
+
+impl Fold for FrameAnswer {
+    #[inline(always)]
+    fn fold(&self, sum: u64) -> u64 {
+        let sum = sum.rotate_left(5) ^ self.refusal;
+        fold_metres(sum, [self.left, self.bottom, self.right, self.top])
+    }
 }

@@ -8,6 +8,7 @@ mod inputs;
 mod library;
 mod measure;
 mod plain;
+mod plotter;
 mod refusals;
 mod stack;
 mod tables;
@@ -38,6 +39,7 @@ fn main() {
     refusals::run(random, if plan.check { 200_000 } else { 20_000 });
     let mut rows = fixes::run(plan, random);
     rows.extend(codes::run(plan, random));
+    rows.extend(plotter::run(plan, random));
     rows.extend(coverage::run(plan, random));
     rows.extend(flight::run(plan, random));
     let depths = stack::depths(random, plan.check);

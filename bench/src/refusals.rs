@@ -7,10 +7,12 @@ use crate::plain::fixes::{
     fix_code, geodetic_code, geodetic_z, geodetic_z_divided, ground_nucleus,
 };
 use crate::plain::neighbour::neighbour;
+use crate::plain::plotter::{frame_first, frame_grow, mark_code, mark_point};
 use crate::plain::writing::{coverage_write, write, Profile};
 use jeguarivo::{
-    jgv_cell_code, jgv_code_cell, jgv_fix_code, jgv_geodetic_code, jgv_geodetic_z,
-    jgv_ground_nucleus, jgv_neighbour, lent,
+    jgv_cell_code, jgv_code_cell, jgv_fix_code, jgv_frame_first, jgv_frame_grow, jgv_geodetic_code,
+    jgv_geodetic_z, jgv_ground_nucleus, jgv_mark_code, jgv_mark_point, jgv_neighbour, lent, Frame,
+    FrameAnswer, MarkAnswer,
 };
 use std::fmt::Debug;
 
@@ -77,6 +79,7 @@ fn numbers(random: &mut Random) {
         neighbour(code, direction),
     );
     geodetic(random, n, s, k, longitude, z);
+    metres(random, n, s, code);
     edges(random, n, s, k);
     ends(random, n, s, k);
 }
@@ -97,6 +100,61 @@ fn geodetic(random: &mut Random, n: u64, s: u64, k: u64, longitude: i64, z: i64)
         "geodetic fix",
         jgv_geodetic_code(n, s, k, longitude, sine, eccentricity),
         geodetic_code(n, s, k, longitude, sine, eccentricity),
+    );
+}
+
+/// Any number of metres: an end of the range or a double beside it, a number within it, or any double.
+fn any_metres(random: &mut Random) -> f64 {
+    let ends = [1.0, 1_073_741_824.0, 0.0, -0.0, f64::INFINITY, f64::NAN];
+    match random.below(4) {
+        0 => ends[random.below(6) as usize],
+        1 => f64::from_bits(1f64.to_bits() + random.below(3) - 1),
+        2 => random.between(-5_000_000_000, 5_000_000_000) as f64 / 3.0,
+        _ => f64::from_bits(random.word()),
+    }
+}
+
+/// Marks of points in the image and around it, boxes and frames, bit by bit.
+fn metres(random: &mut Random, n: u64, s: u64, code: u64) {
+    let (x, y) = (
+        random.between(-1, 8) * 14_348_907 + random.between(-1, 1),
+        random.between(-4, 4) * 14_348_907 + random.between(-1, 1),
+    );
+    let side = match random.below(4) {
+        0 => any_metres(random),
+        _ => 1.0 + random.below(1 << 40) as f64 / 1024.0,
+    };
+    let [left, bottom, right, top] = [0; 4].map(|_| any_metres(random));
+    let frame = Frame {
+        left,
+        bottom,
+        right,
+        top,
+    };
+    let mark = |of: MarkAnswer| (of.refusal, of.kind, of.numbers.map(f64::to_bits));
+    let edges = |of: FrameAnswer| {
+        let edges = [of.left, of.bottom, of.right, of.top];
+        (of.refusal, edges.map(f64::to_bits))
+    };
+    let library = jgv_mark_point(side, n, s, x, y);
+    same(
+        "mark of a point",
+        mark(library),
+        mark(mark_point(side, n, s, x, y)),
+    );
+    let library = jgv_mark_code(side, code);
+    same("mark of a code", mark(library), mark(mark_code(side, code)));
+    let library = jgv_frame_first(side, code);
+    same(
+        "first frame",
+        edges(library),
+        edges(frame_first(side, code)),
+    );
+    let library = jgv_frame_grow(side, frame, code);
+    same(
+        "frame grown",
+        edges(library),
+        edges(frame_grow(side, frame, code)),
     );
 }
 

@@ -129,6 +129,12 @@ macro_rules! depths {
 fn numbers(inputs: &Inputs) -> Vec<(&'static str, usize)> {
     let (codes, points) = (&inputs.codes, &inputs.points);
     let (mut name, mut corners) = ([0; 16], [0; 4]);
+    let frame = Frame {
+        left: 1e7,
+        bottom: -1.0,
+        right: 2e7,
+        top: 1.0,
+    };
     depths! {
         jgv_cell_code: codes, &code => (code & 3, code >> 2 & 3, code % 7, code >> 12 & 15, code % 20_000_000 / 3, code % 10_000_019);
         jgv_code_cell: codes, &code => (code);
@@ -149,6 +155,10 @@ fn numbers(inputs: &Inputs) -> Vec<(&'static str, usize)> {
         jgv_geodetic_code: points, &(longitude, sine) => (sine as u64 & 3, 0, longitude as u64 & 15, longitude, sine, longitude.unsigned_abs() << 2);
         jgv_ground_nucleus: codes, &code => (code);
         jgv_neighbour: codes, &code => (code, code >> 12 & 3);
+        jgv_mark_point: points, &(x, z) => (1e7, 0, 0, x.abs() % 114_791_256, z % 43_046_721);
+        jgv_mark_code: codes, &code => (1e7, code);
+        jgv_frame_first: codes, &code => (1e7, code);
+        jgv_frame_grow: codes, &code => (1e7, frame, code);
     }
 }
 

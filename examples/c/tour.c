@@ -3,6 +3,7 @@
 #include "jeguarivo.h"
 
 #include <inttypes.h>
+#include <math.h>
 #include <stdio.h>
 #include <stdlib.h>
 #include <string.h>
@@ -236,7 +237,26 @@ static size_t write_text(const char *const *names, size_t count, uint8_t *text, 
 static void print_ask(const uint8_t *text, size_t length, const char *name) {
     jgv_ask answer = jgv_coverage_ask(text, length, code_of(name));
     expect_answer(answer.refusal);
-    printf("coverage_ask: %s, %s -> %s\n", "P(34(1))", name, answer.covered ? "yes" : "no");
+    printf("coverage_ask: %s, %s -> %s, settled by %" PRIu64 "\n", "P(34(1))", name, answer.covered ? "yes" : "no", answer.settled);
+}
+
+/* Adds a cell to a text of version 1 and shows its body before and after; answers its length. */
+static size_t add_cell(uint8_t *text, size_t room, size_t length, const char *name) {
+    printf("coverage_add: %.*s, %s", (int)length - 7, (const char *)text + 7, name);
+    jgv_add added = jgv_coverage_add(text, room, length, code_of(name));
+    expect_answer(added.refusal);
+    printf(" -> %.*s\n", (int)added.length - 7, (const char *)text + 7);
+    return (size_t)added.length;
+}
+
+/* A flight's cells go into its text one by one, in any order; the text is all that there is to keep. */
+static void additions(void) {
+    uint8_t text[64] = {'C', 'V', 'R', 0, 1, '0', '0', 'P', '(', '3', '4', '(', '1', ')', ')'};
+    size_t length = add_cell(text, sizeof text, 15, "P40");
+    length = add_cell(text, sizeof text, length, "P4"); /* the list gives way */
+    length = add_cell(text, sizeof text, length, "P418"); /* covered already */
+    jgv_add other = jgv_coverage_add(text, sizeof text, length, code_at(1, 0, "N6"));
+    printf("coverage_add: P(34), N6, n 1 -> refused with %" PRIu64 "\n", other.refusal);
 }
 
 /* One place flown by two crews, in two arrangements: N8 in the first is N6 in the second. Codes of two arrangements are not taken together. */
@@ -291,6 +311,59 @@ static void handhelds(void) {
     write_handheld(1, two, 2, text, sizeof text); /* P41 lies deeper */
     write_handheld(1, north, 10, text, sizeof text); /* the fewest cells are judged: N0 to N8 are N */
     write_handheld(1, north + 1, 9, text, sizeof text); /* N is not whole */
+}
+
+/* A mark is a point (kind 1) or a box (kind 2), or there is none: shown to a millimetre, or with the refusal. */
+static void print_mark(jgv_mark_answer mark) {
+    const double *is = mark.numbers;
+    if (mark.refusal)
+        printf("refused with %" PRIu64 "\n", mark.refusal);
+    else if (mark.kind == 1)
+        printf("point (%.3f, %.3f)\n", is[0], is[1]);
+    else
+        printf("box left %.3f, bottom %.3f, right %.3f, top %.3f\n", is[0], is[1], is[2], is[3]);
+}
+
+static void print_mark_point(double side, int64_t x, int64_t y) {
+    printf("mark_point: side %.1f, (%" PRId64 ", %" PRId64 ") -> ", side, x, y);
+    print_mark(jgv_mark_point(side, 0, 0, x, y));
+}
+
+static void print_mark_code(double side, uint64_t n, const char *name, const char *shown) {
+    printf("mark_code: side %.1f, %s -> ", side, shown);
+    print_mark(jgv_mark_code(side, code_at(n, 0, name)));
+}
+
+static jgv_frame print_frame(jgv_frame_answer frame) {
+    expect_answer(frame.refusal);
+    printf("left %.3f, bottom %.3f, right %.3f, top %.3f\n", frame.left, frame.bottom, frame.right, frame.top);
+    jgv_frame edges = {frame.left, frame.bottom, frame.right, frame.top};
+    return edges;
+}
+
+static jgv_frame print_frame_grow(double side, jgv_frame frame, const char *name) {
+    printf("frame_grow: side %.1f, and %s -> ", side, name);
+    return print_frame(jgv_frame_grow(side, frame, code_of(name)));
+}
+
+/* The plane in metres, for a plotter: `side` is the face side, from 1 to 2^30. A frame starts as a cell's box and grows to hold further ones. */
+static void plotter(void) {
+    const double side = 10000000.0;
+    print_mark_point(side, 33480783, 9565938);
+    print_mark_point(side, 0, -1);
+    print_mark_point(side, 4 * 28697814, 0);
+    print_mark_code(side, 0, "P0", "P0");
+    print_mark_code(side, 2, "N", "N, n 2");
+    print_mark_code(0.5, 0, "P0", "P0");
+
+    printf("frame_first: side %.1f, P0 -> ", side);
+    jgv_frame frame = print_frame(jgv_frame_first(side, code_of("P0")));
+    frame = print_frame_grow(side, frame, "P8");
+    frame = print_frame_grow(side, frame, "N4");
+    frame = print_frame_grow(side, frame, "P1"); /* lies inside by then */
+    frame.top = NAN;
+    jgv_frame_answer bad = jgv_frame_grow(side, frame, code_of("P1"));
+    printf("frame_grow: side %.1f, a top that is not a number, and P1 -> refused with %" PRIu64 "\n", side, bad.refusal);
 }
 
 /* A text that is not of the grammar is refused with 9; `place` says how much of it some good text begins with. */
@@ -364,8 +437,10 @@ int main(void) {
     neighbours();
     corners();
     coverage();
+    additions();
     two_arrangements();
     handhelds();
+    plotter();
     office();
     return 0;
 }

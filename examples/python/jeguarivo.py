@@ -12,7 +12,7 @@ import ctypes
 import operator
 import os
 import pathlib
-from ctypes import c_char_p, c_int64, c_size_t, c_uint64
+from ctypes import c_char_p, c_double, c_int64, c_size_t, c_uint64
 from typing import Iterable, List, NamedTuple, Optional, Tuple, Union
 
 UP, RIGHT, DOWN, LEFT = range(4)
@@ -39,6 +39,7 @@ REASONS = {
     16: "a change of settings that was not made from the newest revision",
     17: "a change of settings past revision 65,535",
     18: "a revision of settings that is dropped or not yet made",
+    19: "a face side that is not a number from 1 to 2^30, or a frame with an edge that is not a number",
 }
 
 
@@ -85,6 +86,28 @@ class Check(NamedTuple):
     size: int
 
 
+class Ask(NamedTuple):
+    covered: bool
+    settled: int
+
+
+class PointInMetres(NamedTuple):
+    x: float
+    y: float
+
+
+class Frame(NamedTuple):
+    """Four edges in metres: a cell's box, or a frame around several."""
+
+    left: float
+    bottom: float
+    right: float
+    top: float
+
+
+Mark = Union[PointInMetres, Frame]  # what the plotter draws
+
+
 class Settings(NamedTuple):
     """An arrangement, the working resolution and the squared eccentricity."""
 
@@ -113,7 +136,17 @@ _Fix = _struct("jgv_fix", c_int64, "longitude", "z")
 _Z = _struct("jgv_z", c_int64, "z")
 _Check = _struct("jgv_check", c_uint64, "place", "version", "depth", "n", "s", "cells", "size")
 _List = _struct("jgv_list", c_uint64, "place", "count")
-_Ask = _struct("jgv_ask", c_uint64, "place", "covered")
+_Ask = _struct("jgv_ask", c_uint64, "place", "covered", "settled")
+_Add = _struct("jgv_add", c_uint64, "place", "length")
+_FrameAnswer = _struct("jgv_frame_answer", c_double, *Frame._fields)
+
+
+class _MarkAnswer(ctypes.Structure):
+    _fields_ = [("refusal", c_uint64), ("kind", c_uint64), ("numbers", c_double * 4)]
+
+
+class _Frame(ctypes.Structure):
+    _fields_ = [(edge, c_double) for edge in Frame._fields]
 
 
 class _Settings(ctypes.Structure):
@@ -193,6 +226,11 @@ _coverage_check = _entry("jgv_coverage_check", _Check, _BYTES, c_size_t)
 _coverage_list = _entry("jgv_coverage_list", _List, _BYTES, c_size_t, _CODES, c_size_t)
 _coverage_write = _entry("jgv_coverage_write", _Length, _U64, _U64, _U64, _U64, _CODES, c_size_t, _ROOM, c_size_t)
 _coverage_ask = _entry("jgv_coverage_ask", _Ask, _BYTES, c_size_t, _U64)
+_coverage_add = _entry("jgv_coverage_add", _Add, _ROOM, c_size_t, _U64, _U64)
+_mark_point = _entry("jgv_mark_point", _MarkAnswer, c_double, _U64, _U64, _I64, _I64)
+_mark_code = _entry("jgv_mark_code", _MarkAnswer, c_double, _U64)
+_frame_first = _entry("jgv_frame_first", _FrameAnswer, c_double, _U64)
+_frame_grow = _entry("jgv_frame_grow", _FrameAnswer, c_double, _Frame, _U64)
 _settings_fresh = _entry("jgv_settings_fresh", _HistoryAnswer, _U64, _U64, _U64, _U64)
 _settings_change = _entry("jgv_settings_change", _HistoryAnswer, History, _U64, _U64, _U64, _U64, _U64)
 _settings_back = _entry("jgv_settings_back", _HistoryAnswer, History, _U64, _U64)
@@ -324,9 +362,47 @@ def coverage_write(n: int, s: int, codes: Iterable[int], depth: Optional[int] = 
     return room.raw[:length]
 
 
-def coverage_ask(text: bytes, code: int) -> bool:
-    """Whether a text covers all finest cells of a cell of its arrangement."""
-    return _coverage_ask(text, len(text), code).covered == 1
+def coverage_ask(text: bytes, code: int) -> Ask:
+    """Whether a text covers all finest cells of a cell of its arrangement, and how many letters and digits of the text settle that."""
+    got = _coverage_ask(text, len(text), code)
+    return Ask(got.covered == 1, got.settled)
+
+
+def coverage_add(text: bytes, code: int) -> bytes:
+    """The text with one cell of its arrangement more. It is at most 46 bytes longer."""
+    size = len(text) + 46
+    room = ctypes.create_string_buffer(text, size)
+    length = _coverage_add(room, size, len(text), code).length
+    return room.raw[:length]
+
+
+def _mark(got) -> Mark:
+    """Kind 1 is a point, 2 a box."""
+    return PointInMetres(*got.numbers[:2]) if got.kind == 1 else Frame(*got.numbers)
+
+
+def _frame(got) -> Frame:
+    return Frame(got.left, got.bottom, got.right, got.top)
+
+
+def mark_point(side: float, n: int, s: int, x: int, y: int) -> Mark:
+    """A mark for the plotter at a point of the plane, in metres. Here and below `side` is the face side in metres, from 1 to 2^30."""
+    return _mark(_mark_point(side, n, s, x, y))
+
+
+def mark_code(side: float, code: int) -> Mark:
+    """A mark for the plotter of a cell, in metres: its box."""
+    return _mark(_mark_code(side, code))
+
+
+def frame_first(side: float, code: int) -> Frame:
+    """The first frame: a cell's box."""
+    return _frame(_frame_first(side, code))
+
+
+def frame_grow(side: float, frame: Frame, code: int) -> Frame:
+    """A frame grown to hold the box of a further cell."""
+    return _frame(_frame_grow(side, _Frame(*frame), code))
 
 
 def settings_fresh(settings: Settings) -> History:

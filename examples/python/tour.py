@@ -138,8 +138,8 @@ def coverage():
     print_check(text)
     print("coverage_list: P(34(1)) ->", *map(code_name, jgv.coverage_list(text)))
     for name in ("P3", "P41", "P418", "P4"):  # P4 is covered in part only: no
-        covered = jgv.coverage_ask(text, code_of(name))
-        print(f"coverage_ask: P(34(1)), {name} -> {'yes' if covered else 'no'}")
+        asked = jgv.coverage_ask(text, code_of(name))
+        print(f"coverage_ask: P(34(1)), {name} -> {'yes' if asked.covered else 'no'}, settled by {asked.settled}")
 
     # A text that is not of the grammar is refused with 9; `place` says how much of it some good text begins with.
     for body in ("O()", "O(012345678)"):
@@ -147,6 +147,15 @@ def coverage():
             print(f"coverage_check: {body} -> {jgv.coverage_check(b'CVR' + bytes([0, 1]) + b'00' + body.encode())}")
         except jgv.Refused as refused:
             print(f"coverage_check: {body} -> refused with {refused.number} at place {refused.place}")
+
+
+def additions():
+    """A flight's cells go into its text one by one, in any order; the text is all that there is to keep."""
+    text = jgv.coverage_write(0, 0, map(code_of, ["P3", "P41"]))
+    for name in ("P40", "P4", "P418"):  # the second one's list gives way, and the third one is covered
+        before, text = text, jgv.coverage_add(text, code_of(name))
+        print(f"coverage_add: {before[7:].decode()}, {name} -> {text[7:].decode()}")
+    print(f"coverage_add: P(34), N6, n 1 -> {refusal(jgv.coverage_add, text, code_of('N6', 1, 0))}")
 
 
 def refusal(call, *values):
@@ -188,6 +197,37 @@ def handhelds():
     write_handheld(1, north[1:])  # N is not whole
 
 
+def edges(frame):
+    """The edges as the tour shows them, to a millimetre."""
+    return f"left {frame.left:.3f}, bottom {frame.bottom:.3f}, right {frame.right:.3f}, top {frame.top:.3f}"
+
+
+def marked(call, *values):
+    """A mark as the tour shows it: a point, a box, or the refusal."""
+    try:
+        mark = call(*values)
+    except jgv.Refused as refused:
+        return f"refused with {refused.number}"
+    return f"point ({mark.x:.3f}, {mark.y:.3f})" if isinstance(mark, jgv.PointInMetres) else f"box {edges(mark)}"
+
+
+def plotter():
+    """The plane in metres, for a plotter: `side` is the face side, from 1 to 2^30. A frame starts as a cell's box and grows to hold further ones."""
+    side = 10_000_000.0
+    for x, y in ((33_480_783, 9_565_938), (0, -1), (4 * 28_697_814, 0)):
+        print(f"mark_point: side {side:.1f}, ({x}, {y}) -> {marked(jgv.mark_point, side, 0, 0, x, y)}")
+    for given, n, name, shown in ((side, 0, "P0", "P0"), (side, 2, "N", "N, n 2"), (0.5, 0, "P0", "P0")):
+        print(f"mark_code: side {given:.1f}, {shown} -> {marked(jgv.mark_code, given, code_of(name, n, 0))}")
+
+    frame = jgv.frame_first(side, code_of("P0"))
+    print(f"frame_first: side {side:.1f}, P0 -> {edges(frame)}")
+    for name in ("P8", "N4", "P1"):
+        frame = jgv.frame_grow(side, frame, code_of(name))  # P1 lies inside by then
+        print(f"frame_grow: side {side:.1f}, and {name} -> {edges(frame)}")
+    bad = frame._replace(top=float("nan"))
+    print(f"frame_grow: side {side:.1f}, a top that is not a number, and P1 -> {refusal(jgv.frame_grow, side, bad, code_of('P1'))}")
+
+
 def office():
     """A history is a value, handed from call to call: each change answers the next one, and a refused change leaves the one at hand."""
     history = jgv.settings_fresh(jgv.Settings(0, 0, 9, jgv.WGS84))
@@ -207,5 +247,5 @@ def office():
 
 
 if __name__ == "__main__":
-    for part in (codes_and_names, families, shapes, plane, ground, neighbours, corners, coverage, two_arrangements, handhelds, office):
+    for part in (codes_and_names, families, shapes, plane, ground, neighbours, corners, coverage, additions, two_arrangements, handhelds, plotter, office):
         part()

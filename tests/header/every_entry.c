@@ -5,6 +5,7 @@
 #include "jeguarivo.h"
 
 #include <inttypes.h>
+#include <math.h>
 #include <stdio.h>
 #include <string.h>
 
@@ -18,6 +19,7 @@
 #define FIELD(type, field, offset) ASSERT(offsetof(type, field) == (offset) && sizeof(((type *)0)->field) == 8)
 #define UNSIGNED(type, field, offset) FIELD(type, field, offset); ASSERT((KIND(type, field))-1 > 0)
 #define SIGNED(type, field, offset) FIELD(type, field, offset); ASSERT(!((KIND(type, field))-1 > 0))
+#define DOUBLE(type, field, offset) FIELD(type, field, offset); ASSERT(__builtin_classify_type(((type *)0)->field) == __builtin_classify_type(0.0))
 #define ANSWER(type, size) ASSERT(sizeof(type) == (size)); UNSIGNED(type, refusal, 0)
 
 ANSWER(jgv_code, 16); UNSIGNED(jgv_code, code, 8);
@@ -37,7 +39,12 @@ ANSWER(jgv_z, 16); SIGNED(jgv_z, z, 8);
 ANSWER(jgv_check, 64); UNSIGNED(jgv_check, place, 8); UNSIGNED(jgv_check, version, 16); UNSIGNED(jgv_check, depth, 24);
 UNSIGNED(jgv_check, n, 32); UNSIGNED(jgv_check, s, 40); UNSIGNED(jgv_check, cells, 48); UNSIGNED(jgv_check, size, 56);
 ANSWER(jgv_list, 24); UNSIGNED(jgv_list, place, 8); UNSIGNED(jgv_list, count, 16);
-ANSWER(jgv_ask, 24); UNSIGNED(jgv_ask, place, 8); UNSIGNED(jgv_ask, covered, 16);
+ANSWER(jgv_ask, 32); UNSIGNED(jgv_ask, place, 8); UNSIGNED(jgv_ask, covered, 16); UNSIGNED(jgv_ask, settled, 24);
+ANSWER(jgv_add, 24); UNSIGNED(jgv_add, place, 8); UNSIGNED(jgv_add, length, 16);
+ANSWER(jgv_mark_answer, 48); UNSIGNED(jgv_mark_answer, kind, 8); DOUBLE(jgv_mark_answer, numbers[0], 16); DOUBLE(jgv_mark_answer, numbers[3], 40);
+ASSERT(sizeof(jgv_frame) == 32); DOUBLE(jgv_frame, left, 0); DOUBLE(jgv_frame, bottom, 8); DOUBLE(jgv_frame, right, 16); DOUBLE(jgv_frame, top, 24);
+ANSWER(jgv_frame_answer, 40); DOUBLE(jgv_frame_answer, left, 8); DOUBLE(jgv_frame_answer, bottom, 16); DOUBLE(jgv_frame_answer, right, 24);
+DOUBLE(jgv_frame_answer, top, 32);
 
 /* Counting checks. */
 static unsigned long passed, failed;
@@ -51,7 +58,21 @@ static void check(uint64_t got, uint64_t want, const char *what, int line) {
     }
 }
 
+/* The same double, bit by bit: -0.0 is not 0.0. */
+static void check_metres(double got, double want, const char *what, int line) {
+    uint64_t got_bits, want_bits;
+    memcpy(&got_bits, &got, 8);
+    memcpy(&want_bits, &want, 8);
+    if (got_bits == want_bits) {
+        passed++;
+    } else {
+        failed++;
+        printf("every_entry.c:%d: %s is %.17g, not %.17g\n", line, what, got, want);
+    }
+}
+
 #define CHECK(got, want, what) check((uint64_t)(got), (uint64_t)(want), what, __LINE__)
+#define CHECK_METRES(got, want, what) check_metres(got, want, what, __LINE__)
 #define CHECK_ONE(type, field, call, want_refusal, want)                      \
     do {                                                                      \
         type got = (call);                                                    \
@@ -856,12 +877,13 @@ static void coverage_write(void) {
     CHECK_ONE(jgv_length, length, jgv_coverage_write(1, 15, 0, 0, &many[0], 1, NULL, 0), 8, 0);
 }
 
-#define ASK(call, want_refusal, want_place, want_covered)      \
-    do {                                                       \
-        jgv_ask got = (call);                                  \
-        CHECK(got.refusal, want_refusal, #call ": refusal");   \
-        CHECK(got.place, want_place, #call ": place");         \
-        CHECK(got.covered, want_covered, #call ": covered");   \
+#define ASK(call, want_refusal, want_place, want_covered, want_settled) \
+    do {                                                                \
+        jgv_ask got = (call);                                           \
+        CHECK(got.refusal, want_refusal, #call ": refusal");            \
+        CHECK(got.place, want_place, #call ": place");                  \
+        CHECK(got.covered, want_covered, #call ": covered");            \
+        CHECK(got.settled, want_settled, #call ": settled");            \
     } while (0)
 
 static jgv_ask asked(const uint8_t *text, size_t length, uint64_t of) {
@@ -873,35 +895,103 @@ static jgv_ask asked(const uint8_t *text, size_t length, uint64_t of) {
 }
 
 static void coverage_ask(void) {
-    ASK(asked(TEXT(HEAD "P(34(1))"), code("P3")), 0, 0, 1);
-    ASK(asked(TEXT(HEAD "P(34(1))"), code("P41")), 0, 0, 1);
-    ASK(asked(TEXT(HEAD "P(34(1))"), code("P418")), 0, 0, 1);
-    ASK(asked(TEXT(HEAD "P(34(1))"), code("P4")), 0, 0, 0); /* covered in part */
-    ASK(asked(TEXT(HEAD "P(34(1))"), code("P")), 0, 0, 0);
-    ASK(asked(TEXT(HEAD "P(34(1))"), code("P40")), 0, 0, 0);
-    ASK(asked(TEXT(HEAD), 0), 0, 0, 0);
-    ASK(asked(TEXT("CVR\0\1" "33" "NS"), GREATEST), 0, 0, 1);
-    ASK(asked(TEXT("CVR\0\1" "32" "P(34(1))"), code_at(3, 2, "P418")), 0, 0, 1);
-    ASK(asked(TEXT("CVR\0\1" "32" "P(34(1))"), code_at(3, 2, "P4")), 0, 0, 0); /* the order is 4, 13, 10, 9, 14 */
-    ASK(asked(TEXT(HEAD "O()"), no_code), 4, 0, 0);
-    ASK(asked(TEXT(HEAD "P"), code("P") + WIDE), 4, 0, 0);
-    ASK(jgv_coverage_ask(long_text, LONGEST + 1, no_code), 4, 0, 0);
-    ASK(jgv_coverage_ask(long_text, LONGEST + 1, code_at(1, 0, "P")), 13, 0, 0);
-    ASK(asked(TEXT("CVR\0\3" "00P"), code_at(1, 0, "P")), 10, 0, 0);
-    ASK(asked(TEXT("CVR\0\2" "00P"), code_at(1, 0, "P")), 9, 7, 0); /* version 2 without its letter */
-    ASK(asked(TEXT(HEAD_2 "c" "NP(34(1))"), code("P418")), 0, 0, 1);
-    ASK(asked(TEXT(HEAD_2 "c" "NP(34(1))"), code("N8")), 0, 0, 1);
-    ASK(asked(TEXT(HEAD_2 "c" "NP(34(1))"), code("P4")), 0, 0, 0);
-    ASK(asked(TEXT(HEAD_2 "b" "NP(34(1))"), code("P4")), 9, 13, 0);
-    ASK(asked(TEXT("CVR\0\2" "12p" "P"), code_at(2, 1, "P")), 14, 0, 0); /* 14 compares n and s */
-    ASK(asked(TEXT(HEAD "O()"), code_at(1, 0, "P")), 9, 9, 0);
-    ASK(asked(TEXT(HEAD "O(012345678)"), code("P")), 9, 18, 0);
-    ASK(asked(TEXT(HEAD "P"), code_at(1, 0, "P")), 14, 0, 0);
-    ASK(asked(TEXT(HEAD "P"), code_at(0, 1, "P")), 14, 0, 0);
-    ASK(asked(TEXT("CVR\0\1" "12" "P"), code_at(2, 1, "P")), 14, 0, 0);
+    ASK(asked(TEXT(HEAD "P(34(1))"), code("P3")), 0, 0, 1, 3);
+    ASK(asked(TEXT(HEAD "P(34(1))"), code("P41")), 0, 0, 1, 4);
+    ASK(asked(TEXT(HEAD "P(34(1))"), code("P418")), 0, 0, 1, 4);
+    ASK(asked(TEXT(HEAD "P(34(1))"), code("P4")), 0, 0, 0, 4); /* covered in part */
+    ASK(asked(TEXT(HEAD "P(34(1))"), code("P")), 0, 0, 0, 2);
+    ASK(asked(TEXT(HEAD "P(34(1))"), code("P40")), 0, 0, 0, 4);
+    ASK(asked(TEXT(HEAD), 0), 0, 0, 0, 0);
+    ASK(asked(TEXT("CVR\0\1" "33" "NS"), GREATEST), 0, 0, 1, 2);
+    ASK(asked(TEXT("CVR\0\1" "32" "P(34(1))"), code_at(3, 2, "P418")), 0, 0, 1, 4);
+    ASK(asked(TEXT("CVR\0\1" "32" "P(34(1))"), code_at(3, 2, "P4")), 0, 0, 0, 4); /* the order is 4, 13, 10, 9, 14 */
+    ASK(asked(TEXT(HEAD "O()"), no_code), 4, 0, 0, 0);
+    ASK(asked(TEXT(HEAD "P"), code("P") + WIDE), 4, 0, 0, 0);
+    ASK(jgv_coverage_ask(long_text, LONGEST + 1, no_code), 4, 0, 0, 0);
+    ASK(jgv_coverage_ask(long_text, LONGEST + 1, code_at(1, 0, "P")), 13, 0, 0, 0);
+    ASK(asked(TEXT("CVR\0\3" "00P"), code_at(1, 0, "P")), 10, 0, 0, 0);
+    ASK(asked(TEXT("CVR\0\2" "00P"), code_at(1, 0, "P")), 9, 7, 0, 0); /* version 2 without its letter */
+    ASK(asked(TEXT(HEAD_2 "c" "NP(34(1))"), code("P418")), 0, 0, 1, 5);
+    ASK(asked(TEXT(HEAD_2 "c" "NP(34(1))"), code("N8")), 0, 0, 1, 2);
+    ASK(asked(TEXT(HEAD_2 "c" "NP(34(1))"), code("P4")), 0, 0, 0, 5);
+    ASK(asked(TEXT(HEAD_2 "b" "NP(34(1))"), code("P4")), 9, 13, 0, 0);
+    ASK(asked(TEXT("CVR\0\2" "12p" "P"), code_at(2, 1, "P")), 14, 0, 0, 0); /* 14 compares n and s */
+    ASK(asked(TEXT(HEAD "O()"), code_at(1, 0, "P")), 9, 9, 0, 0);
+    ASK(asked(TEXT(HEAD "O(012345678)"), code("P")), 9, 18, 0, 0);
+    ASK(asked(TEXT(HEAD "P"), code_at(1, 0, "P")), 14, 0, 0, 0);
+    ASK(asked(TEXT(HEAD "P"), code_at(0, 1, "P")), 14, 0, 0, 0);
+    ASK(asked(TEXT("CVR\0\1" "12" "P"), code_at(2, 1, "P")), 14, 0, 0, 0);
     for (uint64_t both = 0; both < 16; both++)
-        ASK(asked(TEXT("CVR\0\1" "12" "P"), code_at(both / 4, both % 4, "P3")), both == 6 ? 0 : 14, 0, both == 6);
-    ASK(jgv_coverage_ask(NULL, 0, code("P")), 9, 0, 0);
+        ASK(asked(TEXT("CVR\0\1" "12" "P"), code_at(both / 4, both % 4, "P3")), both == 6 ? 0 : 14, 0, both == 6, both == 6);
+    ASK(jgv_coverage_ask(NULL, 0, code("P")), 9, 0, 0, 0);
+}
+
+/* Lends the text in a room and adds a code; behind the text, or with a refusal everywhere, the bytes have to stay as they are. */
+static void adds(const uint8_t *text, size_t length, uint64_t of, const uint8_t *then, size_t longer) {
+    for (size_t spare = 0; spare <= 1; spare++) {
+        memcpy(lend(), text, length);
+        jgv_add got = jgv_coverage_add(lent + GUARD, spare ? (size_t)ROOM : (longer > length ? longer : length), length, of);
+        CHECK(got.refusal, 0, "jgv_coverage_add: refusal");
+        CHECK(got.place, 0, "jgv_coverage_add: place");
+        CHECK(got.length, longer, "jgv_coverage_add: length");
+        CHECK(memcmp(lent + GUARD, then, longer), 0, "jgv_coverage_add: the text");
+        if (longer < length) /* what stood behind the new end stays */
+            CHECK(memcmp(lent + GUARD + longer, text + longer, length - longer), 0, "jgv_coverage_add: bytes behind the text");
+        CHECK(strays(longer > length ? longer : length), 0, "jgv_coverage_add: bytes about the text");
+    }
+}
+
+static void adds_nothing(const uint8_t *text, size_t lends, size_t room, uint64_t length, uint64_t of, uint64_t refusal, uint64_t place) {
+    memcpy(lend(), text, lends);
+    jgv_add got = jgv_coverage_add(lent + GUARD, room, length, of);
+    CHECK(got.refusal, refusal, "jgv_coverage_add: refusal");
+    CHECK(got.place, place, "jgv_coverage_add: place");
+    CHECK(got.length, 0, "jgv_coverage_add: length");
+    CHECK(memcmp(lent + GUARD, text, lends), 0, "jgv_coverage_add: the text afterwards");
+    CHECK(strays(lends), 0, "jgv_coverage_add: bytes about the text");
+}
+
+/* The same of a text with all its bytes lent, and no room behind it. */
+static void adds_none(const uint8_t *text, size_t length, uint64_t of, uint64_t refusal, uint64_t place) {
+    adds_nothing(text, length, length, length, of, refusal, place);
+}
+
+static void coverage_add(void) {
+    adds(TEXT(HEAD), code("P3"), TEXT(HEAD "P(3)"));
+    adds(TEXT(HEAD "P(3)"), code("P41"), TEXT(HEAD "P(34(1))"));
+    adds(TEXT(HEAD "P(34(1))"), code("P40"), TEXT(HEAD "P(34(01))"));
+    adds(TEXT(HEAD "P(34(1))"), code("P4"), TEXT(HEAD "P(34)")); /* a list gives way */
+    adds(TEXT(HEAD "P(34(1))"), code("P3"), TEXT(HEAD "P(34(1))")); /* covered */
+    adds(TEXT(HEAD "P(34(1))"), code("P"), TEXT(HEAD "P"));
+    adds(TEXT(HEAD "P(01234567)"), code("P8"), TEXT(HEAD "P")); /* nine whole siblings are their parent */
+    adds(TEXT(HEAD "P(01234(01235678)5678)R"), code("P44"), TEXT(HEAD "PR")); /* and so on upwards */
+    adds(TEXT(HEAD "OPQRS"), code("N"), TEXT(HEAD "NOPQRS")); /* six faces do not merge */
+    adds(TEXT("CVR\0\1" "33"), GREATEST, TEXT("CVR\0\1" "33S(8(8(8(8(8(8(8(8(8(8(8(8(8(8(8)))))))))))))))")); /* 46 bytes */
+    adds(TEXT(HEAD_2 "b" "P(3)"), code("P4"), TEXT(HEAD_2 "b" "P(34)"));
+    adds(TEXT(HEAD_2 "b" "P(3)"), code("P31"), TEXT(HEAD_2 "b" "P(3)")); /* too deep, but covered */
+    adds(TEXT(HEAD_2 "b" "NP(3)"), code("N8"), TEXT(HEAD_2 "b" "NP(3)"));
+    adds(TEXT(HEAD_2 "a" "P"), code("N"), TEXT(HEAD_2 "a" "NP"));
+    /* the order is 4, 13, 8, 10, 9, 14, 15, 13, 8 */
+    adds_none(TEXT(HEAD "O()"), no_code, 4, 0);
+    adds_none(TEXT(HEAD "P"), code("P") + WIDE, 4, 0);
+    adds_nothing(TEXT(HEAD "O()"), 10, LONGEST + 1, code_at(1, 0, "P"), 13, 0);
+    adds_nothing(TEXT(HEAD "O()"), 10, UINT64_MAX, code_at(1, 0, "P"), 13, 0);
+    adds_nothing(TEXT(HEAD "O()"), 10, WIDE + 10, code_at(1, 0, "P"), 13, 0);
+    adds_nothing(TEXT(HEAD "O()"), 9, 10, code_at(1, 0, "P"), 8, 0); /* not all lent */
+    adds_nothing(TEXT(HEAD "O()"), 0, LONGEST, code_at(1, 0, "P"), 8, 0);
+    adds_none(TEXT("CVR\0\3" "00O()"), code_at(1, 0, "P"), 10, 0);
+    adds_none(TEXT(HEAD "O()"), code_at(1, 0, "P"), 9, 9);
+    adds_none(TEXT(HEAD_2 "a" "N(0)"), code_at(1, 0, "N1"), 9, 9);
+    adds_nothing(TEXT(HEAD "P(34(1))"), ROOM, 14, code("P"), 9, 14); /* the last bracket is not of it */
+    adds_none(TEXT(HEAD_2 "a" "P"), code_at(1, 0, "N1"), 14, 0);
+    adds_none(TEXT(HEAD_2 "a" "P"), code("N1"), 15, 0);
+    adds_none(TEXT(HEAD_2 "p" "P"), code("S8"), 15, 0);
+    adds_none(TEXT(HEAD_2 "b" "P(3)"), code("P41"), 15, 0);
+    adds_none(TEXT(HEAD "P(3)"), code("P41"), 8, 0); /* four bytes short */
+    adds_nothing(TEXT(HEAD "P(3)"), 14, 11, code("P41"), 8, 0); /* one byte short */
+    adds_nothing(TEXT(HEAD "P(3)"), 0, 0, code("P41"), 9, 0);
+    jgv_add none = jgv_coverage_add(NULL, 0, 0, code("P"));
+    CHECK(none.refusal, 9, "jgv_coverage_add of no memory: refusal");
 }
 
 /* Finest cells of N without the last child of any: nothing merges, each eight take eleven bytes and more, `d(01234567)`. */
@@ -924,6 +1014,139 @@ static void long_lists(void) {
     CHECK(list.refusal, 0, "a long text listed: refusal");
     CHECK(list.count, MANY, "a long text listed: count");
     CHECK(memcmp(listed, many, MANY * sizeof *many), 0, "a long text listed: codes");
+}
+
+#define MARK(call, want_refusal, want_kind, a, b, c, d)          \
+    do {                                                          \
+        jgv_mark_answer got = (call);                             \
+        CHECK(got.refusal, want_refusal, #call ": refusal");      \
+        CHECK(got.kind, want_kind, #call ": kind");               \
+        CHECK_METRES(got.numbers[0], a, #call ": numbers[0]");    \
+        CHECK_METRES(got.numbers[1], b, #call ": numbers[1]");    \
+        CHECK_METRES(got.numbers[2], c, #call ": numbers[2]");    \
+        CHECK_METRES(got.numbers[3], d, #call ": numbers[3]");    \
+    } while (0)
+#define AT(call, x, y) MARK(call, 0, 1, x, y, 0.0, 0.0)
+#define BOX(call, left, bottom, right, top) MARK(call, 0, 2, left, bottom, right, top)
+#define NO_MARK(call, number) MARK(call, number, 0, 0.0, 0.0, 0.0, 0.0)
+#define FRAME(call, want_refusal, want_left, want_bottom, want_right, want_top) \
+    do {                                                          \
+        jgv_frame_answer got = (call);                            \
+        CHECK(got.refusal, want_refusal, #call ": refusal");      \
+        CHECK_METRES(got.left, want_left, #call ": left");        \
+        CHECK_METRES(got.bottom, want_bottom, #call ": bottom");  \
+        CHECK_METRES(got.right, want_right, #call ": right");     \
+        CHECK_METRES(got.top, want_top, #call ": top");           \
+    } while (0)
+#define NO_FRAME(call, number) FRAME(call, number, 0.0, 0.0, 0.0, 0.0)
+#define TO_30 1073741824.0 /* 2^30 */
+static const double no_sides[] = {0.9999999999999999, 1073741824.0000002, 0.0, -0.0, -1.0, -TO_30, 5e-324, 2147483648.0,
+                                  1.7976931348623157e308, INFINITY, -INFINITY, NAN, -NAN};
+enum { NO_SIDES = sizeof no_sides / sizeof *no_sides };
+
+/* 02: "each planar number becomes itself times the side, then divided by M, each step rounded once". Each double here comes from the exact product
+ * and the exact quotient, as fractions, each made the nearest double; with 1000.1, dividing first, or rounding but once, gives others. */
+static void mark_point(void) {
+    AT(jgv_mark_point(1000.1, 0, 0, 0, 0), 0.0, 0.0); /* 02: "zero for zero" */
+    AT(jgv_mark_point(1000.1, 0, 0, 1, -1), 3.4849344274096974e-05, -3.4849344274096974e-05);
+    AT(jgv_mark_point(1000.1, 3, 2, 33480783, 9565938), 1166.7833333333333, 333.36666666666673); /* the middle of P0 */
+    AT(jgv_mark_point(1000.1, 0, 0, 4 * SIDE - 1, SIDE / 2), 4000.3999651506556, 500.05);
+    AT(jgv_mark_point(1000.1, 0, 0, 4 * SIDE - 1, -SIDE / 2), 4000.3999651506556, -500.05);
+    AT(jgv_mark_point(10007557.176, 2, 0, 2 * SIDE + 1, 3 * (SIDE / 2) - 1), 20015114.700721934, 15011335.415278068); /* in N above Q */
+    AT(jgv_mark_point(10007557.176, 0, 0, 7, -13), 2.441053532230713, -4.53338513128561);
+    AT(jgv_mark_point(1.0, 0, 0, 33480783, 9565938), 1.1666666666666667, 0.3333333333333333);
+    AT(jgv_mark_point(1.0000000000000002, 0, 0, 33480783, 9565938), 1.166666666666667, 0.3333333333333334);
+    AT(jgv_mark_point(TO_30, 0, 0, 1, -1), 37.4154569403788, -37.4154569403788);
+    NO_MARK(jgv_mark_point(1000.1, 0, 0, 4 * SIDE, 0), 7);
+    NO_MARK(jgv_mark_point(1000.1, 0, 0, -1, 0), 7);
+    NO_MARK(jgv_mark_point(1000.1, 0, 0, 2 * SIDE + 1, 3 * (SIDE / 2) - 1), 7); /* above Q, with N above O */
+    NO_MARK(jgv_mark_point(1000.1, 0, 0, (int64_t)WIDE, 0), 7);
+    NO_MARK(jgv_mark_point(1000.1, 0, 0, 0, INT64_MIN), 7);
+    NO_MARK(jgv_mark_point(1000.1, 4, 0, 0, 0), 5);
+    NO_MARK(jgv_mark_point(1000.1, 0, 4, 0, 0), 5);
+    NO_MARK(jgv_mark_point(1000.1, WIDE, 0, 0, 0), 5);
+    NO_MARK(jgv_mark_point(1000.1, 0, WIDE, 0, 0), 5);
+    NO_MARK(jgv_mark_point(1000.1, 4, 0, -1, 0), 5); /* the order is 19, 5, 7 */
+    for (size_t i = 0; i < NO_SIDES; i++) {
+        NO_MARK(jgv_mark_point(no_sides[i], 0, 0, 0, 0), 19);
+        NO_MARK(jgv_mark_point(no_sides[i], 4, 4, -1, 0), 19);
+    }
+}
+
+static void mark_code(void) {
+    BOX(jgv_mark_code(1000.1, code("P0")), 1000.1, 166.68333333333337, 1333.466666666667, 500.05);
+    BOX(jgv_mark_code(1000.1, code_at(2, 0, "N4")), 2333.5666666666666, 833.4166666666666, 2666.933333333334, 1166.7833333333333);
+    BOX(jgv_mark_code(1000.1, code_at(0, 1, "S8")), 1666.8333333333333, -1500.1499999999999, 2000.2, -1166.7833333333333);
+    BOX(jgv_mark_code(1000.1, code("O")), 0.0, -500.05, 1000.1, 500.05);
+    BOX(jgv_mark_code(10007557.176, code_at(3, 0, "N")), 30022671.528000005, 5003778.588, 40030228.704, 15011335.764000002);
+    BOX(jgv_mark_code(10007557.176, GREATEST), 40030228.00655614, -15011335.764000002, 40030228.704, -15011335.066556135);
+    BOX(jgv_mark_code(1.0, code("R5")), 3.6666666666666665, -0.16666666666666666, 4.0, 0.16666666666666666);
+    BOX(jgv_mark_code(TO_30, code("P0")), TO_30, 178956970.66666666, 1431655765.3333333, 536870912.0);
+    NO_MARK(jgv_mark_code(1000.1, no_code), 4);
+    NO_MARK(jgv_mark_code(1000.1, code("O") + WIDE), 4);
+    for (size_t i = 0; i < NO_SIDES; i++) {
+        NO_MARK(jgv_mark_code(no_sides[i], code("P0")), 19);
+        NO_MARK(jgv_mark_code(no_sides[i], no_code), 19); /* before 4 */
+    }
+}
+
+/* 02: "The first frame is a cell's box." */
+static void frame_first(void) {
+    FRAME(jgv_frame_first(1000.1, code("P0")), 0, 1000.1, 166.68333333333337, 1333.466666666667, 500.05);
+    FRAME(jgv_frame_first(10007557.176, code_at(2, 0, "N4")), 0, 23350966.744, 8339630.980000001, 26686819.136, 11675483.372);
+    FRAME(jgv_frame_first(1.0, code_at(0, 1, "S8")), 0, 1.6666666666666667, -1.5, 2.0, -1.1666666666666667);
+    FRAME(jgv_frame_first(TO_30, GREATEST), 0, 4294967221.169086, -1610612736.0, 4294967296.0, -1610612661.1690862);
+    NO_FRAME(jgv_frame_first(1000.1, no_code), 4);
+    NO_FRAME(jgv_frame_first(1000.1, code("O") + WIDE), 4);
+    for (size_t i = 0; i < NO_SIDES; i++) {
+        NO_FRAME(jgv_frame_first(no_sides[i], code("P0")), 19);
+        NO_FRAME(jgv_frame_first(no_sides[i], no_code), 19);
+    }
+}
+
+static jgv_frame edges(double left, double bottom, double right, double top) {
+    jgv_frame frame = {left, bottom, right, top};
+    return frame;
+}
+
+/* A double with these bits; all ones behind the sign are no number. */
+static double of_bits(uint64_t bits) {
+    double value;
+    memcpy(&value, &bits, 8);
+    return value;
+}
+
+/* 02: "each edge becomes the one further out, on a tie the frame's". The box of O6 with 1000.1 is 0, -500.05, 333.36666666666673,
+ * -166.68333333333337. */
+static void frame_grow(void) {
+    const uint64_t o6 = code("O6");
+    const double right = 333.36666666666673, top = -166.68333333333337;
+    FRAME(jgv_frame_grow(1000.1, edges(1.0, 1.0, 2.0, 2.0), o6), 0, 0.0, -500.05, right, 2.0);
+    FRAME(jgv_frame_grow(1000.1, edges(-1.0, -600.0, 400.0, 5.0), o6), 0, -1.0, -600.0, 400.0, 5.0);
+    FRAME(jgv_frame_grow(1000.1, edges(9.0, 9.0, -9.0, -999.0), o6), 0, 0.0, -500.05, right, top); /* also where left is past right */
+    FRAME(jgv_frame_grow(1000.1, edges(1000.1, 166.68333333333337, 1333.466666666667, 500.05), o6), 0, 0.0, -500.05, 1333.466666666667, 500.05);
+    FRAME(jgv_frame_grow(1000.1, edges(-0.0, -500.05, right, top), o6), 0, -0.0, -500.05, right, top); /* a tie with 0.0 */
+    FRAME(jgv_frame_grow(1000.1, edges(0.0, -500.05, right, top), o6), 0, 0.0, -500.05, right, top);
+    FRAME(jgv_frame_grow(1.0, edges(0.0, 0.0, 0.0, -0.0), code_at(0, 3, "S2")), 0, 0.0, -0.8333333333333334, 4.0, -0.0);
+    FRAME(jgv_frame_grow(1000.1, edges(-INFINITY, -INFINITY, INFINITY, INFINITY), o6), 0, -INFINITY, -INFINITY, INFINITY, INFINITY);
+    FRAME(jgv_frame_grow(1000.1, edges(INFINITY, INFINITY, -INFINITY, -INFINITY), o6), 0, 0.0, -500.05, right, top);
+    FRAME(jgv_frame_grow(TO_30, edges(5e-324, -5e-324, 5e-324, -5e-324), code("O")), 0, 0.0, -536870912.0, TO_30, 536870912.0);
+    NO_FRAME(jgv_frame_grow(1000.1, edges(0.0, 0.0, 0.0, 0.0), no_code), 4);
+    NO_FRAME(jgv_frame_grow(1000.1, edges(0.0, 0.0, 0.0, 0.0), o6 + WIDE), 4);
+    static const uint64_t no_numbers[] = {UINT64_C(0x7FF8000000000000), UINT64_C(0x7FF0000000000001), UINT64_MAX, UINT64_C(0xFFF4000000000000)};
+    for (size_t i = 0; i < 4; i++) {
+        const double nan = of_bits(no_numbers[i]);
+        NO_FRAME(jgv_frame_grow(1000.1, edges(nan, 0.0, 0.0, 0.0), o6), 19);
+        NO_FRAME(jgv_frame_grow(1000.1, edges(0.0, nan, 0.0, 0.0), o6), 19);
+        NO_FRAME(jgv_frame_grow(1000.1, edges(0.0, 0.0, nan, 0.0), o6), 19);
+        NO_FRAME(jgv_frame_grow(1000.1, edges(0.0, 0.0, 0.0, nan), o6), 19);
+        NO_FRAME(jgv_frame_grow(1000.1, edges(nan, nan, nan, nan), no_code), 19); /* before 4 */
+        NO_FRAME(jgv_frame_grow(nan, edges(0.0, 0.0, 0.0, 0.0), o6), 19);
+    }
+    for (size_t i = 0; i < NO_SIDES; i++) {
+        NO_FRAME(jgv_frame_grow(no_sides[i], edges(0.0, 0.0, 0.0, 0.0), o6), 19);
+        NO_FRAME(jgv_frame_grow(no_sides[i], edges(0.0, 0.0, 0.0, 0.0), no_code), 19);
+    }
 }
 
 /* What a change answers: the refusal, and the newest revision of the history that it hands back. */
@@ -1028,6 +1251,11 @@ int main(void) {
     coverage_write();
     handheld_write();
     coverage_ask();
+    coverage_add();
+    mark_point();
+    mark_code();
+    frame_first();
+    frame_grow();
     settings();
     long_lists(); /* last, since it fills `long_text` and `many` */
     if (failed)

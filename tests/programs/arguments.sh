@@ -18,6 +18,16 @@ for program in record name_fixes; do
     done
 done
 
+for words in 'to f' '0 to f' '0 0 to f' '0 0 9 to' '0 0 9 0 to' "0 0 9 to ''" '0 0 9 to a b' '0 0 9 0 to a b' '0 0 9 0 0 to a' '0 0 9 a to f' '0 0 9 To f' '0 0 9 0 for f' \
+    "0 0 9 to $(times 4081 x)"; do
+    try "a file wrongly given" "record $words </dev/null" '' 'usage record'
+done
+try "5 with a file" 'record 4 0 9 to f </dev/null' '' '5; usage record'
+try "2 with a file" 'record 0 0 16 to f </dev/null' '' '2; usage record'
+try "6 with a file" 'record 0 0 9 10000000001 to f </dev/null' '' '6; usage record'
+try "no file was made" 'ls f' '' '*No such file or directory'
+try "name_fixes keeps no file" 'name_fixes 0 0 9 to f </dev/null' '' 'usage name_fixes'
+
 for words in '' check list ask write 'check a b' 'list a b' 'ask a' 'ask a N b' 'write 0' 'write 0 0 0 0' 'CHECK a' 'checks a' 'chec a' "'' a" \
     'reading a' '--help' 'write a 0' 'write 0 b' "write '' 0" "write 0 ''" 'write -1 0' 'write 0 -1' 'write 99999999999999999999 0' \
     'write 0 0 a' "write 0 0 ''" 'write 0 0 -1' 'write 0 0 +1' 'write 0 0 1.0' "write 0 0 ' 1'" "write 0 0 '1 '" 'write 0 0 99999999999999999999' \

@@ -66,8 +66,8 @@ for n in 0 1 2 3; do
 done
 # two crews at one place, in two arrangements: each text is read in its own, and names say none
 echo -900000000 880000000000000000 >place
-try "the first crew" 'record 0 0 1 <place | tee first.cvr' "${H}N(8)" ''
-try "the second crew" 'record 1 0 1 <place | tee second.cvr' 'CVR\x00\x0110N(6)' ''
+try "the first crew" 'record 0 0 1 <place | tee first.cvr' "${H}N(8)" 1+0+0
+try "the second crew" 'record 1 0 1 <place | tee second.cvr' 'CVR\x00\x0110N(6)' 1+0+0
 try "the first text asked" 'coverage ask first.cvr N8' 'yes\n' ''
 try "the second text asked for the first crew's name" 'coverage ask second.cvr N8' 'no\n' ''
 try "the second text asked for its own" 'coverage ask second.cvr N6' 'yes\n' ''
@@ -249,7 +249,7 @@ sample=$root/examples/flight/flight.cvr
 try "the sample listed and written" "coverage list '$sample' | coverage write 0 0" "@$sample" ''
 coverage list "$sample" >sample.names
 try "written and listed" 'coverage write 0 0 <sample.names >again.cvr; coverage list again.cvr' @sample.names ''
-try "the sample flown" "record 0 0 9 <'$root/examples/flight/flight.txt'" "@$sample" ''
+try "the sample flown" "record 0 0 9 <'$root/examples/flight/flight.txt'" "@$sample" 3972+0+0
 
 # output that fails: standard error says so, once or more
 for words in 'check two.cvr' 'list two.cvr' 'ask two.cvr P3' 'list full.cvr' 'write 0 0 <full.names'; do

@@ -20,11 +20,13 @@ try "a cut line that is no fix" "printf '0 0\n-1800000000 0\nx' | unread name_fi
 try "a failure after a line end" "printf 'x\n0 0\n' | unread name_fixes 0 0 0" '6\nQ\n' "name_fixes: $failure"
 try "a failure at once" "printf '' | unread name_fixes 0 0 0" '' "name_fixes: $failure"
 
-# a text or nothing: a flight that was not read to its end has no text
-for flight in '0 0\n900000000 66666' '900000000 66666' '0 0\n' ''; do
-    try "a flight that fails midway" "printf '$flight' | unread record 0 0 0" '' "record: $failure"
+# what was flown before the failure is written; the line that it cut is none
+try "a flight that fails midway" "printf '0 0\n-900000000 66666' | unread record 0 0 0" "${H}Q" "record: $failure; 1+0+0"
+try "a flight that fails after a line" "printf '0 0\n' | unread record 0 0 0" "${H}Q" "record: $failure; 1+0+0"
+for flight in '900000000 66666' ''; do
+    try "a flight that fails in its first line" "printf '$flight' | unread record 0 0 0" "$H" "record: $failure; 0+0+0"
 done
-try "a bad line before the failure" "printf 'x\n0 0\n1 0' | unread record 0 0 0" '' "line 1: 6; record: $failure"
+try "a bad line before the failure" "printf 'x\n0 0\n-900000000 0' | unread record 0 0 0" "${H}Q" "line 1: 6; record: $failure; 1+1+0"
 for names in 'P3\nP4' 'P3' 'P3\n' ''; do
     try "a list that fails midway" "printf '$names' | unread coverage write 0 0" '' "coverage: $failure"
 done

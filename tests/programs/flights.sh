@@ -1,9 +1,11 @@
 # record and name_fixes: the lines of a flight. Cells are those of 01's table, or are worked out by hand.
 
-# WHAT LINES SETTING NAMES TEXT SAID: both programs on the same lines; record says which it left out.
+# WHAT LINES SETTING NAMES TEXT SAID: both programs on the same lines; record says which it left out, and counts: a line without a name is refused with 6.
 fly() {
+    local lines bad
+    lines=$(printf '%b' "$4" | wc -l) bad=$(printf '%b' "$4" | grep -c '^6$')
     try "$1" "printf '%b' '$2' | name_fixes $3" "$4" ''
-    try "$1" "printf '%b' '$2' | record $3" "$H$5" "$6"
+    try "$1" "printf '%b' '$2' | record $3" "$H$5" "${6:+$6; }$((lines - bad))+$bad+0"
 }
 
 fly "nothing flown" '' '0 0 9' '' '' ''
@@ -11,11 +13,11 @@ fly "line 1 of the table" '0 0\n' '0 0 2' 'Q33\n' 'Q(3(3))' ''
 fly "lines 2 to 4" '7 1000000000000000000\n-1350000000 666666666666666666\n-1350000000 666666666666666667\n' '0 0 1' 'N4\nO1\nN7\n' 'N(47)O(1)' ''
 fly "lines 5 and 7" '-900000000 880000000000000000\n-900000000 -880000000000000000\n' '0 0 1' 'N8\nS2\n' 'N(8)S(2)' ''
 try "line 6" "echo -900000000 880000000000000000 | name_fixes 1 0 1" 'N6\n' ''
-try "line 6, recorded" "echo -900000000 880000000000000000 | record 1 0 1" 'CVR\x00\x0110N(6)' ''
+try "line 6, recorded" "echo -900000000 880000000000000000 | record 1 0 1" 'CVR\x00\x0110N(6)' 1+0+0
 fly "line 8" '-1350000000 970000000000000000\n' '0 0 2' 'N47\n' 'N(4(7))' ''
 fly "a hair from an edge" '-1350000000 962962962962962962\n-1350000000 962962962962962963\n' '0 0 1' 'N7\nN4\n' 'N(47)' ''
 fly "a cell twice" '0 0\n1 1\n0 0\n' '0 0 1' 'Q3\nQ3\nQ3\n' 'Q(3)' ''
-try "another arrangement" "echo 0 0 | record 3 2 0" 'CVR\x00\x0132Q' ''
+try "another arrangement" "echo 0 0 | record 3 2 0" 'CVR\x00\x0132Q' 1+0+0
 nine=
 for row in 444444444444444444 0 -444444444444444444; do
     for column in -1650000000 -1350000000 -1050000000; do nine+="$column $row\n"; done
@@ -30,7 +32,7 @@ fly "a geodetic latitude on WGS84" '-1350000000 668000000000000000\n-1350000000 
 fly "the same numbers on a sphere" '-1350000000 668000000000000000\n-1350000000 -668000000000000000\n' '0 0 1 0' 'N7\nS1\n' 'N(7)S(1)' ''
 fly "the same numbers without an eccentricity" '-1350000000 668000000000000000\n-1350000000 -668000000000000000\n' '0 0 1' 'N7\nS1\n' 'N(7)S(1)' ''
 fly "poles, the equator and the antimeridian on the flattest ellipsoid" '5 1000000000000000000\n5 -1000000000000000000\n0 0\n1800000000 0\n' '0 0 1 10000000000' 'N4\nS4\nQ3\nO3\n' 'N(4)O(3)Q(3)S(4)' ''
-try "another arrangement on WGS84" "echo -900000000 880000000000000000 | record 1 0 1 6694379990" 'CVR\x00\x0110N(6)' ''
+try "another arrangement on WGS84" "echo -900000000 880000000000000000 | record 1 0 1 6694379990" 'CVR\x00\x0110N(6)' 1+0+0
 for line in x '' '0 1000000000000000001' '0 -1000000000000000001' '1800000001 0' '0 0 6694379990' '0 9223372036854775808'; do
     fly "a line that is no fix, or one out of range, on WGS84" "$line\n0 0\n" '0 0 0 6694379990' '6\nQ\n' 'Q' 'line 1: 6'
 done
@@ -54,20 +56,24 @@ for line in "${bad[@]}"; do
     fly "a line that is no fix, or one out of range" "$line\n0 0\n" '0 0 0' '6\nQ\n' 'Q' 'line 1: 6'
 done
 
-# input and output that fail
+# input and output that fail. What was flown before that is written
+counted() { [ "$1" = record ] && echo "; $2"; }
 for program in record name_fixes; do
-    try "a folder as input" "$program 0 0 9 <." '' "$program: standard input: Is a directory"
-    try "no input" "$program 0 0 9 <&-" '' "$program: standard input: Bad file descriptor"
-    try "a full disk" "echo 0 0 | $program 0 0 9 >/dev/full" '' 'standard output: No space left on device'
-    try "no output" "echo 0 0 | $program 0 0 9 >&-" '' 'standard output: Bad file descriptor'
-    try "input in parts" "(printf 0; sleep 0.1; printf ' '; sleep 0.1; printf '0\n1 0') | $program 0 0 0 | tail -c 2 | tr -d '\n' | tail -c 1" 'Q' ''
+    head=$([ $program = record ] && echo "CVR\x00\x0100")
+    try "a folder as input" "$program 0 0 9 <." "$head" "$program: standard input: Is a directory$(counted $program 0+0+0)"
+    try "no input" "$program 0 0 9 <&-" "$head" "$program: standard input: Bad file descriptor$(counted $program 0+0+0)"
+    try "a full disk" "echo 0 0 | $program 0 0 9 >/dev/full" '' "standard output: No space left on device$(counted $program 1+0+0)"
+    try "no output" "echo 0 0 | $program 0 0 9 >&-" '' "standard output: Bad file descriptor$(counted $program 1+0+0)"
 done
+try "input in parts" "(printf 0; sleep 0.1; printf ' '; sleep 0.1; printf '0\n1 0') | name_fixes 0 0 0" 'Q\nQ\n' ''
+try "input in parts" "(printf 0; sleep 0.1; printf ' '; sleep 0.1; printf '0\n1 0') | record 0 0 0" "${H}Q" 2+0+0
 
 failure='standard input: Resource temporarily unavailable'
 try "an input that fails in a line: the lines before it are named" "failing '0 0\n0 0\n1 0' name_fixes 0 0 0" 'Q\nQ\n' "name_fixes: $failure"
 try "an input that fails at a line's end" "failing '0 0\n' name_fixes 0 0 0" 'Q\n' "name_fixes: $failure"
-for text in '0 0' '0 0\n' '0 0\n1 0'; do
-    try "an input that fails: nothing is written" "failing '$text' record 0 0 0" '' "record: $failure"
+try "an input that fails in its first line" "failing '0 0' record 0 0 0" "$H" "record: $failure; 0+0+0"
+for text in '0 0\n' '0 0\n-900000000 0'; do
+    try "an input that fails: what was flown is written" "failing '$text' record 0 0 0" "${H}Q" "record: $failure; 1+0+0"
 done
 
 try "an input that never ends, and a reader who leaves" 'yes 0 0 | name_fixes 0 0 0 | head -n 2' 'Q\nQ\n' ''
@@ -78,14 +84,27 @@ lines() { python3 -c "for i in range($1): print($2, $3)"; }
 lines 100000 'i * 36000 - 1800000000' 0 >round
 A='(3(345)4(345)5(345))'
 printf '%b' "$H$(for face in O P Q R; do printf '%s' "$face(3${A}4${A}5$A)"; done)" >round.cvr
-try "100,000 fixes" 'record 0 0 3 <round' @round.cvr ''
-try "the same flown back" 'tac round | record 0 0 3' @round.cvr ''
+try "100,000 fixes" 'record 0 0 3 <round' @round.cvr 100000+0+0
+try "the same flown back" 'tac round | record 0 0 3' @round.cvr 100000+0+0
+try "the same in any order" 'shuf --random-source=round round | record 0 0 3' @round.cvr 100000+0+0
 try "100,000 names" 'name_fixes 0 0 0 <round | uniq -c | tr -d " "' '25000O\n25000P\n25000Q\n25000R\n' ''
 try "100,000 names to a full disk" 'name_fixes 0 0 0 <round >/dev/full' '' 'standard output: No space left on device'
-try "a late line" '(cat round; echo x) | record 0 0 3' @round.cvr 'line 100001: 6'
-lines 65537 'i * 100' 0 >many # a cell of resolution 15 is under 63 units wide
-try "each in a cell of its own" 'name_fixes 0 0 15 <many | uniq | wc -l' '65537\n' ''
-try "more than 65,536 cells" 'record 0 0 15 <many' '' 13
-try "the flight goes on after that" '(cat many; echo 0 0; echo x) | record 0 0 15' '' 'line 65539: 6; 13'
+try "a late line" '(cat round; echo x) | record 0 0 3' @round.cvr 'line 100001: 6; 100000+1+0'
+
+# more than 65,536 cells: a text is all that is held, and all of O to R is four letters
+python3 -c "if True:
+    for i in range(324):
+        for j in range(324): print(j * 11111112 - 1799000000, 664000000000000000 - i * 4100000000000000)" >all
+try "each in a cell of its own" 'name_fixes 0 0 4 <all | sort -u | wc -l' '26244\n' ''
+try "as many cells as there are" 'record 0 0 4 <all' "${H}OPQR" 104976+0+0
+
+# a text that is full: each fix that does not fit is refused with 13, and the flight goes on
 lines 10000 'i * 90000' 0 >far
-try "10,000 cells far apart, whose text is too long" 'record 0 0 15 <far' '' 13
+record 0 0 15 <far >far.cvr 2>far.said
+try "a full text is written, and is accepted" 'coverage check far.cvr | cut -d " " -f 1-6' '0 0 1 15 0 0\n' ''
+try "a full text is full" 'stat -c %s far.cvr | grep -c "^655[0-3][0-9]$"' '1\n' ''
+last=$(tail -n 1 far.said) # how many were taken, and how many refused
+try "the refused lines are said, and counted" "grep -c ': refusal 13: ' far.said; echo $last" "$(grep -c ': refusal 13: ' far.said)\n$(sed 's/[^0-9]/ /g; s/  */ /g' <<<"$last" | awk '{ print "record: " $1 " fixes taken, 0 lines refused with 6, " 10000 - $1 " with 13" }')\n" ''
+first=$(sed -n 's/^record: line \([0-9]*\): refusal 13: .*/\1/p' far.said | head -n 1)
+try "the first fixes are in it" "head -n $((first - 1)) far | record 0 0 15 | cmp - <(head -n $((first - 1)) far | record 0 0 15 2>/dev/null)" '' "$((first - 1))+0+0"
+try "ground that is there is taken after that" "(cat far; head -n 5 far; echo 0 0; echo x) | record 0 0 15 2>&1 >again.cvr | tail -n 1 | cut -d ' ' -f 2; cmp far.cvr again.cvr" "$(($(awk '{ print $2 }' <<<"$last") + 6))\n" ''

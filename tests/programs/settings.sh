@@ -71,13 +71,13 @@ try "no file" "cd files; settings missing list" '' 'settings: missing: No such f
 try "no file to change" "cd files; settings missing change 0 0 0 0 0; ls" 'bad\ncut\ngood\nlong\n' 'settings: missing: No such file or directory'
 try "a folder" "cd files; mkdir folder; settings folder list; settings folder fresh 0 0 0 0; ls -d folder*" 'folder\n' \
     'settings: folder: Is a directory; settings: folder: it is there already, and a fresh history would destroy it'
-try "no folder" "cd files; settings nowhere/f fresh 0 0 0 0" '' 'settings: nowhere/f.new: No such file or directory'
+try "no folder" "cd files; settings nowhere/f fresh 0 0 0 0" '' 'settings: nowhere/f.part: No such file or directory'
 try "a name too long" "settings $(times 5000 x) list" '' 'settings: FILE: File name too long'
 try "in a folder" "cd files; settings folder/f fresh 0 0 0 0; settings ./folder/../folder/f change 0 1 1 1 1; ls folder" '0\n1\nf\n' ''
-try "another change is being made" "cd files; touch good.new; settings good change 0 1 1 1 1; ls good*" 'good\ngood.new\n' \
-    'settings: good.new: File exists; settings: another change is being made, or one was cut off; if none is being made, remove that file'
+try "another change is being made" "cd files; touch good.part; settings good change 0 1 1 1 1; ls good*" 'good\ngood.part\n' \
+    'settings: good.part: File exists; settings: another change is being made, or one was cut off; if none is being made, remove that file'
 try "reading goes on" "cd files; settings good read 0" '0 0 9 6694379990\n' ''
-try "and then no more" "cd files; rm good.new; settings good change 0 1 1 1 1; ls good*" '1\ngood\n' ''
+try "and then no more" "cd files; rm good.part; settings good change 0 1 1 1 1; ls good*" '1\ngood\n' ''
 try "no room for the answer" "cd files; settings good change 1 2 2 2 2 >/dev/full; settings good read 2" '2 2 2 2\n' 'standard output: No space left on device'
 
 # settings for the recorder's programs: they say which revision is used. On a sphere 01's line 6 is N6 at n = 1,
@@ -87,20 +87,35 @@ rm -rf office && mkdir office
 for program in record name_fixes; do
     eval "used() { (cd office && echo -900000000 880000000000000000 | $program settings office.set \${1-}); }"
     case $program in
-    record) answer='CVR\x00\x0110N(6)' older='CVR\x00\x0100N(8)' ;;
-    *) answer='N6\n' older='N8\n' ;;
+    record) answer='CVR\x00\x0110N(6)' older='CVR\x00\x0100N(8)' counts='; 1+0+0' ;;
+    *) answer='N6\n' older='N8\n' counts= ;;
     esac
-    try "$program with the newest revision" "used" "$answer" "$program: revision 1 of office.set"
-    try "$program with a revision" "used 1" "$answer" "$program: revision 1 of office.set"
-    try "$program with an older one" "used 0" "$older" "$program: revision 0 of office.set"
+    try "$program with the newest revision" "used" "$answer" "$program: revision 1 of office.set$counts"
+    try "$program with a revision" "used 1" "$answer" "$program: revision 1 of office.set$counts"
+    try "$program with an older one" "used 0" "$older" "$program: revision 0 of office.set$counts"
     try "$program with what is to come" "used 2" '' "18; usage $program"
     try "$program with no revision" "used x" '' "usage $program"
     try "$program with too many words" "used '0 0'" '' "usage $program"
+    for words in settings 'settings office.set 0 to' 'settings office.set 0 0 to f' 'settings office.set to a b' 'Settings office.set' 'settings to'; do
+        try "$program wrongly given" "cd office; $program $words </dev/null; ls" 'office.set\n' "*usage $program"
+    done
     try "$program with no history" "$program settings nothing </dev/null" '' "$program: nothing: No such file or directory; usage $program"
     try "$program with a file that is none" "$program settings files/cut </dev/null" '' "9 at place 262; usage $program"
 done
 
+# and record keeps the text in a file with them too
+flown() { (cd office && rm -f kept && echo -900000000 880000000000000000 | record settings "$@" >/dev/null && cat kept && ls); }
+try "kept, with the newest revision" "flown office.set to kept" 'CVR\x00\x0110N(6)kept\noffice.set\n' 'record: revision 1 of office.set; 1+0+0'
+try "kept, with a revision" "flown office.set 0 to kept" 'CVR\x00\x0100N(8)kept\noffice.set\n' 'record: revision 0 of office.set; 1+0+0'
+try "a history in a file called to" "mkdir called; cp office/office.set called/to; cd called; record settings to to kept </dev/null; cat kept" 'CVR\x00\x0110CVR\x00\x0110' \
+    'record: revision 1 of to; 0+0+0'
+rm office/kept
+try "kept, no such revision" "cd office; record settings office.set 2 to kept </dev/null; ls" 'office.set\n' '18; usage record'
+try "kept, no revision" "cd office; record settings office.set x to kept </dev/null; ls" 'office.set\n' 'usage record'
+try "kept, no name" "cd office; record settings office.set to '' </dev/null; ls" 'office.set\n' 'record: revision 1 of office.set; usage record'
+try "name_fixes keeps no file" "cd office; name_fixes settings office.set to kept </dev/null; ls" 'office.set\n' 'usage name_fixes'
+
 # interrupted at every call of the system, each call failing, and killed at random moments
 gcc -shared -fPIC -O1 -o failing.so "$root/tests/programs/failing.c" -ldl
 mkdir interrupted
-try "interrupted" "cd interrupted; '$root/tests/programs/interrupted' '$bin/settings' '$scratch/failing.so'" 'always a history\n' '* times that of before, * times that of after'
+try "interrupted" "cd interrupted; '$root/tests/programs/interrupted' '$bin' '$scratch/failing.so'" 'always whole\n' '* times that of before, * times that of after'

@@ -74,9 +74,10 @@ fn read_heading(text: &[u8]) -> Heading {
     }
 }
 
-/// Reads a text and calls `visit(depth, start)` for each whole cell: its resolution, and the finest cells before it.
+/// Reads a text and calls `visit(depth, start, whole)` for each letter and digit: the resolution of its cell, the finest cells before that, and
+/// whether it is whole.
 #[inline(always)]
-fn read(text: &[u8], mut visit: impl FnMut(usize, u64)) -> Result<Heading, (u64, u64)> {
+fn read(text: &[u8], mut visit: impl FnMut(usize, u64, bool)) -> Result<Heading, (u64, u64)> {
     let heading = heading(text)?;
     let (deepest, caps) = (heading.depth, heading.version == 1);
     let (mut levels, mut depth, mut at) = ([Level::default(); 16], 0, heading.body);
@@ -101,6 +102,7 @@ fn read(text: &[u8], mut visit: impl FnMut(usize, u64)) -> Result<Heading, (u64,
             && text.get(at + 1) == Some(&b'(')
             && (depth > 0 || caps || (1..5).contains(&digit))
         {
+            visit(depth, start, false);
             depth += 1;
             levels[depth] = Level::new(start);
             at += 2;
@@ -109,7 +111,7 @@ fn read(text: &[u8], mut visit: impl FnMut(usize, u64)) -> Result<Heading, (u64,
             if depth > 0 && level.whole == 9 && (depth == deepest || at + 1 < text.len()) {
                 return Err((9, at as u64 + (depth < deepest) as u64));
             }
-            visit(depth, start);
+            visit(depth, start, true);
             at += 1;
         }
     }
@@ -142,9 +144,11 @@ fn walk(text: &[u8], mut visit: impl FnMut(usize, u64)) {
 
 fn checked(text: &[u8]) -> Check {
     let (mut cells, mut size) = (0, 0);
-    match read(text, |depth, _| {
-        cells += 1;
-        size += NINE[15 - depth];
+    match read(text, |depth, _, whole| {
+        if whole {
+            cells += 1;
+            size += NINE[15 - depth];
+        }
     }) {
         Ok(heading) => Check {
             refusal: 0,
@@ -201,7 +205,8 @@ pub extern "C" fn coverage_list(
     }
 }
 
-/// No list holds nine whole nodes, so a cell is covered exactly where one whole cell holds it.
+/// No list holds nine whole nodes, so a cell is covered exactly where one whole cell holds it. Codes rise as the letters and digits stand, so a later
+/// one exists where not all are counted.
 #[inline(never)]
 pub extern "C" fn coverage_ask(text: *const u8, length: usize, code: u64) -> Ask {
     let text = unsafe { std::slice::from_raw_parts(text, length) };
@@ -210,9 +215,11 @@ pub extern "C" fn coverage_ask(text: *const u8, length: usize, code: u64) -> Ask
     }
     let (n, s) = arrangement(code);
     let (first, size) = (code >> 8, NINE[15 - (code >> 4 & 15) as usize]);
-    let mut covered = false;
-    let read = read(text, |depth, start| {
-        covered |= start <= first && first + size <= start + NINE[15 - depth];
+    let (mut covered, mut not_above, mut all) = (false, 0, 0);
+    let read = read(text, |depth, start, whole| {
+        covered |= whole && start <= first && first + size <= start + NINE[15 - depth];
+        not_above += ((start << 4 | depth as u64) <= code >> 4) as u64;
+        all += 1;
     });
     match read {
         Err((refusal, place)) => Ask {
@@ -224,6 +231,7 @@ pub extern "C" fn coverage_ask(text: *const u8, length: usize, code: u64) -> Ask
             refusal: 0,
             place: 0,
             covered: covered as u64,
+            settled: not_above + (not_above < all) as u64,
         },
     }
 }

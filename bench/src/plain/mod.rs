@@ -5,6 +5,7 @@ pub mod codes;
 pub mod coverage;
 pub mod fixes;
 pub mod neighbour;
+pub mod plotter;
 pub mod writing;
 
 /// Powers of three and of nine.

@@ -7,14 +7,12 @@ use native.Mathlib.Omega.{arith}
 use Rattle.logic.specs.Refusal.{refuse}
 use Rattle.logic.specs.Laws.Refusal.{stops, passes}
 use Rattle.cell.specs.declared.Arrangement.{Arrangement}
-use Rattle.code.specs.Code.{cellOf, isOf, codeRefusal}
-use Rattle.reading.specs.Ground.{wholeCells}
-use Rattle.reading.specs.TextReading.{nodesOf}
+use Rattle.code.specs.Code.{isOf, codeRefusal}
 use Rattle.reader.specs.Check.{placeWith}
 use Rattle.reading.specs.declared.Profile.{Profile}
 use Rattle.reader.specs.Laws.Answer.{TextChecked, TextRefused, checked-arrangement}
-use Rattle.asking.specs.declared.Asked.the-variants.{Covered, Refused}
-use Rattle.asking.specs.Ask.{anyWithin, askRefusal, asked}
+use Rattle.asking.specs.declared.Asked.the-variants.{Refused}
+use Rattle.asking.specs.Ask.{askRefusal, asked}
 
 refusal : {q r p : ℕ} (t : List ℕ) (code : ℕ) → q ≡ r → (r ≡ 0 → ⊥) → p ≡ placeWith r t → Refused r p ≡ asked q t code
 unfolding asked
@@ -44,6 +42,5 @@ module _ (t : List ℕ) (code : ℕ) where
       another h = refusal t code (last h) (λ y. omega arith) refl
 
       -- the answer
-      pub answered : {x : Bool} → isOf (record { north = n; south = s }) code ≡ true → x ≡ anyWithin (wholeCells (nodesOf t)) (cellOf code) → Covered x ≡ asked (askRefusal t code) t code
-      unfolding asked
-      answered h k = ap Covered k ∙ sym (ap (λ (q : ℕ). asked q t code) (last h))
+      pub answered : isOf (record { north = n; south = s }) code ≡ true → asked 0 t code ≡ asked (askRefusal t code) t code
+      answered h = sym (ap (λ (q : ℕ). asked q t code) (last h))

@@ -11,7 +11,8 @@ use Rattle.reading.specs.Ground.{wholeCells, Finest, Covers}
 use Rattle.reading.specs.TextReading.{nodesOf, textArrangement}
 use Rattle.reader.specs.Check.{textRefusal, placeWith}
 use Rattle.asking.specs.declared.Asked.{Asked}
-use Rattle.asking.specs.declared.Asked.the-variants.{Covered, Refused}
+use Rattle.asking.specs.declared.Asked.the-variants.{Answer, Refused}
+use Rattle.asking.specs.Settle.{settled}
 
 -- "all of one cell's finest cells are covered": every finest cell inside x is in the ground
 abbrev pub AllCovered : List Cell → Cell → Type 0
@@ -29,8 +30,8 @@ askRefusal t code =
     textRefusal t otherwise
     refuse (not (isOf (textArrangement t) code)) 14
 
--- yes or no, or the refusal and the place
+-- yes or no, and how many letters and digits settle it; or the refusal and the place
 unfoldable pub asked : (r : ℕ) (t : List ℕ) (code : ℕ) → Asked
-unfolding anyWithin
-asked zero t code = Covered (anyWithin (wholeCells (nodesOf t)) (cellOf code))
+unfolding anyWithin settled
+asked zero t code = Answer (anyWithin (wholeCells (nodesOf t)) (cellOf code)) (settled (textArrangement t) code (nodesOf t))
 asked (suc r) t code = Refused (suc r) (placeWith (suc r) t)

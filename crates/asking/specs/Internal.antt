@@ -1,1 +1,4 @@
 pub mod AskNodes
+pub mod CodeOrder
+pub mod CountNodes
+pub mod Reach

@@ -36,3 +36,7 @@ settingFrom x = record { arrangement = record { north = x .n; south = x .s }; re
 
 unfoldable pub settingAt : History → (revision : ℕ) → Arguments
 settingAt h r = given (readRefusal (h .newest) r) (Good (settingFrom (placed h r))) Wrong
+
+abbrev pub settingWanted : History → (wanted : Whole) → Arguments
+settingWanted h (Is r) = settingAt h r
+settingWanted h Not = Wrong

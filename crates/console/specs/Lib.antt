@@ -1,4 +1,5 @@
 pub mod Arguments
+pub mod Beside
 pub mod History
 pub mod Input
 pub mod Laws

@@ -1,11 +1,13 @@
 // What the programs share: words for people on standard error, arguments, and input and output that can fail.
 ghost use mathlib.Core.Path.{_≡_};
-ghost use Prim.Native.Nat.{_≤_, _<_};
-ghost use lib.ListN.{length};
-ghost use Rattle.console.specs.Arguments.{latitudeGiven, settingGiven, OfWord, Usable};
+ghost use mathlib.Core.Bool.{true};
+ghost use Prim.Native.Nat.{_+_, _≤_, _<_};
+ghost use lib.ListN.{length, take};
+ghost use Rattle.console.specs.Arguments.{latitudeGiven, settingGiven, judged, OfWord, Usable};
+ghost use Rattle.console.specs.Beside.{besideOf, Folder};
+ghost use Rattle.console.specs.History.{loadedFrom, OfBytes, revisionWanted, settingAt, settingWanted};
 ghost use Rattle.console.specs.Input.{unread, Given, Fits, lastLine};
 ghost use Rattle.console.specs.Room.{Made};
-ghost use Rattle.console.specs.History.{loadedFrom, OfBytes, revisionWanted, settingAt};
 use cell::Arrangement;
 use decimal::Whole;
 use flight::Latitude;
@@ -101,8 +103,8 @@ pub fn make_room(out: &[u8], at: usize, size: usize) -> Room
     Room::From(at)
 }
 
-// A number in decimal.
-fn say_whole(x: u64) {
+// A number in decimal, to standard error.
+pub fn say_whole(x: u64) {
     let mut digits = [0u8; 20];
     let n = decimal::put_whole(x, &mut digits, 0);
     say(&digits[..n]);
@@ -213,6 +215,140 @@ fn setting_given(latitude: LatitudeGiven, n: Whole, s: Whole, resolution: Whole)
         resolution,
         latitude, // with its eccentricity
     })
+}
+
+// Whether the argument with this number is this word.
+pub fn argument_is(i: usize, word: &[u8]) -> bool {
+    let mut room = [0u8; 20];
+    let n = os::arg(i, &mut room);
+    if os::errno() != 0 {
+        return false;
+    }
+    check::same(&room[..n], word)
+}
+
+// The path of the file beside one, into `room`: the same with `.part` behind it.
+pub fn beside(path: &[u8], room: &mut [u8]) -> usize
+    requires { ⌜ length (now path) + 5 ≤ length (now room) ⌝ }
+    ensures { λ r. ⌜ take r (now (room .exit)) ≡ besideOf (now (path .entry)) ⌝ }
+    ensures { λ r. ⌜ r ≤ length (now (room .exit)) ⌝ }
+{
+    let at = bytes::copy(path, room);
+    let more = bytes::copy(b".part", &mut room[at..]);
+    at + more
+}
+
+// Whether the bytes are in the file and on the disk. Where that fails, standard error says why.
+fn on_disk(program: &[u8], path: &[u8], fd: i32, bytes: &[u8]) -> bool {
+    if !io::write_all(fd, bytes) {
+        say_failure(program, path);
+        return false;
+    }
+    if libc::fsync(fd) != 0 {
+        say_failure(program, path);
+        return false;
+    }
+    true
+}
+
+// Whether a file has these bytes, and no other, on the disk, and is closed.
+fn written(program: &[u8], path: &[u8], bytes: &[u8]) -> bool {
+    let fd = os::open_overwrite(path);
+    if fd < 0 {
+        say_failure(program, path);
+        return false;
+    }
+    let whole = on_disk(program, path, fd, bytes);
+    if libc::close(fd) != 0 {
+        if whole {
+            say_failure(program, path);
+        }
+        return false;
+    }
+    whole
+}
+
+// Removes a file, if it is there.
+pub fn remove(program: &[u8], path: &[u8]) {
+    if os::unlink(path) != 0 {
+        if os::errno() != libc::ENOENT {
+            say_failure(program, path);
+        }
+    }
+}
+
+// How much of a path is its folder, with the slash: nothing where there is none.
+fn folder_length(path: &[u8]) -> usize
+    ensures { λ r. ⌜ Folder (now (path .entry)) r ⌝ }
+{
+    let mut n = path.len();
+    while n > 0 {
+        let before = n - 1;
+        if path[before] == b'/' {
+            return n;
+        }
+        n = before;
+    }
+    0
+}
+
+// Brings a folder to the disk, and with it which file has which name.
+fn sync(program: &[u8], folder: &[u8]) {
+    let fd = os::open_read(folder);
+    if fd < 0 {
+        say_failure(program, folder);
+        return;
+    }
+    if libc::fsync(fd) != 0 {
+        say_failure(program, folder);
+    }
+    libc::close(fd);
+}
+
+// The same of the folder of a file.
+fn sync_folder(program: &[u8], path: &[u8]) {
+    let n = folder_length(path);
+    if n == 0 {
+        sync(program, b".");
+        return;
+    }
+    sync(program, &path[..n]);
+}
+
+// The file beside another takes its name. Only one that is whole, and on the disk, may.
+fn take_place(program: &[u8], path: &[u8], beside: &[u8], whole: bool) -> bool
+    requires { ⌜ (whole ≡ true) × (now beside ≡ besideOf (now path)) ⌝ }
+{
+    if os::rename(beside, path) != 0 {
+        say_failure(program, path);
+        return false;
+    }
+    sync_folder(program, path);
+    whole
+}
+
+// Bytes by way of the file beside, which is not left behind.
+fn keep_by(program: &[u8], path: &[u8], beside: &[u8], bytes: &[u8]) -> bool
+    requires { ⌜ now beside ≡ besideOf (now path) ⌝ }
+{
+    let whole = written(program, beside, bytes);
+    if whole {
+        if take_place(program, path, beside, whole) {
+            return true;
+        }
+    }
+    remove(program, beside);
+    false
+}
+
+// Puts bytes in a file's place: they go to the file beside it, which takes the name once it is on the disk, so the file is whole at any moment; then the
+// folder goes to the disk. Where that fails, standard error says why, the file is as it was, and the one beside it is removed.
+pub fn keep(program: &[u8], path: &[u8], bytes: &[u8]) -> bool
+    requires { ⌜ length (now path) ≤ 4096 ⌝ }
+{
+    let mut room = [0u8; 4101];
+    let n = beside(path, &mut room);
+    keep_by(program, path, &room[..n], bytes)
 }
 
 // What comes first of the input.
@@ -342,8 +478,9 @@ fn setting_at(history: History, revision: u64) -> Arguments
 }
 
 // The setting of a history's revision. Standard error says which revision is used, or why there is none.
-fn setting_of(program: &[u8], path: &[u8], history: History) -> Arguments {
-    let wanted = revision_wanted(os::arg_count(), whole_argument(3), history.newest);
+fn setting_of(program: &[u8], path: &[u8], history: History, wanted: Whole) -> Arguments
+    ensures { λ r. ⌜ r ≡ settingWanted history wanted ⌝ }
+{
     let Whole::Is(revision) = wanted else {
         return Arguments::Wrong;
     };
@@ -359,11 +496,11 @@ fn setting_of(program: &[u8], path: &[u8], history: History) -> Arguments {
     say(b" of ");
     say(path);
     say(b"\n");
-    Arguments::Good(setting)
+    Arguments::Good(setting) // of that revision
 }
 
 // The arguments `settings`, a file and, if there is one, a revision.
-fn kept_setting(program: &[u8]) -> Arguments {
+fn kept_setting(program: &[u8], count: usize) -> Arguments {
     let mut path = io::buffer();
     let n = os::arg(2, &mut path);
     if os::errno() != 0 {
@@ -371,46 +508,45 @@ fn kept_setting(program: &[u8]) -> Arguments {
         return Arguments::Wrong;
     }
     let loaded = load_history(program, &path[..n]);
-    if loaded.done {
-        return setting_of(program, &path[..n], loaded.history);
+    if !loaded.done {
+        return Arguments::Wrong;
     }
-    Arguments::Wrong
+    let history = loaded.history;
+    let wanted = revision_wanted(count, whole_argument(3), history.newest);
+    setting_of(program, &path[..n], history, wanted)
 }
 
-// Whether the arguments are `settings` and one or two more.
-fn is_kept() -> bool {
-    let words = os::arg_count();
-    let mut word = [0u8; 8];
-    let n = os::arg(1, &mut word);
-    check::same(&word[..n], b"settings") && (words == 3 || words == 4)
+// Whether the words are `settings` and one or two more.
+fn is_kept(count: usize) -> bool {
+    argument_is(1, b"settings") && (count == 3 || count == 4)
 }
 
 // The setting, if it can be used. Where it cannot, standard error says why.
 fn usable(program: &[u8], given: Arguments) -> Arguments
-    ensures { λ r. ⌜ Usable r ⌝ }
+    ensures { λ r. ⌜ r ≡ judged given ⌝ }
 {
     let Arguments::Good(setting) = given else {
         return Arguments::Wrong;
     };
-    let judged = setting.refusal();
-    if judged != 0 {
+    let number = setting.refusal();
+    if number != 0 {
         say(program);
         say(b": ");
-        say_refusal(judged);
+        say_refusal(number);
         return Arguments::Wrong;
     }
-    Arguments::Good(setting)
+    Arguments::Good(setting) // as it is given
 }
 
-// The arguments n, s, resolution and, where there is a fourth, eccentricity; or `settings`, a file and, if there is one, a revision (02 W-209). Where
-// they cannot be used, standard error says why.
-pub fn given_setting(program: &[u8]) -> Arguments
+// The setting that the first `count` words say, the program's own name among them: n, s, resolution and, where there is a fourth, eccentricity; or
+// `settings`, a file and, if there is one, a revision (02 W-209). Where they cannot be used, standard error says why.
+pub fn setting_in(program: &[u8], count: usize) -> Arguments
     ensures { λ r. ⌜ Usable r ⌝ }
 {
-    if is_kept() {
-        return usable(program, kept_setting(program));
+    if is_kept(count) {
+        return usable(program, kept_setting(program, count));
     }
-    let latitude = latitude_given(os::arg_count(), whole_argument(4));
+    let latitude = latitude_given(count, whole_argument(4));
     let given = setting_given(
         latitude,
         whole_argument(1),
@@ -418,6 +554,13 @@ pub fn given_setting(program: &[u8]) -> Arguments
         whole_argument(3),
     );
     usable(program, given)
+}
+
+// The same of all words.
+pub fn given_setting(program: &[u8]) -> Arguments
+    ensures { λ r. ⌜ Usable r ⌝ }
+{
+    setting_in(program, os::arg_count())
 }
 
 // What comes next of standard input. Where reading fails, standard error says why.

@@ -2,6 +2,7 @@ pub mod Corners
 pub mod Entries
 pub mod Laws
 pub mod Order
+pub mod Plotter
 pub mod Refusals
 pub mod Settings
 pub mod Texts

@@ -6,13 +6,18 @@ use mathlib.Core.List.{List, [], _∷_}
 use Prim.Native.Nat.{ℕ}
 use lib.Dec.{eqb}
 
--- "Order where several apply"; 15 comes "after 11" (02, W-208); the settings have 18, "judged before 16", and 17 behind all others (02, W-209)
+-- "Order where several apply"; 15 comes "after 11" (02, W-208), 19 "before all others" (02, W-214); the settings have 18, "judged before 16", and 17
+-- behind all others (02, W-209)
 abbrev pub order : List ℕ
-order = 5 ∷ 2 ∷ 1 ∷ 3 ∷ 4 ∷ 6 ∷ 7 ∷ 12 ∷ 13 ∷ 10 ∷ 9 ∷ 14 ∷ 11 ∷ 15 ∷ 8 ∷ 18 ∷ 16 ∷ 17 ∷ []
+order = 19 ∷ 5 ∷ 2 ∷ 1 ∷ 3 ∷ 4 ∷ 6 ∷ 7 ∷ 12 ∷ 13 ∷ 10 ∷ 9 ∷ 14 ∷ 11 ∷ 15 ∷ 8 ∷ 18 ∷ 16 ∷ 17 ∷ []
 
 -- "in writing, 13 is judged on the text of a good list, so there it comes last but for 8"
 abbrev pub orderInWriting : List ℕ
 orderInWriting = 5 ∷ 2 ∷ 1 ∷ 3 ∷ 4 ∷ 6 ∷ 7 ∷ 12 ∷ 10 ∷ 9 ∷ 14 ∷ 11 ∷ 15 ∷ 13 ∷ 8 ∷ []
+
+-- in adding, 13 and 8 are judged of the bytes that are said to be the text before it is read, and at the end of the text with the cell
+abbrev pub orderInAdding : List ℕ
+orderInAdding = 4 ∷ 13 ∷ 8 ∷ 10 ∷ 9 ∷ 14 ∷ 15 ∷ 13 ∷ 8 ∷ []
 
 -- an entry's refusal numbers, each with the condition under which 01 gives it
 abbrev pub Chain : Type 1

@@ -20,9 +20,11 @@ use Rattle.geodetic.specs.GeodeticFix.{GeodeticRange}
 use Rattle.reading.specs.Ground.{Apart}
 use Rattle.reading.specs.Text.{Accepted}
 use Rattle.reading.specs.Laws.Written.{TextOf}
+use Rattle.reading.specs.TextReading.{profileOf, northOf, southOf}
 use Rattle.reader.specs.Check.{WrongVersion}
 use Rattle.listing.specs.List.{codesOf}
 use Rattle.writing.specs.Write.{Another, asksFor, textOf}
+use Rattle.adding.specs.Add.{cellsWith, textWith}
 use Rattle.entries.specs.Entries.{arrangement}
 use Rattle.entries.specs.Order.{Chain}
 
@@ -134,3 +136,18 @@ writeTests version depth n s codes room =
     (15, TextOf (asksFor version depth) n s (map cellOf codes) → ⊥) ∷
     (13, 65536 < length (textOf (asksFor version depth) (arrangement n s) codes)) ∷
     (8, room < length (textOf (asksFor version depth) (arrangement n s) codes)) ∷ []
+
+-- of the bytes that are lent and the number of them that are said to be the text. 15: no accepted text of its heading has the ground of the text and
+-- the cell
+abbrev pub addTests : (bytes : List ℕ) (end code : ℕ) → Chain
+addTests bytes end code =
+    let t : List ℕ = take end bytes in
+    (4, NoCell code) ∷
+    (13, 65536 < end) ∷
+    (8, length bytes < end) ∷
+    (10, WrongVersion t) ∷
+    (9, Accepted t → ⊥) ∷
+    (14, take 2 (drop 5 t) ≡ turnsOf code → ⊥) ∷
+    (15, TextOf (profileOf t) (northOf t) (southOf t) (cellsWith t (cellOf code)) → ⊥) ∷
+    (13, 65536 < length (textWith t (cellOf code))) ∷
+    (8, length bytes < length (textWith t (cellOf code))) ∷ []

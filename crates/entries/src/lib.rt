@@ -107,4 +107,28 @@ pub struct AskAnswer {
     pub refusal: u64,
     pub place: u64,
     pub covered: u64,
+    pub settled: u64,
+}
+
+#[repr(C)]
+pub struct MarkAnswer {
+    pub refusal: u64,
+    pub kind: u64,
+    pub numbers: [f64; 4],
+}
+
+#[repr(C)]
+pub struct FrameAnswer {
+    pub refusal: u64,
+    pub left: f64,
+    pub bottom: f64,
+    pub right: f64,
+    pub top: f64,
+}
+
+#[repr(C)]
+pub struct AddAnswer {
+    pub refusal: u64,
+    pub place: u64,
+    pub length: u64,
 }

@@ -1,4 +1,4 @@
 pub mod Code
 pub mod Cut
-pub mod Memory
+pub mod Recording
 pub mod Setting

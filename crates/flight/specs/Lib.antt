@@ -1,4 +1,4 @@
 pub mod Flight
 pub mod Laws
-pub mod Memory
+pub mod Recording
 pub mod Setting

@@ -1,16 +1,24 @@
-// A line of a flight: the code of its fix, and the recorder's memory after it.
+// A line of a flight: the code of its fix, and the text with its cell.
 ghost use mathlib.Core.Path.{_≡_};
+ghost use mathlib.Core.Bool.{true};
+ghost use mathlib.Core.List.{[]};
+ghost use Prim.Native.Nat.{_≤_};
 ghost use lib.ListN.{length, take};
-ghost use Rattle.track.specs.Track.{Held};
-ghost use Rattle.cell.specs.Cell.{found};
+ghost use Rattle.cell.specs.Cell.{IsArrangement, found};
+ghost use Rattle.code.specs.Code.{isCode};
+ghost use Rattle.code.specs.declared.Coded.the-variants.{Code as CodeIs};
+ghost use Rattle.reading.specs.declared.Profile.the-variants.{Full};
+ghost use Rattle.reading.specs.Written.{writtenText};
 ghost use Rattle.flight.specs.Setting.{latitudeRefusal, settingRefusal};
 ghost use Rattle.flight.specs.Flight.{lineRefusal, lineCell, noFix, lineCode};
-ghost use Rattle.flight.specs.Memory.{taken, takenMemory, countAfter};
+ghost use Rattle.flight.specs.Recording.{taken, takenText, Records, recordingAfter};
+use adding::Added;
 use cell::Arrangement;
 use cell::Found;
 use code::Coded;
 use decimal::FixLine;
-use track::Added;
+use reading::Profile;
+use writing::Written;
 
 // What the second number of a line is: z, the sine of the authalic latitude; or the sine of the geodetic latitude on an ellipsoid with this squared
 // eccentricity (02 W-203).
@@ -91,25 +99,62 @@ pub fn line_code(setting: Setting, line: &[u8]) -> Coded
     code::found_code(setting.arrangement, fix_cell(setting, longitude, second)) // `fix_cell` tests the setting
 }
 
-// How many codes the memory holds after a line; or it has no room for the line's cell; or the line is refused.
+// A flight recorded in a text: the text's length, and the code of the fix that was taken last, or a number that is no code.
+pub struct Recording {
+    pub length: usize,
+    pub last: u64,
+}
+
+// The recording with the line's fix, or the line is refused.
 pub enum Taken {
-    Count(usize),
-    Full,
+    Fix(Recording),
     Refused(u64),
 }
 
-// Takes the cell of a line's fix into the memory, whose first `count` codes are those that it holds.
-pub fn take_line(setting: Setting, line: &[u8], codes: &mut [u64], count: usize) -> Taken
-    requires { ⌜ Held (now codes) count ⌝ }
-    ensures { λ r. ⌜ r ≡ taken (lineCode setting (now (line .entry))) (length (now (codes .entry))) (take count (now (codes .entry))) ⌝ }
-    ensures { λ r. ⌜ now (codes .exit) ≡ takenMemory (lineCode setting (now (line .entry))) (now (codes .entry)) (take count (now (codes .entry))) ⌝ }
-    ensures { λ r. ⌜ Held (now (codes .exit)) (countAfter r count) ⌝ }
+// The text of no cell, in front of the room.
+pub fn begin(arrangement: Arrangement, text: &mut [u8]) -> Recording
+    requires { ⌜ IsArrangement arrangement × (65536 ≤ length (now text)) ⌝ }
+    ensures { λ r. ⌜ take (r .length) (now (text .exit)) ≡ writtenText Full (arrangement .north) (arrangement .south) [] ⌝ }
+    ensures { λ r. ⌜ Records (now (text .exit)) r × (length (now (text .exit)) ≡ length (now (text .entry))) ⌝ }
+{
+    let none = [0u64; 1];
+    let Written::Length(length) = writing::write(1, 15, arrangement, &none[..0], text) else {
+        return Recording {
+            length: 0,
+            last: u64::MAX,
+        };
+    };
+    Recording {
+        length: length as usize,
+        last: u64::MAX, // no fix yet
+    }
+}
+
+// Takes the cell of a code into the text: 13 where it would be too long, or 8 for its room. The cell of the last fix is in it already.
+fn take_code(text: &mut [u8], recording: Recording, code: u64) -> Taken
+    requires { ⌜ Records (now text) recording × (isCode code ≡ true) ⌝ }
+    ensures { λ r. ⌜ r ≡ taken (CodeIs code) (length (now (text .entry))) (take (recording .length) (now (text .entry))) ⌝ }
+    ensures { λ r. ⌜ now (text .exit) ≡ takenText (CodeIs code) (now (text .entry)) (take (recording .length) (now (text .entry))) ⌝ }
+    ensures { λ r. ⌜ Records (now (text .exit)) (recordingAfter r recording) ⌝ }
+{
+    if code == recording.last {
+        return Taken::Fix(recording);
+    }
+    match adding::add_to(Profile::Full, text, recording.length, code) {
+        Added::Length(length) => Taken::Fix(Recording { length, last: code }),
+        Added::Refused { refusal, place: _ } => Taken::Refused(refusal),
+    }
+}
+
+// Takes the cell of a line's fix into the text: the refusals of `line_code`, and 13 where the text would be too long, or 8 for its room.
+pub fn take_line(setting: Setting, line: &[u8], text: &mut [u8], recording: Recording) -> Taken
+    requires { ⌜ Records (now text) recording ⌝ }
+    ensures { λ r. ⌜ r ≡ taken (lineCode setting (now (line .entry))) (length (now (text .entry))) (take (recording .length) (now (text .entry))) ⌝ }
+    ensures { λ r. ⌜ now (text .exit) ≡ takenText (lineCode setting (now (line .entry))) (now (text .entry)) (take (recording .length) (now (text .entry))) ⌝ }
+    ensures { λ r. ⌜ Records (now (text .exit)) (recordingAfter r recording) ⌝ }
 {
     match line_code(setting, line) {
-        Coded::Code(code) => match track::add(codes, count, code) {
-            Added::Count(held) => Taken::Count(held),
-            Added::Refused(_) => Taken::Full,
-        },
+        Coded::Code(code) => take_code(text, recording, code),
         Coded::Refused(refusal) => Taken::Refused(refusal),
     }
 }

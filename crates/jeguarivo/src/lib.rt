@@ -2,35 +2,41 @@
 // zeros for the other answers, and no lent byte changed.
 ghost use mathlib.Core.Path.{_≡_};
 ghost use mathlib.Core.Bool.{cond};
-ghost use lib.ListN.{length};
+ghost use lib.ListN.{length, take};
 ghost use Rattle.logic.specs.Refusal.{given};
 ghost use Rattle.cell.specs.Cell.{IsCell};
-ghost use Rattle.code.specs.Code.{codeOf, arrangementOf, Placed, foundCode};
+ghost use Rattle.code.specs.Code.{codeOf, cellOf, arrangementOf, Placed, foundCode};
 ghost use Rattle.name.specs.Name.{codeNameRefusal, nameIn};
 ghost use Rattle.corner.specs.List.{cornerMemory};
 ghost use Rattle.reader.specs.Check.{checkedOf};
 ghost use Rattle.listing.specs.List.{listingRefusal, listed, codesIn};
 ghost use Rattle.asking.specs.Ask.{askRefusal, asked};
-ghost use Rattle.entries.specs.Texts.{checkNumbers, listNumbers, askNumbers, writtenNumbers};
+ghost use Rattle.adding.specs.Add.{textWith, addRefusal, added, placed};
+ghost use Rattle.entries.specs.Texts.{checkNumbers, listNumbers, askNumbers, writtenNumbers, addNumbers};
 ghost use Rattle.writing.specs.Write.{asksFor, writeRefusal, textOf, textIn, written};
 ghost use Rattle.entries.specs.Entries.{arrangement, codedAnswer, codeAnswer, codeOfCell, codeCell, nameAnswer, writtenName, parentCode, childCode};
 ghost use Rattle.entries.specs.Entries.{cellSize, cellShape, cornerCount, cellSquare, cellNucleus, cellVertices, pointCode, neighbourCode, fixCode, groundFix};
 ghost use Rattle.entries.specs.Entries.{geodeticZ, geodeticCode, cornerCells};
+ghost use Rattle.entries.specs.Plotter.{markNumbers, frameNumbers, pointMarked, codeMarked, frameBegun, frameGrown};
 ghost use Rattle.entries.specs.Settings.{freshHistory, changedHistory, backHistory, readSettings};
+use adding::Added;
 use asking::Asked;
 use cell::Arrangement;
 use cell::Cell;
 use cell::Found;
 use code::Coded;
 use corner::Cornered;
+use entries::AddAnswer;
 use entries::AskAnswer;
 use entries::CellAnswer;
 use entries::CheckAnswer;
 use entries::CodeAnswer;
 use entries::CountAnswer;
 use entries::FixAnswer;
+use entries::FrameAnswer;
 use entries::LengthAnswer;
 use entries::ListAnswer;
+use entries::MarkAnswer;
 use entries::NameAnswer;
 use entries::PointAnswer;
 use entries::ShapeAnswer;
@@ -44,6 +50,9 @@ use history::Settings;
 use history::SettingsAnswer;
 use listing::Listed;
 use name::Named;
+use plotter::Frame;
+use plotter::Framed;
+use plotter::Mark;
 use reader::Checked;
 use writing::Written;
 
@@ -540,15 +549,38 @@ pub extern "C" fn jgv_coverage_ask(text: &[u8], code: u64) -> AskAnswer
     ensures { λ r. ⌜ r ≡ askNumbers (asked (askRefusal (now (text .entry)) code) (now (text .entry)) code) ⌝ }
 {
     match asking::ask(text, code) {
-        Asked::Covered(covered) => AskAnswer {
+        Asked::Answer { covered, settled } => AskAnswer {
             refusal: 0,
             place: 0,
             covered: as_number(covered),
+            settled,
         },
         Asked::Refused { refusal, place } => AskAnswer {
             refusal,
             place,
             covered: 0, // of a question that is refused
+            settled: 0, // by nothing
+        },
+    }
+}
+
+// The first `length` of the lent bytes are said to be a text. 4 where the code is no cell's, 13 where that is longer than 65,536 bytes, 8 where it is
+// longer than the room, 10, 9 and 14 as in asking, 15 where the text with the cell would be outside its profile, 13 and 8 where it would be too long.
+#[no_mangle]
+pub extern "C" fn jgv_coverage_add(text: &mut [u8], length: u64, code: u64) -> AddAnswer
+    ensures { λ r. ⌜ r ≡ addNumbers (added (addRefusal (now (text .entry)) length code) (take length (now (text .entry))) code) ⌝ }
+    ensures { λ r. ⌜ now (text .exit) ≡ placed (addRefusal (now (text .entry)) length code) (textWith (take length (now (text .entry))) (cellOf code)) (now (text .entry)) ⌝ }
+{
+    match adding::add(text, length as usize, code) {
+        Added::Length(length) => AddAnswer {
+            refusal: 0,
+            place: 0, // of a text
+            length: length as u64,
+        },
+        Added::Refused { refusal, place } => AddAnswer {
+            refusal,
+            place,
+            length: 0, // of a cell that is refused
         },
     }
 }
@@ -558,6 +590,84 @@ fn as_number(yes: bool) -> u64
     ensures { λ r. ⌜ r ≡ cond yes 1 0 ⌝ }
 {
     if yes { 1 } else { 0 }
+}
+
+// A mark as numbers: kind 1 is a point, 2 a box, 0 nothing.
+fn mark_answer(mark: Mark) -> MarkAnswer
+    ensures { λ r. ⌜ r ≡ markNumbers mark ⌝ }
+{
+    match mark {
+        Mark::Point(x, y) => MarkAnswer {
+            refusal: 0,
+            kind: 1, // a point
+            numbers: [x, y, 0.0, 0.0],
+        },
+        Mark::Box(left, bottom, right, top) => MarkAnswer {
+            refusal: 0,
+            kind: 2, // a box
+            numbers: [left, bottom, right, top],
+        },
+        Mark::Nothing(refusal) => MarkAnswer {
+            refusal,
+            kind: 0, // nothing
+            numbers: [0.0; 4],
+        },
+    }
+}
+
+// Four edges as numbers.
+fn frame_answer(framed: Framed) -> FrameAnswer
+    ensures { λ r. ⌜ r ≡ frameNumbers framed ⌝ }
+{
+    match framed {
+        Framed::Edges(frame) => FrameAnswer {
+            refusal: 0,
+            left: frame.left,
+            bottom: frame.bottom,
+            right: frame.right,
+            top: frame.top,
+        },
+        Framed::Refused(refusal) => FrameAnswer {
+            refusal,
+            left: 0.0, // of no frame
+            bottom: 0.0, // and no bottom
+            right: 0.0, // and no right
+            top: 0.0, // and no top
+        },
+    }
+}
+
+// 19 where the side is not from 1 to 2^30, 5 where n or s is above 3, 7 where the point is outside the image (02 W-214).
+#[no_mangle]
+pub extern "C" fn jgv_mark_point(side: f64, n: u64, s: u64, x: i64, y: i64) -> MarkAnswer
+    ensures { λ r. ⌜ r ≡ pointMarked side n s x y ⌝ }
+{
+    let arrangement = Arrangement { north: n, south: s }; // `mark_point` tests it
+    mark_answer(plotter::mark_point(side, arrangement, x, y))
+}
+
+// 19 where the side is not from 1 to 2^30, 4 where the code is no cell's.
+#[no_mangle]
+pub extern "C" fn jgv_mark_code(side: f64, code: u64) -> MarkAnswer
+    ensures { λ r. ⌜ r ≡ codeMarked side code ⌝ }
+{
+    mark_answer(plotter::mark_code(side, code))
+}
+
+// 19 where the side is not from 1 to 2^30, 4 where the code is no cell's.
+#[no_mangle]
+pub extern "C" fn jgv_frame_first(side: f64, code: u64) -> FrameAnswer
+    ensures { λ r. ⌜ r ≡ frameBegun side code ⌝ }
+{
+    frame_answer(plotter::frame_first(side, code))
+}
+
+// 19 where the side is not from 1 to 2^30 or an edge of the frame is not a number, 4 where the code is no cell's.
+#[no_mangle]
+pub extern "C" fn jgv_frame_grow(side: f64, frame: Frame, code: u64) -> FrameAnswer
+    ensures { λ r. ⌜ r ≡ frameGrown side frame code ⌝ }
+{
+    frame_answer(plotter::frame_grow(side, frame, code))
 }
 
 // 5 where n or s is above 3, 2 where the resolution is above 15, 6 where the squared eccentricity is out of range (02 W-209).

@@ -1,3 +1,4 @@
+pub mod Bottom
 pub mod Fix
 pub mod Floors
 pub mod Held

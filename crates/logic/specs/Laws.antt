@@ -4,3 +4,4 @@ pub mod Longest
 pub mod Order
 pub mod Refusal
 pub mod Stores
+pub mod Table

@@ -4,3 +4,4 @@ pub mod Lists
 pub mod Longest
 pub mod Refusal
 pub mod Rise
+pub mod Table

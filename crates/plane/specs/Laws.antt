@@ -1,3 +1,4 @@
 pub mod Adjacent
 pub mod Faces
 pub mod Plane
+pub mod Small

@@ -6,6 +6,7 @@ pub mod FewestOf
 pub mod Fits
 pub mod Ground
 pub mod Heading
+pub mod Letters
 pub mod Loose
 pub mod Named
 pub mod Parse

@@ -3,6 +3,7 @@ pub mod Ground
 pub mod Heading
 pub mod Internal
 pub mod Laws
+pub mod Letters
 pub mod Loose
 pub mod Parse
 pub mod Place

@@ -1,52 +1,96 @@
 -- One line more is recorded. Assumes nothing.
-use mathlib.Core.Path.{_≡_, sym, ap, ap₂, _∙_, subst}
-use mathlib.Core.Bool.{Bool}
+use mathlib.Core.Path.{_≡_, refl, sym, ap, ap₂, _∙_, subst}
+use mathlib.Core.Logic.{_⊎_, ⊎-elim}
+use mathlib.Core.Bool.{Bool, cond}
 use mathlib.Core.List.{List, _++_}
-use Prim.Native.Nat.{ℕ, _≤_}
+use Prim.Native.Nat.{ℕ, suc, _+_, _≤_}
+use native.Mathlib.Numerals.{add-one}
+use native.Mathlib.Omega.{arith}
+use lib.Dec.{eqb}
 use lib.ListN.{length, take}
+use lib.Seq.{length-take-le}
 use Rattle.lines.specs.Fold.{OfBytes, OfEnded}
 use Rattle.lines.specs.Laws.Fold.{then-line, then-last}
 use Rattle.code.specs.declared.Coded.{Coded}
+use Rattle.flight.specs.declared.Recording.{Recording}
 use Rattle.flight.specs.declared.Setting.{Setting}
 use Rattle.flight.specs.declared.Taken.{Taken}
+use Rattle.flight.specs.declared.Taken.the-variants.{Fix, Refused}
 use Rattle.flight.specs.Flight.{lineCode}
-use Rattle.flight.specs.Memory.{taken, takenMemory, Memory, withCode, withLine}
-use Rattle.flight.specs.Laws.Memory.{memoryAs, taken-memory}
+use Rattle.flight.specs.Setting.{settingRefusal}
+use Rattle.flight.specs.Recording.{taken, takenText, Records, Flown, withCode, withLine}
+use Rattle.flight.specs.Laws.Recording.{flownAs, taken-flown, refused-bytes}
 use Rattle.flight.specs.Laws.Cut.{cut-line}
 use Rattle.console.specs.declared.LineRead.the-variants.{Line, Last}
 use Rattle.console.specs.Input.{Given}
-use Rattle.record.specs.declared.Memory.{Memory as Count}
-use Rattle.record.specs.declared.Recorded.{Recorded}
-use Rattle.record.specs.declared.Recorded.the-variants.{Whole}
-use Rattle.record.specs.declared.Text.{Text}
-use Rattle.record.specs.declared.Text.the-variants.{Length}
-use Rattle.record.specs.Recorded.{AllRecorded, FlightText}
+use Rattle.console.specs.declared.Arguments.{Arguments}
+use Rattle.console.specs.declared.Arguments.the-variants.{Good}
+use Rattle.console.specs.Arguments.{Usable}
+use Rattle.record.specs.declared.Flight.{Flight}
+use Rattle.record.specs.declared.File.{File}
+use Rattle.record.specs.declared.File.the-variants.{Path}
+use Rattle.record.specs.Recorded.{flownOf, lineCount, fixAdded, refusedAdded, kept, FileFits}
 
--- the memory as an answer of `flight::take_line` gives it
-pub line-taken :
-    (s : Setting) (line codes later : List ℕ) (count : ℕ) (full : Bool) {r : Taken} (q : Taken) → r ≡ taken (lineCode s line) (length codes) (take count codes) →
-    later ≡ takenMemory (lineCode s line) codes (take count codes) → r ≡ q → memoryAs q later count full ≡ withLine s (length codes) (take count codes, full) line
-line-taken s line codes later count full q e f h =
-    ap₂ (λ (x : Taken) (l : List ℕ). memoryAs x l count full) (sym h ∙ e) f ∙ taken-memory (lineCode s line) codes count full
+-- ---- what `flight::take_line` answered
 
-module _ (s : Setting) (room : List ℕ) (big : 43 ≤ length room) (size n : ℕ) {first : Memory} (m next : Memory) (o : OfEnded (withLine s size) first m)
-    (e : next ≡ withLine s size m (take n room)) where
+module _ (s : Setting) (line bytes later : List ℕ) (f r : Flight) where
+  abbrev t : List ℕ
+  t = take (f .recording .length) bytes
+
+  abbrev Recorded : Type 0
+  Recorded = flownOf later r ≡ withLine s (length bytes) (flownOf bytes f) line
+
+  pub fix-recorded : (m : Recording) → Fix m ≡ taken (lineCode s line) (length bytes) t → later ≡ takenText (lineCode s line) bytes t → fixAdded f m r → Recorded
+  fix-recorded m e g d =
+      let n : r .fixes ≡ suc (f .fixes) = omega (arith, d .1) in
+      (λ i. record { text = take (d .0 i .length) later; fixes = n i; full = d .2 i; bad = d .3 i })
+      ∙ ap₂ (λ (x : Taken) (l : List ℕ). flownAs x l (flownOf bytes f)) e g
+      ∙ taken-flown (lineCode s line) bytes (flownOf bytes f)
+
+  pub refused-recorded : (q : ℕ) → Refused q ≡ taken (lineCode s line) (length bytes) t → later ≡ takenText (lineCode s line) bytes t → refusedAdded f q r → Recorded
+  refused-recorded q e g d =
+      let same : later ≡ bytes = g ∙ refused-bytes (lineCode s line) bytes t e in
+      let full : r .full ≡ cond (eqb q 13) (suc (f .full)) (f .full) = d .2 ∙ ap (λ (n : ℕ). cond (eqb q 13) n (f .full)) (add-one (f .full)) in
+      let bad : r .bad ≡ cond (eqb q 13) (f .bad) (suc (f .bad)) = d .3 ∙ ap (λ (n : ℕ). cond (eqb q 13) (f .bad) n) (add-one (f .bad)) in
+      (λ i. record { text = take (d .0 i .length) (same i); fixes = d .1 i; full = full i; bad = bad i })
+      ∙ ap₂ (λ (x : Taken) (l : List ℕ). flownAs x l (flownOf bytes f)) e g
+      ∙ taken-flown (lineCode s line) bytes (flownOf bytes f)
+
+-- ---- a line of the input
+
+module _ (s : Setting) (room : List ℕ) (big : 43 ≤ length room) (size n : ℕ) {first : Flown} (f next : Flown) (o : OfEnded (withLine s size) first f)
+    (e : next ≡ withLine s size f (take n room)) where
   -- a line that was cut to its room
-  cut : (x : List ℕ) → take n room ≡ take (length room) x → withLine s size m x ≡ next
-  cut x f = sym (e ∙ ap (λ (c : Coded). withCode size c m) (ap (lineCode s) f ∙ cut-line s (length room) x big))
+  cut : (x : List ℕ) → take n room ≡ take (length room) x → withLine s size f x ≡ next
+  cut x g = sym (e ∙ ap (λ (c : Coded). withCode size c f) (ap (lineCode s) g ∙ cut-line s (length room) x big))
 
   -- a line that ended
   pub line-recorded : (left bytes : List ℕ) (from end : ℕ) → Given left bytes room (Line n from end) → OfEnded (withLine s size) first next
-  line-recorded left bytes from end (more, x, u, g, f, i, j, l) = subst (OfEnded (withLine s size) first) (cut x f) (then-line (withLine s size) x u o)
+  line-recorded left bytes from end (more, x, u, g, h, i, j, l) = subst (OfEnded (withLine s size) first) (cut x h) (then-line (withLine s size) x u o)
 
   -- the last line, which has no end
   pub last-recorded : (left bytes : List ℕ) → Given left bytes room (Last n) → OfBytes (withLine s size) first next
-  last-recorded left bytes (more, u, l, f, i) = subst (OfBytes (withLine s size) first) (cut (left ++ more) f) (then-last (withLine s size) (left ++ more) u l o)
+  last-recorded left bytes (more, u, l, h, i) = subst (OfBytes (withLine s size) first) (cut (left ++ more) h) (then-last (withLine s size) (left ++ more) u l o)
 
--- ---- what is handed on
+-- ---- keeping the text changes nothing else
 
-pub whole-held : (s : Setting) (room : ℕ) (codes : List ℕ) (m : Count) {r : Recorded} → AllRecorded s room codes r → r ≡ Whole m → m .count ≤ length codes
-whole-held s room codes m h e = (subst (AllRecorded s room codes) e h) .0 .fits
+module _ {f r : Flight} (h : (r ≡ f) ⊎ (r ≡ kept f)) where
+  pub kept-flown : (bytes : List ℕ) → flownOf bytes r ≡ flownOf bytes f
+  kept-flown bytes = ⊎-elim (λ e. ap (flownOf bytes) e) (λ e. ap (flownOf bytes) e) h
 
-pub text-length : (s : Setting) (codes : List ℕ) (m : Count) (room : ℕ) (text : List ℕ) (n : ℕ) {r : Text} → FlightText s codes m room text r → r ≡ Length n → n ≤ length text
-text-length s codes m room text n h e = (subst (FlightText s codes m room text) e h) .2
+  pub kept-recording : r .recording ≡ f .recording
+  kept-recording = ⊎-elim (λ e. ap (λ (x : Flight). x .recording) e) (λ e. ap (λ (x : Flight). x .recording) e) h
+
+  pub kept-count : lineCount r ≡ lineCount f
+  kept-count = ⊎-elim (λ e. ap lineCount e) (λ e. ap lineCount e) h
+
+-- ---- what is given
+
+pub path-given : (path : List ℕ) {r : File} (n : ℕ) → FileFits path r → r ≡ Path n → n ≤ length path
+path-given path n h e = subst (FileFits path) e h
+
+pub path-short : (path : List ℕ) {r : File} (n : ℕ) → FileFits path r → r ≡ Path n → length path ≡ 4080 → length (take n path) ≤ 4096
+path-short path n h e l = omega (arith, length-take-le n path (path-given path n h e), path-given path n h e)
+
+pub setting-used : {r : Arguments} (s : Setting) → Usable r → r ≡ Good s → settingRefusal s ≡ 0
+setting-used s h e = subst Usable e h

@@ -1,70 +1,171 @@
-// record n s resolution [eccentricity]: reads a flight, a line `longitude z` for each fix, and writes the coverage text of the cells flown. With an
-// eccentricity the lines are `longitude sine` (02 W-203).
+// record n s resolution [eccentricity] [to FILE]: reads a flight, a line `longitude z` for each fix, and writes the coverage text of the cells flown.
+// With an eccentricity the lines are `longitude sine` (02 W-203). With a file the text so far is in it too, after each minute's worth of lines. The
+// text is all that is held. record settings FILE [REVISION] [to FILE]: the same with the settings of a revision, the newest if none is given (02 W-209).
 ghost use mathlib.Core.Path.{_≡_};
-ghost use Prim.Native.Nat.{_≤_};
-ghost use lib.ListN.{length, take};
-ghost use Rattle.track.specs.Track.{Held};
-ghost use Rattle.flight.specs.Memory.{withLine};
-ghost use Rattle.record.specs.Recorded.{AllRecorded, FlightText};
+ghost use mathlib.Core.Logic.{_⊎_};
+ghost use Prim.Native.Nat.{_+_, _≤_, _<_};
+ghost use lib.ListN.{length};
+ghost use Rattle.lines.specs.Fold.{OfBytes};
+ghost use Rattle.flight.specs.Setting.{settingRefusal};
+ghost use Rattle.flight.specs.Recording.{Records, withLine, started};
+ghost use Rattle.record.specs.Recorded.{fixAdded, refusedAdded, flownOf, lineCount, kept, FileFits};
 use console::Arguments;
 use console::LineRead;
+use flight::Recording;
 use flight::Setting;
 use flight::Taken;
-use writing::Written;
 
-// How many codes the memory holds, and whether some cell had no room.
-struct Memory {
-    count: usize,
-    full: bool,
+// So many lines are a minute of a flight, at twenty fixes a second.
+const MINUTE: u64 = 1_200;
+
+// A flight so far: its text, how many fixes were taken, how many lines were refused, with 13 and with another number; and whether the text has
+// changed since it was kept.
+struct Flight {
+    recording: Recording,
+    fixes: u64,
+    full: u64,
+    bad: u64,
+    changed: bool,
 }
 
-// What a flight came to, or the input failed.
-enum Recorded {
-    Whole(Memory),
-    Failed,
-}
-
-// How many bytes of a text stand in front, or there is none.
-enum Text {
-    Length(usize),
+// A file's path of so many bytes; or there is none, or none that can be used.
+enum File {
+    Path(usize),
     None,
+    Wrong,
 }
 
-// One line, with its number. A fix that is refused, and a line that is no fix, is said and skipped.
+// The flight before its first line.
+fn begin(setting: Setting, text: &mut [u8]) -> Flight
+    requires { ⌜ (settingRefusal setting ≡ 0) × (65536 ≤ length (now text)) ⌝ }
+    ensures { λ r. ⌜ flownOf (now (text .exit)) r ≡ started setting ⌝ }
+    ensures { λ r. ⌜ Records (now (text .exit)) (r .recording) × (length (now (text .exit)) ≡ length (now (text .entry))) ⌝ }
+{
+    let recording = flight::begin(setting.arrangement, text);
+    Flight {
+        recording,
+        fixes: 0,
+        full: 0,
+        bad: 0,
+        changed: false,
+    }
+}
+
+// The flight with a fix. One cell more changes the text exactly where it changes its length.
+fn with_fix(flight: Flight, recording: Recording) -> Flight
+    requires { ⌜ lineCount flight < 18446744073709551615 ⌝ }
+    ensures { λ r. ⌜ fixAdded flight recording r ⌝ }
+{
+    let before = flight.recording;
+    let mut changed = flight.changed;
+    if recording.length != before.length {
+        changed = true;
+    }
+    Flight {
+        recording, // with the fix
+        fixes: flight.fixes + 1,
+        full: flight.full,
+        bad: flight.bad,
+        changed,
+    }
+}
+
+// The flight with a refused line.
+fn with_refused(flight: Flight, refusal: u64) -> Flight
+    requires { ⌜ lineCount flight < 18446744073709551615 ⌝ }
+    ensures { λ r. ⌜ refusedAdded flight refusal r ⌝ }
+{
+    let recording = flight.recording;
+    if refusal == 13 {
+        return Flight {
+            recording,
+            fixes: flight.fixes,
+            full: flight.full + 1,
+            bad: flight.bad,
+            changed: flight.changed,
+        };
+    }
+    Flight {
+        recording,
+        fixes: flight.fixes,
+        full: flight.full,
+        bad: flight.bad + 1,
+        changed: flight.changed,
+    }
+}
+
+// One line, with its number. A line that is refused is said, and the flight goes on.
 fn record_line(
     setting: Setting,
     line: &[u8],
     number: u64,
-    codes: &mut [u64],
-    memory: Memory,
-) -> Memory
-    requires { ⌜ Held (now codes) (memory .count) ⌝ }
-    ensures { λ r. ⌜ Held (now (codes .exit)) (r .count) ⌝ }
-    ensures { λ r. ⌜ (take (r .count) (now (codes .exit)), r .full) ≡ withLine setting (length (now (codes .entry))) (take (memory .count) (now (codes .entry)), memory .full) (now (line .entry)) ⌝ }
+    text: &mut [u8],
+    flight: Flight,
+) -> Flight
+    requires { ⌜ Records (now text) (flight .recording) × (lineCount flight < number) ⌝ }
+    ensures { λ r. ⌜ flownOf (now (text .exit)) r ≡ withLine setting (length (now (text .entry))) (flownOf (now (text .entry)) flight) (now (line .entry)) ⌝ }
+    ensures { λ r. ⌜ Records (now (text .exit)) (r .recording) ⌝ }
 {
-    let count = memory.count;
-    let full = memory.full;
-    match flight::take_line(setting, line, codes, count) {
-        Taken::Count(held) => Memory { count: held, full },
-        Taken::Full => Memory { count, full: true },
+    match flight::take_line(setting, line, text, flight.recording) {
+        Taken::Fix(recording) => with_fix(flight, recording),
         Taken::Refused(refusal) => {
             console::say_line(b"record", number, refusal);
-            Memory { count, full }
+            with_refused(flight, refusal)
         }
     }
 }
 
-// All lines of the flight. No flight has so many lines.
-fn record_all(setting: Setting, bytes: &mut [u8], room: &mut [u8], codes: &mut [u64]) -> Recorded
-    requires { ⌜ 43 ≤ length (now room) ⌝ }
-    ensures { λ r. ⌜ AllRecorded setting (length (now (codes .entry))) (now (codes .exit)) r ⌝ }
+// Keeps the text in its file, if there is one.
+fn keep_text(path: &[u8], text: &[u8], flight: Flight) -> Flight
+    requires { ⌜ (length (now path) ≤ 4096) × (flight .recording .length ≤ length (now text)) ⌝ }
+    ensures { λ r. ⌜ (r ≡ flight) ⊎ (r ≡ kept flight) ⌝ }
+{
+    let recording = flight.recording;
+    if path.len() == 0 {
+        return flight;
+    }
+    if !console::keep(b"record", path, &text[..recording.length]) {
+        return flight;
+    }
+    Flight {
+        recording,
+        fixes: flight.fixes,
+        full: flight.full,
+        bad: flight.bad,
+        changed: false, // it is in the file
+    }
+}
+
+// The same after each minute's worth of lines in which the text has changed.
+fn checkpoint(path: &[u8], text: &[u8], number: u64, flight: Flight) -> Flight
+    requires { ⌜ (length (now path) ≤ 4096) × (flight .recording .length ≤ length (now text)) ⌝ }
+    ensures { λ r. ⌜ (r ≡ flight) ⊎ (r ≡ kept flight) ⌝ }
+{
+    if number % MINUTE != 0 {
+        return flight;
+    }
+    if !flight.changed {
+        return flight;
+    }
+    keep_text(path, text, flight)
+}
+
+// All lines of the flight, or where the input fails those that ended before. No flight has so many lines.
+fn record_all(
+    setting: Setting,
+    path: &[u8],
+    bytes: &mut [u8],
+    room: &mut [u8],
+    text: &mut [u8],
+    first: Flight,
+) -> Flight
+    requires { ⌜ (43 ≤ length (now room)) × Records (now text) (first .recording) × (flownOf (now text) first ≡ started setting) × (length (now path) ≤ 4096) ⌝ }
+    ensures { λ r. ⌜ OfBytes (withLine setting (length (now (text .entry)))) (started setting) (flownOf (now (text .exit)) r) ⌝ }
+    ensures { λ r. ⌜ Records (now (text .exit)) (r .recording) ⌝ }
 {
     let mut from: usize = 0;
     let mut end: usize = 0;
-    let mut memory = Memory {
-        count: 0,
-        full: false,
-    };
+    let mut flight = first;
     let mut number: u64 = 0;
     while number < u64::MAX {
         number = number + 1;
@@ -74,66 +175,100 @@ fn record_all(setting: Setting, bytes: &mut [u8], room: &mut [u8], codes: &mut [
                 from: next,
                 end: stop,
             } => {
-                memory = record_line(setting, &room[..length], number, codes, memory);
+                let with_line = record_line(setting, &room[..length], number, text, flight);
+                flight = checkpoint(path, text, number, with_line);
                 from = next;
                 end = stop;
             }
             LineRead::Last { length } => {
-                return Recorded::Whole(record_line(
-                    setting,
-                    &room[..length],
-                    number,
-                    codes,
-                    memory,
-                ));
+                return record_line(setting, &room[..length], number, text, flight);
             }
-            LineRead::End => return Recorded::Whole(memory),
-            LineRead::Failed => return Recorded::Failed,
+            LineRead::End => return flight,
+            LineRead::Failed => return flight,
         }
     }
-    Recorded::Failed
+    flight
 }
 
-// The text of the cells flown, whole or not at all.
-fn put_text(setting: Setting, codes: &[u64], memory: Memory, text: &mut [u8]) -> Text
-    requires { ⌜ memory .count ≤ length (now codes) ⌝ }
-    ensures { λ r. ⌜ FlightText setting (now (codes .entry)) memory (length (now (text .entry))) (now (text .exit)) r ⌝ }
+// How many fixes were taken, and how many lines refused, by number.
+fn say_counts(flight: Flight) {
+    console::say(b"record: ");
+    console::say_whole(flight.fixes);
+    console::say(b" fixes taken, ");
+    console::say_whole(flight.bad);
+    console::say(b" lines refused with 6, ");
+    console::say_whole(flight.full);
+    console::say(b" with 13\n");
+}
+
+// How many words come before `to FILE`, of so many. These are three or more, the program's own name among them.
+fn words_before(count: usize) -> usize
+    ensures { λ r. ⌜ r ≤ count ⌝ }
 {
-    let count = memory.count;
-    if memory.full {
-        console::say(b"record: nothing is written, there are more than 65,536 cells: ");
-        console::say_refusal(13);
-        return Text::None;
+    if count < 5 {
+        return count;
     }
-    match writing::write(1, 15, setting.arrangement, &codes[..count], text) {
-        Written::Length(length) => Text::Length(length as usize),
-        Written::Refused(refusal) => {
-            console::say(b"record: nothing is written: ");
-            console::say_refusal(refusal);
-            Text::None
-        }
+    if console::argument_is(count - 2, b"to") {
+        return count - 2;
     }
+    count
+}
+
+// The file named by the last of so many words, if it is named.
+fn file_given(words: usize, count: usize, path: &mut [u8]) -> File
+    ensures { λ r. ⌜ FileFits (now (path .exit)) r ⌝ }
+{
+    if words >= count {
+        return File::None;
+    }
+    let length = os::arg(count - 1, path);
+    if length == 0 {
+        return File::Wrong; // none, or too long
+    }
+    File::Path(length)
+}
+
+fn say_usage() {
+    console::say(
+        b"usage: record n s resolution [eccentricity] [to FILE] < flight > text\n       record settings FILE [REVISION] [to FILE] < flight > text\n",
+    );
+    console::say(
+        b"  n and s are 0 to 3, the resolution is 0 to 15; a flight has a line `longitude z` for each fix\n",
+    );
+    console::say(
+        b"  with a squared eccentricity, 0 to 10000000000 in units of 10^-12, the lines are `longitude sine`; so they are with settings\n",
+    );
+    console::say(
+        b"  with a file the text so far is in it too, after each 1200 lines and at the end\n",
+    );
+}
+
+// The flight from its first line to its last, and what it came to.
+fn record_flight(setting: Setting, path: &[u8])
+    requires { ⌜ (settingRefusal setting ≡ 0) × (length (now path) ≤ 4096) ⌝ }
+{
+    let mut bytes = [0u8; 4096];
+    let mut room = [0u8; 64];
+    let mut text = [0u8; 65536];
+    let begun = begin(setting, &mut text);
+    let first = keep_text(path, &text, begun);
+    let flight = record_all(setting, path, &mut bytes, &mut room, &mut text, first);
+    keep_text(path, &text, flight);
+    console::print_first(&text, flight.recording.length);
+    say_counts(flight);
 }
 
 fn main() {
-    let Arguments::Good(setting) = console::given_setting(b"record") else {
-        console::say(b"usage: record n s resolution [eccentricity] < flight > text\n");
-        console::say(
-            b"  n and s are 0 to 3, the resolution is 0 to 15; a flight has a line `longitude z` for each fix\n",
-        );
-        console::say(
-            b"  with a squared eccentricity, 0 to 10000000000 in units of 10^-12, the lines are `longitude sine`\n",
-        );
+    let count = os::arg_count();
+    let words = words_before(count);
+    let Arguments::Good(setting) = console::setting_in(b"record", words) else {
+        say_usage();
         return;
     };
-    let mut bytes = [0u8; 65536];
-    let mut room = [0u8; 64];
-    let mut codes = [0u64; 65536];
-    let Recorded::Whole(memory) = record_all(setting, &mut bytes, &mut room, &mut codes) else {
-        return;
-    };
-    let Text::Length(length) = put_text(setting, &codes, memory, &mut bytes) else {
-        return;
-    };
-    console::print_first(&bytes, length); // the flight's bytes are read, so their room is the text's
+    let mut path = [0u8; 4080];
+    match file_given(words, count, &mut path) {
+        File::Path(length) => record_flight(setting, &path[..length]),
+        File::None => record_flight(setting, &path[..0]),
+        File::Wrong => say_usage(),
+    }
 }

@@ -23,6 +23,6 @@ checkLine (checked-as.Refused refusal place) = fourNumbers refusal place 0 0 32 
 
 -- "`yes`, `no` or the refusal number"
 unfoldable pub askedLine : Asked → List ℕ
-askedLine (asked-as.Covered true) = 121 ∷ 101 ∷ 115 ∷ 10 ∷ []
-askedLine (asked-as.Covered false) = 110 ∷ 111 ∷ 10 ∷ []
+askedLine (asked-as.Answer true settled) = 121 ∷ 101 ∷ 115 ∷ 10 ∷ []
+askedLine (asked-as.Answer false settled) = 110 ∷ 111 ∷ 10 ∷ []
 askedLine (asked-as.Refused refusal place) = numberLine refusal

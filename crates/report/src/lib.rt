@@ -141,7 +141,10 @@ pub fn put_asked(asked: Asked, out: &mut [u8]) -> usize
     ensures { λ r. ⌜ r ≤ 21 ⌝ }
 {
     match asked {
-        Asked::Covered(covered) => {
+        Asked::Answer {
+            covered,
+            settled: _,
+        } => {
             if covered {
                 return bytes::copy(b"yes\n", out);
             }

@@ -2,12 +2,14 @@
 // the settings of the office, with their last 32 revisions, in a file (02 W-209). A new history is written beside the old one, brought to the disk and
 // then put in its place, so that a failure at any moment leaves the one or the other.
 ghost use mathlib.Core.Path.{_≡_};
-ghost use Prim.Native.Nat.{_+_, _≤_};
-ghost use lib.ListN.{length, take};
+ghost use mathlib.Core.Bool.{true};
+ghost use Prim.Native.Nat.{_≤_};
+ghost use lib.ListN.{length};
+ghost use Rattle.encoding.specs.Encoding.{encodingOf};
+ghost use Rattle.console.specs.Beside.{besideOf};
 ghost use Rattle.report.specs.Put.{Put};
 ghost use Rattle.settings.specs.Asked.{settingsGiven, askedFresh, askedChange, askedBack, askedRead};
 ghost use Rattle.settings.specs.Answered.{answered, changedFrom, readLine};
-ghost use Rattle.settings.specs.Paths.{newName, Folder};
 use console::Loaded;
 use decimal::Whole;
 use history::History;
@@ -216,130 +218,43 @@ fn before(path: &[u8], change: Change) -> Loaded {
     }
 }
 
-// The name of the new file, the old one's with `.new` behind it: where it ends.
-fn new_name(path: &[u8], name: &mut [u8]) -> usize
-    requires { ⌜ length (now path) + 4 ≤ length (now name) ⌝ }
-    ensures { λ r. ⌜ r ≡ length (newName (now (path .entry))) ⌝ }
-    ensures { λ r. ⌜ r ≤ length (now (name .exit)) ⌝ }
-    ensures { λ r. ⌜ take r (now (name .exit)) ≡ newName (now (path .entry)) ⌝ }
-{
-    let end = bytes::copy(path, name);
-    name[end] = b'.';
-    name[end + 1] = b'n';
-    name[end + 2] = b'e';
-    name[end + 3] = b'w';
-    end + 4
-}
-
-// The new file, open for writing, or a negative number. It stands from before the old one is read until it takes its place, so no two changes are made
-// at once; and where it is found, another is being made, or one was cut off.
-fn open_new(name: &[u8]) -> i32 {
-    let fd = os::create(name);
+// Makes the file beside the old one, in which the new history will be written. It stands from before the old one is read until it takes its place, so no
+// two changes are made at once; and where it is found, another is being made, or one was cut off.
+fn claimed(beside: &[u8]) -> bool {
+    let fd = os::create(beside);
     if fd < 0 {
         let taken = os::errno() == libc::EEXIST;
-        console::say_failure(b"settings", name);
+        console::say_failure(b"settings", beside);
         if taken {
             console::say(
                 b"settings: another change is being made, or one was cut off; if none is being made, remove that file\n",
             );
         }
-    }
-    fd
-}
-
-// The new file is no longer wanted.
-fn remove(name: &[u8]) {
-    if os::unlink(name) != 0 {
-        console::say_failure(b"settings", name);
-    }
-}
-
-// Whether the bytes are in the file and on the disk, and the file is closed. Where that fails, standard error says why.
-fn written(fd: i32, name: &[u8], bytes: &[u8]) -> bool {
-    if !io::write_all(fd, bytes) {
-        console::say_failure(b"settings", name);
-        libc::close(fd);
         return false;
-    }
-    if libc::fsync(fd) != 0 {
-        console::say_failure(b"settings", name);
-        libc::close(fd);
-        return false;
-    }
-    if libc::close(fd) != 0 {
-        console::say_failure(b"settings", name);
-        return false;
-    }
-    true
-}
-
-// How much of a path is its folder, with the slash: nothing where there is none.
-fn folder_length(path: &[u8]) -> usize
-    ensures { λ r. ⌜ Folder (now (path .entry)) r ⌝ }
-{
-    let mut n = path.len();
-    while n > 0 {
-        let before = n - 1;
-        if path[before] == b'/' {
-            return n;
-        }
-        n = before;
-    }
-    0
-}
-
-// Brings a folder to the disk, and with it which file has which name.
-fn sync(folder: &[u8]) {
-    let fd = os::open_read(folder);
-    if fd < 0 {
-        console::say_failure(b"settings", folder);
-        return;
-    }
-    if libc::fsync(fd) != 0 {
-        console::say_failure(b"settings", folder);
     }
     libc::close(fd);
-}
-
-fn sync_folder(path: &[u8]) {
-    let n = folder_length(path);
-    if n == 0 {
-        sync(b".");
-        return;
-    }
-    sync(&path[..n]);
-}
-
-// Whether the history is in its place. Until the new file takes the name the old one has it.
-fn put_in_place(fd: i32, name: &[u8], path: &[u8], history: History) -> bool {
-    let mut bytes = [0u8; 263];
-    encoding::encode(history, &mut bytes);
-    if !written(fd, name, &bytes) {
-        return false;
-    }
-    if os::rename(name, path) != 0 {
-        console::say_failure(b"settings", path);
-        return false;
-    }
-    sync_folder(path);
     true
 }
 
-// A change: to standard output the revision that it made.
-fn change_file(path: &[u8], name: &[u8], change: Change) {
-    let fd = open_new(name);
-    if fd < 0 {
-        return;
+// The history after a change and, where there is one, its bytes.
+fn changed_bytes(loaded: Loaded, change: Change, bytes: &mut [u8]) -> Loaded
+    requires { ⌜ 263 ≡ length (now bytes) ⌝ }
+    ensures { λ r. ⌜ r ≡ changedFrom loaded change ⌝ }
+    ensures { λ r. ⌜ (r .done ≡ true → now (bytes .exit) ≡ encodingOf (r .history)) ⌝ }
+{
+    let after = changed(loaded, change);
+    if !after.done {
+        return after; // nothing is encoded
     }
-    let loaded = changed(before(path, change), change);
-    if !loaded.done {
-        libc::close(fd);
-        remove(name);
-        return;
-    }
-    let history = loaded.history;
-    if !put_in_place(fd, name, path, history) {
-        remove(name);
+    encoding::encode(after.history, bytes);
+    after
+}
+
+// Puts a history's bytes in the file's place: to standard output its newest revision, which the change made.
+fn put_in_place(path: &[u8], history: History, bytes: &[u8])
+    requires { ⌜ (length (now path) ≤ 4096) × (now bytes ≡ encodingOf history) ⌝ }
+{
+    if !console::keep(b"settings", path, bytes) {
         return;
     }
     let mut out = [0u8; 21];
@@ -347,12 +262,28 @@ fn change_file(path: &[u8], name: &[u8], change: Change) {
     console::print_first(&out, end);
 }
 
+// A change of the history in a file, by way of the file beside it.
+fn change_file(path: &[u8], beside: &[u8], change: Change)
+    requires { ⌜ (length (now path) ≤ 4096) × (now beside ≡ besideOf (now path)) ⌝ }
+{
+    if !claimed(beside) {
+        return;
+    }
+    let mut bytes = [0u8; 263];
+    let after = changed_bytes(before(path, change), change, &mut bytes);
+    if !after.done {
+        console::remove(b"settings", beside);
+        return;
+    }
+    put_in_place(path, after.history, &bytes);
+}
+
 fn make_change(path: &[u8], change: Change)
     requires { ⌜ length (now path) ≤ 4096 ⌝ }
 {
-    let mut name = [0u8; 4100];
-    let end = new_name(path, &mut name);
-    change_file(path, &name[..end], change);
+    let mut room = [0u8; 4101];
+    let end = console::beside(path, &mut room);
+    change_file(path, &room[..end], change);
 }
 
 // Puts the settings of a revision in front, or nothing where it is not kept: where they end.

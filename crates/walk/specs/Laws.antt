@@ -1,2 +1,3 @@
+pub mod LetterWalk
 pub mod Past
 pub mod Walk

@@ -1,3 +1,4 @@
 pub mod Laws
+pub mod LetterWalk
 pub mod Past
 pub mod Walk

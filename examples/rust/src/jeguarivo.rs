@@ -15,7 +15,7 @@ macro_rules! answers {
     ($($name:ident $(at $place:ident)? { $($field:ident: $type:ty),* })*) => {$(
         /// An answer as the library gives it; its first field is the refusal.
         #[repr(C)]
-        #[derive(Clone, Copy, Debug, Default, PartialEq, Eq)]
+        #[derive(Clone, Copy, Debug, Default, PartialEq)]
         pub struct $name {
             pub refusal: u64,
             $(pub $place: u64,)?
@@ -52,9 +52,29 @@ answers! {
     Z { z: i64 }
     Check at place { version: u64, depth: u64, n: u64, s: u64, cells: u64, size: u64 }
     List at place { count: u64 }
-    Ask at place { covered: u64 }
+    Ask at place { covered: u64, settled: u64 }
+    Add at place { length: u64 }
+    MarkAnswer { kind: u64, numbers: [f64; 4] }
+    FrameAnswer { left: f64, bottom: f64, right: f64, top: f64 }
     HistoryAnswer { history: History }
     SettingsAnswer { settings: Settings }
+}
+
+/// Four edges in metres.
+#[repr(C)]
+#[derive(Clone, Copy, Debug, PartialEq)]
+pub struct Frame {
+    pub left: f64,
+    pub bottom: f64,
+    pub right: f64,
+    pub top: f64,
+}
+
+/// What the plotter draws, in metres.
+#[derive(Clone, Copy, Debug, PartialEq)]
+pub enum Mark {
+    Point { x: f64, y: f64 },
+    Box(Frame),
 }
 
 /// Settings: an arrangement, the working resolution and the squared eccentricity.
@@ -102,6 +122,11 @@ unsafe extern "C" {
         version: u64, depth: u64, n: u64, s: u64, codes: *const u64, count: usize, text: *mut u8, room: usize,
     ) -> Length;
     pub fn jgv_coverage_ask(text: *const u8, length: usize, code: u64) -> Ask;
+    pub fn jgv_coverage_add(text: *mut u8, room: usize, length: u64, code: u64) -> Add;
+    pub safe fn jgv_mark_point(side: f64, n: u64, s: u64, x: i64, y: i64) -> MarkAnswer;
+    pub safe fn jgv_mark_code(side: f64, code: u64) -> MarkAnswer;
+    pub safe fn jgv_frame_first(side: f64, code: u64) -> FrameAnswer;
+    pub safe fn jgv_frame_grow(side: f64, frame: Frame, code: u64) -> FrameAnswer;
     pub safe fn jgv_settings_fresh(n: u64, s: u64, resolution: u64, eccentricity: u64) -> HistoryAnswer;
     pub safe fn jgv_settings_change(
         history: History, revision: u64, n: u64, s: u64, resolution: u64, eccentricity: u64,
@@ -140,6 +165,10 @@ pub mod lent {
 
     pub fn coverage_ask(text: &[u8], code: u64) -> Ask {
         unsafe { jgv_coverage_ask(text.as_ptr(), text.len(), code) }
+    }
+
+    pub fn coverage_add(text: &mut [u8], length: u64, code: u64) -> Add {
+        unsafe { jgv_coverage_add(text.as_mut_ptr(), text.len(), length, code) }
     }
 }
 
@@ -250,9 +279,50 @@ pub fn coverage_write_handheld<'a>(depth: u64, n: u64, s: u64, codes: &[u64], te
     Ok(&text[..written.length as usize])
 }
 
-/// Refused with 14 where the code is of another arrangement than the text.
-pub fn coverage_ask(text: &[u8], code: u64) -> Answer<bool> {
-    Ok(lent::coverage_ask(text, code).read()?.covered == 1)
+/// Whether all finest cells of a cell are covered (1 or 0), and how many letters and digits of the text settle that. Refused with 14 where the code is of
+/// another arrangement than the text.
+pub fn coverage_ask(text: &[u8], code: u64) -> Answer<Ask> {
+    lent::coverage_ask(text, code).read()
+}
+
+/// Kind 1 is a point, 2 a box.
+fn mark(answer: MarkAnswer) -> Answer<Mark> {
+    let MarkAnswer { kind, numbers: [left, bottom, right, top], .. } = answer.read()?;
+    Ok(match kind {
+        1 => Mark::Point { x: left, y: bottom },
+        _ => Mark::Box(Frame { left, bottom, right, top }),
+    })
+}
+
+fn frame(answer: FrameAnswer) -> Answer<Frame> {
+    let FrameAnswer { left, bottom, right, top, .. } = answer.read()?;
+    Ok(Frame { left, bottom, right, top })
+}
+
+/// A point of the plane in metres. Here and below `side` is the face side in metres, from 1 to 2^30.
+pub fn mark_point(side: f64, n: u64, s: u64, x: i64, y: i64) -> Answer<Mark> {
+    mark(jgv_mark_point(side, n, s, x, y))
+}
+
+/// A cell's box in metres.
+pub fn mark_code(side: f64, code: u64) -> Answer<Mark> {
+    mark(jgv_mark_code(side, code))
+}
+
+/// The first frame: a cell's box.
+pub fn frame_first(side: f64, code: u64) -> Answer<Frame> {
+    frame(jgv_frame_first(side, code))
+}
+
+/// A frame grown to hold the box of a further cell.
+pub fn frame_grow(side: f64, before: Frame, code: u64) -> Answer<Frame> {
+    frame(jgv_frame_grow(side, before, code))
+}
+
+/// Adds a cell to the text that the first `length` bytes are, in place, and answers the part that is the text then. It grows by at most 46 bytes.
+pub fn coverage_add(text: &mut [u8], length: usize, code: u64) -> Answer<&[u8]> {
+    let added = lent::coverage_add(text, length as u64, code).read()?;
+    Ok(&text[..added.length as usize])
 }
 
 /// A history whose revision 0 is these settings.

@@ -190,8 +190,8 @@ fn coverage() -> Answer<()> {
     let names = listed.iter().map(|&code| name_of(code)).collect::<Answer<Vec<String>>>()?;
     println!("coverage_list: P(34(1)) -> {}", names.join(" "));
     for name in ["P3", "P41", "P418", "P4"] {
-        let covered = coverage_ask(text, code_of(name)?)?; // P4 is covered in part only: no
-        println!("coverage_ask: P(34(1)), {name} -> {}", if covered { "yes" } else { "no" });
+        let Ask { covered, settled, .. } = coverage_ask(text, code_of(name)?)?; // P4 is covered in part only: no
+        println!("coverage_ask: P(34(1)), {name} -> {}, settled by {settled}", if covered == 1 { "yes" } else { "no" });
     }
     // A text that is not of the grammar is refused with 9; `place` says how much of it some good text begins with.
     for body in ["O()", "O(012345678)"] {
@@ -200,6 +200,19 @@ fn coverage() -> Answer<()> {
             Err(Refused { number, place }) => println!("coverage_check: {body} -> refused with {number} at place {place}"),
         }
     }
+    Ok(())
+}
+
+/// A flight's cells go into its text one by one, in any order; the text is all that there is to keep.
+fn additions() -> Answer<()> {
+    let mut text = [0; 64];
+    let mut length = coverage_write(0, 0, &[code_of("P3")?, code_of("P41")?], &mut text)?.len();
+    for name in ["P40", "P4", "P418"] {
+        let before = String::from_utf8_lossy(&text[7..length]).into_owned();
+        length = coverage_add(&mut text, length, code_of(name)?)?.len();
+        println!("coverage_add: {before}, {name} -> {}", String::from_utf8_lossy(&text[7..length]));
+    }
+    println!("coverage_add: P(34), N6, n 1 -> {}", refusal(coverage_add(&mut text, length, code_at(1, 0, "N6")?)));
     Ok(())
 }
 
@@ -249,6 +262,41 @@ fn handhelds() -> Answer<()> {
     Ok(())
 }
 
+/// The edges as the tour shows them, to a millimetre.
+fn edges(frame: Frame) -> String {
+    let Frame { left, bottom, right, top } = frame;
+    format!("left {left:.3}, bottom {bottom:.3}, right {right:.3}, top {top:.3}")
+}
+
+/// A mark as the tour shows it: a point, a box, or the refusal.
+fn marked(answer: Answer<Mark>) -> String {
+    match answer {
+        Ok(Mark::Point { x, y }) => format!("point ({x:.3}, {y:.3})"),
+        Ok(Mark::Box(frame)) => format!("box {}", edges(frame)),
+        Err(refused) => format!("refused with {}", refused.number),
+    }
+}
+
+/// The plane in metres, for a plotter: `side` is the face side, from 1 to 2^30. A frame starts as a cell's box and grows to hold further ones.
+fn plotter() -> Answer<()> {
+    let side = 10_000_000.0;
+    for (x, y) in [(33_480_783, 9_565_938), (0, -1), (4 * 28_697_814, 0)] {
+        println!("mark_point: side {side:.1}, ({x}, {y}) -> {}", marked(mark_point(side, 0, 0, x, y)));
+    }
+    for (side, n, name, shown) in [(side, 0, "P0", "P0"), (side, 2, "N", "N, n 2"), (0.5, 0, "P0", "P0")] {
+        println!("mark_code: side {side:.1}, {shown} -> {}", marked(mark_code(side, code_at(n, 0, name)?)));
+    }
+    let mut frame = frame_first(side, code_of("P0")?)?;
+    println!("frame_first: side {side:.1}, P0 -> {}", edges(frame));
+    for name in ["P8", "N4", "P1"] {
+        frame = frame_grow(side, frame, code_of(name)?)?; // P1 lies inside by then
+        println!("frame_grow: side {side:.1}, and {name} -> {}", edges(frame));
+    }
+    frame.top = f64::NAN;
+    println!("frame_grow: side {side:.1}, a top that is not a number, and P1 -> {}", refusal(frame_grow(side, frame, code_of("P1")?)));
+    Ok(())
+}
+
 fn settings(n: u64, s: u64, resolution: u64, eccentricity: u64) -> Settings {
     Settings { n, s, resolution, eccentricity }
 }
@@ -282,7 +330,9 @@ fn main() -> Answer<()> {
     neighbours()?;
     corners()?;
     coverage()?;
+    additions()?;
     two_arrangements()?;
     handhelds()?;
+    plotter()?;
     office()
 }

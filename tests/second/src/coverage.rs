@@ -1,4 +1,4 @@
-//! Document 01's "The coverage text": checking, listing, asking and writing. Codes are those of
+//! Document 01's "The coverage text": checking, listing, asking, writing and adding. Codes are those of
 //! document 02's W-210: a list or a question of another arrangement is refused with 14. Texts are
 //! those of W-208 too, the handheld profile: a version 2 with a greatest depth.
 //!
@@ -10,6 +10,7 @@
 
 use crate::grid::{arrangement_of, code_of, finest_cells, old_code_of, resolution_of};
 use crate::grid::{Answer, Name, FINEST, LETTERS};
+use std::collections::BTreeSet;
 use std::ops::Range;
 
 /// "Text longer than 65,536 bytes, read or to be written": refusal 13.
@@ -278,6 +279,23 @@ pub fn whole_cells(text: &[u8]) -> Vec<Name> {
     cells
 }
 
+/// The names of the cells that an accepted text's letters and digits name, "whole or not", in the
+/// order they stand: a `(` opens a list of the one before it.
+pub fn named_cells(text: &[u8]) -> Vec<Name> {
+    let mut lists = Name::new();
+    let mut cells: Vec<Name> = Vec::new();
+    for &byte in &text[heading_length(text)..] {
+        match byte {
+            b'(' => lists = cells.last().cloned().unwrap_or_default(),
+            b')' => {
+                lists.pop();
+            }
+            _ => cells.push([&lists[..], &[byte]].concat()),
+        }
+    }
+    cells
+}
+
 // ---------------------------------------------------------------- ground
 
 /// The finest cells of a cell, by their numbers: from 0 to 6 x 9^15, in the order of codes.
@@ -445,6 +463,99 @@ fn ground_of_list(codes: &[u64], spans: Vec<Span>) -> Answer<Ground> {
     }
 }
 
+/// The names of the fewest cells of a ground that grows cell by cell, in byte order, and the length
+/// of their text.
+#[derive(Clone, Debug)]
+pub struct Growing {
+    names: BTreeSet<Name>,
+    length: usize,
+}
+
+/// The bytes that a name adds behind the name before it: what both begin with is there already, and
+/// each further digit but the first stands in brackets.
+fn bytes_behind(before: Option<&Name>, name: &Name) -> usize {
+    let before = before.map_or(&[][..], |before| &before[..]);
+    let same = |(one, other): &(&u8, &u8)| one == other;
+    let shared = before.iter().zip(name).take_while(same).count();
+    3 * (name.len() - shared) - 2
+}
+
+impl Growing {
+    /// No ground, in a text of version 1.
+    pub fn new() -> Growing {
+        Growing {
+            names: BTreeSet::new(),
+            length: HEADING.len(),
+        }
+    }
+
+    /// The names, in byte order.
+    pub fn names(&self) -> Vec<Name> {
+        self.names.iter().cloned().collect()
+    }
+
+    /// The cell that is whole where a further one is: the cell, or the greatest one around it whose
+    /// other children are whole, level by level.
+    fn whole_with(&self, name: &Name) -> Name {
+        let mut whole = name.clone();
+        while whole.len() > 1 {
+            let parent = whole[..whole.len() - 1].to_vec();
+            let sibling = |digit: u8| [&parent[..], &[digit]].concat();
+            let mut others = (b'0'..=b'8').map(sibling).filter(|other| *other != whole);
+            if !others.all(|other| self.names.contains(&other)) {
+                break;
+            }
+            whole = parent;
+        }
+        whole
+    }
+
+    /// Adds a cell's ground, unless its text were longer than a text may be: then it refuses 13.
+    pub fn add(&mut self, name: &Name) -> Answer<()> {
+        if (1..=name.len()).any(|end| self.names.contains(&name[..end])) {
+            return Ok(()); // covered
+        }
+        let whole = self.whole_with(name);
+        let before = self.names.range(..whole.clone()).next_back();
+        let inside = |other: &&Name| other.starts_with(&whole);
+        let gone: Vec<Name> = self
+            .names
+            .range(whole.clone()..)
+            .take_while(inside)
+            .cloned()
+            .collect();
+        let after = self
+            .names
+            .range(whole.clone()..)
+            .find(|other| !inside(other));
+        let mut length = self.length;
+        let mut last = before;
+        for name in &gone {
+            length -= bytes_behind(last, name);
+            last = Some(name);
+        }
+        length += bytes_behind(before, &whole);
+        if let Some(after) = after {
+            length = length + bytes_behind(Some(&whole), after) - bytes_behind(last, after);
+        }
+        if length > LONGEST {
+            return Err(13);
+        }
+        for name in &gone {
+            self.names.remove(name);
+        }
+        self.names.insert(whole);
+        self.length = length;
+        Ok(())
+    }
+}
+
+impl Default for Growing {
+    fn default() -> Growing {
+        Growing::new()
+    }
+}
+
 /// Puts an answer at the front of lent memory, and answers its length; refuses 8.
 fn lend<T: Copy>(answer: &[T], lent: &mut [T]) -> Answer<u64> {
     let own = lent.get_mut(..answer.len()).ok_or(8u64)?;
@@ -504,15 +615,70 @@ pub fn write(asked: Profile, n: u64, s: u64, codes: &[u64], lent: &mut [u8]) -> 
     lend(&written(asked, n, s, codes)?, lent)
 }
 
-/// "Whether all of one cell's finest cells are covered"; refuses 4, 13, 10, 9, 14.
-pub fn ask(text: &[u8], code: u64) -> TextAnswer<bool> {
+/// The answer to a question.
+#[derive(Clone, Copy, Debug, PartialEq, Eq)]
+pub struct Asked {
+    pub covered: bool,
+    pub settled: u64,
+}
+
+/// The codes of the cells that an accepted text's letters and digits name, in the arrangement of
+/// its heading.
+pub fn named_codes(text: &[u8]) -> Vec<u64> {
+    let (n, s) = arrangement_of_text(text);
+    let code = |name: &Name| code_of(n, s, name);
+    named_cells(text).iter().map(code).collect()
+}
+
+/// "Those naming cells, whole or not, whose codes are not above the asked one's, plus one if a
+/// later one exists": one that stands behind the last of those.
+pub fn settled_by(codes: &[u64], code: u64) -> u64 {
+    let not_above = |of: &u64| *of <= code;
+    let those = codes.iter().filter(|of| not_above(of)).count();
+    let behind = codes.iter().rposition(not_above).map_or(0, |last| last + 1);
+    those as u64 + u64::from(behind < codes.len())
+}
+
+/// "Whether all of one cell's finest cells are covered", and "how many letters and digits settle
+/// the answer"; refuses 4, 13, 10, 9, 14.
+pub fn ask(text: &[u8], code: u64) -> TextAnswer<Asked> {
     let asked = span_of(code).ok_or(4u64)?;
     checked_text(text)?;
     if arrangement_of(code) != arrangement_of_text(text) {
         return Err(14.into());
     }
     let ground = ground_of_text(text);
-    Ok(ground
-        .iter()
-        .any(|range| range.start <= asked.start && asked.end <= range.end))
+    let holds = |range: &Span| range.start <= asked.start && asked.end <= range.end;
+    Ok(Asked {
+        covered: ground.iter().any(holds),
+        settled: settled_by(&named_codes(text), code),
+    })
+}
+
+/// The text that the first `length` lent bytes are becomes "the accepted text of the same ground"
+/// and the cell's, with its own heading; its length then. Refuses 4, 13, 8 where the bytes are not
+/// all lent, 10, 9, 14, 15, 13, 8.
+pub fn add(lent: &mut [u8], length: u64, code: u64) -> TextAnswer<u64> {
+    let more = span_of(code).ok_or(4u64)?;
+    if length > LONGEST as u64 {
+        return Err(13.into());
+    }
+    let text = lent.get(..length as usize).ok_or(8u64)?;
+    checked_text(text)?;
+    let (n, s) = arrangement_of_text(text);
+    if arrangement_of(code) != (n, s) {
+        return Err(14.into());
+    }
+    let profile = profile_of_text(text);
+    let mut spans: Vec<Span> = whole_cells(text).iter().map(span_of_name).collect();
+    spans.push(more);
+    let names: Vec<Name> = fewest(&ground_of(spans)).iter().map(name_of_span).collect();
+    if names.iter().any(|name| breaks(profile, name)) {
+        return Err(15.into());
+    }
+    let text = text_of(profile, n, s, &names);
+    if text.len() > LONGEST {
+        return Err(13.into());
+    }
+    Ok(lend(&text, lent)?)
 }

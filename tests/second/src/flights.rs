@@ -1,23 +1,30 @@
 //! The programs `record` and `name_fixes` once more: the lines of a flight, the names of their
 //! cells, and the coverage text of the cells flown.
 
-use crate::coverage::{written, FIRST};
+use crate::coverage::{fewest, ground_of, name_of_span, span_of, text_of};
+use crate::coverage::{Growing, Span, FIRST, LONGEST};
 use crate::ellipsoid::geodetic_code;
-use crate::grid::{cell_of, Answer};
+use crate::grid::{cell_of, Answer, Name};
 use crate::ground::fix_code;
-use std::collections::BTreeSet;
-
-/// The most cells that a recorder holds; a flight of more is refused with 13.
-pub const MOST_CELLS: usize = 65_536;
 
 /// The most digits of a number: as many as the greatest one of 63 bits has.
 const MOST_DIGITS: usize = 19;
 
-/// What a flight comes to: its text, and the number and the refusal of each line left out.
+/// What a flight comes to: its text, how many fixes are in it, and the number and the refusal of each
+/// line left out.
 #[derive(Debug, PartialEq, Eq)]
 pub struct Flown {
-    pub text: Answer<Vec<u8>>,
+    pub text: Vec<u8>,
+    pub taken: u64,
     pub left_out: Vec<(u64, u64)>,
+}
+
+impl Flown {
+    /// How many lines were left out with this refusal.
+    pub fn refused(&self, with: u64) -> usize {
+        let so = |(_, refusal): &&(u64, u64)| *refusal == with;
+        self.left_out.iter().filter(so).count()
+    }
 }
 
 /// The lines of an input. Each ends with a line end, but the last one may lack it.
@@ -86,27 +93,54 @@ pub fn named_by(input: &[u8], code: impl Fn(&[u8]) -> Answer<u64>) -> Vec<u8> {
 }
 
 /// "The coverage text of the cells flown", of version 1, which "skips a fix that is refused, and a line that is
-/// no fix".
+/// no fix". A fix whose cell would make the text too long is refused with 13, and the flight goes on.
 pub fn recorded(n: u64, s: u64, resolution: u64, input: &[u8]) -> Flown {
     recorded_by(n, s, input, |line| line_code(n, s, resolution, line))
 }
 
 /// The same with the code of each line by another rule.
 pub fn recorded_by(n: u64, s: u64, input: &[u8], code: impl Fn(&[u8]) -> Answer<u64>) -> Flown {
-    let mut cells = BTreeSet::new();
-    let mut left_out = Vec::new();
+    let mut ground = Growing::new();
+    let flown = each_line(input, |line| {
+        ground.add(&cell_of(code(line)?).expect("a cell's code").name)
+    });
+    Flown {
+        text: text_of(FIRST, n, s, &ground.names()),
+        ..flown
+    }
+}
+
+/// The same with the text made anew of the codes of all fixes for each line.
+pub fn recorded_anew(n: u64, s: u64, input: &[u8], code: impl Fn(&[u8]) -> Answer<u64>) -> Flown {
+    let mut spans: Vec<Span> = Vec::new();
+    let mut text = text_of(FIRST, n, s, &[]);
+    let flown = each_line(input, |line| {
+        let code = code(line)?;
+        let with = [&spans[..], &[span_of(code).expect("a cell's code")]].concat();
+        let cells = fewest(&ground_of(with.clone()));
+        let names: Vec<Name> = cells.iter().map(name_of_span).collect();
+        let longer = text_of(FIRST, n, s, &names);
+        if longer.len() > LONGEST {
+            return Err(13);
+        }
+        (spans, text) = (with, longer);
+        Ok(())
+    });
+    Flown { text, ..flown }
+}
+
+/// How many lines are taken, and the number and the refusal of the others.
+fn each_line(input: &[u8], mut take: impl FnMut(&[u8]) -> Answer<()>) -> Flown {
+    let mut flown = Flown {
+        text: Vec::new(),
+        taken: 0,
+        left_out: Vec::new(),
+    };
     for (at, line) in (1..).zip(lines(input)) {
-        match code(line) {
-            Ok(code) => {
-                cells.insert(code);
-            }
-            Err(refusal) => left_out.push((at, refusal)),
+        match take(line) {
+            Ok(()) => flown.taken += 1,
+            Err(refusal) => flown.left_out.push((at, refusal)),
         }
     }
-    let codes: Vec<u64> = cells.into_iter().collect();
-    let text = match codes.len() > MOST_CELLS {
-        true => Err(13),
-        false => written(FIRST, n, s, &codes),
-    };
-    Flown { text, left_out }
+    flown
 }

@@ -3,19 +3,22 @@
 //! with the proved library, entry by entry. They prove nothing; the library's contracts do that.
 //!
 //! RATTLE_LIBS names the folder of libjeguarivo.a: `cargo test --release --offline`. Without it
-//! the tests `grid`, `straight`, `ground`, `ellipsoid`, `coverage` and `settings` fail, and without RATTLE_BIN,
-//! the folder of the proved programs, the tests `programs` and `office`; the others try this program alone.
+//! the tests `grid`, `straight`, `ground`, `ellipsoid`, `coverage`, `plotter` and `settings` fail, and without
+//! RATTLE_BIN, the folder of the proved programs, the tests `programs` and `office`; the others try this program
+//! alone.
 //! SECOND_SEED sets another seed for the inputs.
 //!
 //! - `grid`: names, codes, the plane, shapes, neighbours, cells that meet at a corner
 //! - `ground`: the cell of a fix and the ground nucleus, over the whole numbers of `big`
 //! - `ellipsoid`: the authalic sine of a geodetic latitude (request W-203)
 //! - `coverage`: the coverage text: check, list, write, ask
+//! - `plotter`: metres, marks and frames for the plotter (request W-214), with no doubles computed
 //! - `proved`: the proved library's entries, as examples/rust declares them
 //! - `straight`: straight lines through cells (request W-212)
 //! - `settings`: settings with a past, and a history as bytes (request W-209)
 //! - `flights`: the programs `record` and `name_fixes` (`second_record` is a program of its own)
-//! - `random`: inputs, good, at borders, and bad; `fixes` for fixes, `texts` for coverage texts
+//! - `random`: inputs, good, at borders, and bad; `fixes` for fixes, `texts` for coverage texts,
+//!   `frames` for face sides and frames
 //! - `compare`: runs both programs on many inputs and counts what was met
 
 pub mod big;
@@ -24,8 +27,10 @@ pub mod coverage;
 pub mod ellipsoid;
 pub mod fixes;
 pub mod flights;
+pub mod frames;
 pub mod grid;
 pub mod ground;
+pub mod plotter;
 #[cfg(proved)]
 pub mod proved;
 pub mod random;

@@ -2,20 +2,35 @@
 //! in their form.
 
 use crate::compare::Refusing;
-use crate::coverage::{Checked, Refused, TextAnswer};
+use crate::coverage::{Asked, Checked, Refused, TextAnswer};
 use crate::grid::{self, Answer, Place};
-use jeguarivo::{Ask, Cell, Check, Code, Count, Fix, Length, List, Name, Point, Shape, Size};
-use jeguarivo::{Square, Vertices, Z};
+use crate::plotter::{Edges, Mark};
+use jeguarivo::{Add, Ask, Cell, Check, Code, Count, Fix, Length, List, Name, Point, Shape, Size};
+use jeguarivo::{Frame, FrameAnswer, MarkAnswer, Square, Vertices, Z};
 use std::fmt::Debug;
 
 pub use jeguarivo::lent::{code_name, corner_cells, name_code};
 pub use jeguarivo::{
     jgv_cell_code as cell_code, jgv_child as child, jgv_code_cell as code_cell,
-    jgv_corner_count as corner_count, jgv_fix_code as fix_code, jgv_geodetic_code as geodetic_code,
-    jgv_geodetic_z as geodetic_z, jgv_ground_nucleus as ground_nucleus, jgv_neighbour as neighbour,
-    jgv_nucleus as nucleus, jgv_parent as parent, jgv_point_code as point_code, jgv_shape as shape,
-    jgv_size as size, jgv_square as square, jgv_vertices as vertices,
+    jgv_corner_count as corner_count, jgv_fix_code as fix_code, jgv_frame_first as frame_first,
+    jgv_geodetic_code as geodetic_code, jgv_geodetic_z as geodetic_z,
+    jgv_ground_nucleus as ground_nucleus, jgv_mark_code as mark_code, jgv_mark_point as mark_point,
+    jgv_neighbour as neighbour, jgv_nucleus as nucleus, jgv_parent as parent,
+    jgv_point_code as point_code, jgv_shape as shape, jgv_size as size, jgv_square as square,
+    jgv_vertices as vertices,
 };
+
+/// With the frame as its four edges.
+pub fn frame_grow(side: f64, frame: Edges, code: u64) -> FrameAnswer {
+    let [left, bottom, right, top] = frame;
+    let frame = Frame {
+        left,
+        bottom,
+        right,
+        top,
+    };
+    jeguarivo::jgv_frame_grow(side, frame, code)
+}
 
 /// The entries of the settings.
 pub mod settings {
@@ -28,7 +43,7 @@ pub mod settings {
 /// The coverage entries.
 pub mod coverage {
     pub use jeguarivo::lent::{
-        coverage_ask as ask, coverage_check as check, coverage_list as list,
+        coverage_add as add, coverage_ask as ask, coverage_check as check, coverage_list as list,
         coverage_write as write,
     };
 }
@@ -78,12 +93,71 @@ like! {
         n: of.n, s: of.s, cells: of.cells, size: of.size
     };
     List at place, TextAnswer<u64>, count => { count: count };
-    Ask at place, TextAnswer<bool>, covered => { covered: u64::from(covered) };
+    Ask at place, TextAnswer<Asked>, of =>
+        { covered: u64::from(of.covered), settled: of.settled };
+    Add at place, TextAnswer<u64>, length => { length: length };
 }
 
 /// An answer together with the lent bytes or codes after it.
 impl<A: Refusing, T: PartialEq + Debug> Refusing for (A, Vec<T>) {
     fn refusal(&self) -> u64 {
         self.0.refusal()
+    }
+}
+
+/// An answer in metres, its doubles by their bits, so that -0.0 is not 0.0. Kind 1 is a point, 2 a
+/// box, and 0 a frame or nothing.
+#[derive(Debug, PartialEq)]
+pub struct Metres {
+    pub refusal: u64,
+    kind: u64,
+    numbers: [u64; 4],
+}
+
+impl Metres {
+    fn new(refusal: u64, kind: u64, numbers: [f64; 4]) -> Metres {
+        Metres {
+            refusal,
+            kind,
+            numbers: numbers.map(f64::to_bits),
+        }
+    }
+}
+
+impl Refusing for Metres {
+    fn refusal(&self) -> u64 {
+        self.refusal
+    }
+}
+
+impl From<MarkAnswer> for Metres {
+    fn from(of: MarkAnswer) -> Metres {
+        Metres::new(of.refusal, of.kind, of.numbers)
+    }
+}
+
+impl From<FrameAnswer> for Metres {
+    fn from(of: FrameAnswer) -> Metres {
+        Metres::new(of.refusal, 0, [of.left, of.bottom, of.right, of.top])
+    }
+}
+
+/// "Other answers are 0" beside a refusal.
+impl From<Answer<Mark>> for Metres {
+    fn from(answer: Answer<Mark>) -> Metres {
+        match answer {
+            Ok(Mark::Point(x, y)) => Metres::new(0, 1, [x, y, 0.0, 0.0]),
+            Ok(Mark::Box(edges)) => Metres::new(0, 2, edges),
+            Err(refusal) => Metres::new(refusal, 0, [0.0; 4]),
+        }
+    }
+}
+
+impl From<Answer<Edges>> for Metres {
+    fn from(answer: Answer<Edges>) -> Metres {
+        match answer {
+            Ok(edges) => Metres::new(0, 0, edges),
+            Err(refusal) => Metres::new(refusal, 0, [0.0; 4]),
+        }
     }
 }

@@ -3,8 +3,8 @@
 //! here only makes a dull input.
 
 use crate::coverage::{
-    accepts, handheld, heading, heading_length, name_of_span, span_of, whole_cells, Profile, FIRST,
-    LONGEST, RULES,
+    accepts, arrangement_of_text, handheld, heading, heading_length, name_of_span, profile_of_text,
+    span_of, text_of, whole_cells, Profile, FIRST, LONGEST, RULES,
 };
 use crate::grid::{arrangement_of, code_of, resolution_of, Name, LETTERS};
 use crate::random::{Kind, Random, GUARD};
@@ -532,6 +532,43 @@ impl Random {
             _ => (),
         }
         code_of(n, s, &name)
+    }
+
+    /// A text and a code to add: one to ask about; or a text from which a cell was taken, and that
+    /// cell, so that siblings merge again, level by level; or a cell around a whole one, so that a
+    /// list gives way.
+    pub fn to_add(&mut self, kind: Kind, text: Vec<u8>) -> (Vec<u8>, u64) {
+        let cells = match accepts(RULES, &text) {
+            true => whole_cells(&text),
+            false => vec![],
+        };
+        if cells.is_empty() || self.chance(3) {
+            let code = self.asked_code(kind, &text);
+            return (text, code);
+        }
+        let nth = self.below(cells.len() as u64) as usize;
+        let (n, s) = arrangement_of_text(&text);
+        if self.chance(2) {
+            let mut name = cells[nth].clone();
+            name.truncate(1 + self.below(name.len() as u64) as usize);
+            return (text, code_of(n, s, &name));
+        }
+        // the cell, or one in it, whose siblings and theirs then stand alone
+        let mut name = cells[nth].clone();
+        let deeper = (16 - name.len() as u64).min(self.pick(&[0, 1, 1, 2, 3]));
+        let mut names: Vec<Name> = cells
+            .iter()
+            .filter(|cell| **cell != name)
+            .cloned()
+            .collect();
+        for _ in 0..deeper {
+            let child = [&name[..], &[self.pick(b"012345678")]].concat();
+            names.extend(children(&name).into_iter().filter(|other| *other != child));
+            name = child;
+        }
+        names.sort();
+        let without = text_of(profile_of_text(&text), n, s, &names);
+        (without, code_of(n, s, &name))
     }
 
     /// The names with some cells split into their nine children, and theirs again.

@@ -556,6 +556,11 @@ fn apart(names: &[Name]) -> Vec<Name> {
     apart.map(|&name| name.clone()).collect()
 }
 
+/// Asking, without what settles it.
+fn covered(text: &[u8], code: u64) -> TextAnswer<bool> {
+    ask(text, code).map(|asked| asked.covered)
+}
+
 /// Writing what was listed gives the same bytes, and asking finds exactly what lies inside a
 /// whole cell. In another arrangement both are refused with 14.
 #[test]
@@ -592,7 +597,7 @@ fn written_again_and_asked() {
                     true => Ok(inside),
                     false => Err(14.into()),
                 };
-                assert_eq!(ask(&text, code_of(of_n, of_s, &asked.name)), wanted);
+                assert_eq!(covered(&text, code_of(of_n, of_s, &asked.name)), wanted);
             }
             *(if inside { &mut yes } else { &mut no }) += 1;
         }
@@ -619,7 +624,115 @@ fn two_arrangements() {
             let bad = [mixed[1], mixed[0], u64::MAX];
             assert_eq!(written(FIRST, n, s, &bad), Err(4));
             let wanted = if same { Ok(true) } else { Err(14.into()) };
-            assert_eq!(ask(&body, code_of(of_n, of_s, b"P418")), wanted);
+            assert_eq!(covered(&body, code_of(of_n, of_s, b"P418")), wanted);
+        }
+    }
+}
+
+/// W-213: "those naming cells, whole or not, whose codes are not above the asked one's, plus one if
+/// a later one exists".
+#[test]
+fn settled_by_hand() {
+    let settled = |body: &[u8], name: &[u8]| {
+        let asked = ask(&text(body), code_of(0, 0, name)).unwrap();
+        (asked.covered, asked.settled)
+    };
+    // P, P3, P4 and P41 stand in this order
+    let body = b"P(34(1))";
+    assert_eq!(settled(body, b"N"), (false, 1));
+    assert_eq!(settled(body, b"O8"), (false, 1));
+    assert_eq!(settled(body, b"P"), (false, 2));
+    assert_eq!(settled(body, b"P2"), (false, 2));
+    assert_eq!(settled(body, b"P3"), (true, 3));
+    assert_eq!(settled(body, b"P38"), (true, 3));
+    assert_eq!(settled(body, b"P4"), (false, 4));
+    assert_eq!(settled(body, b"P40"), (false, 4));
+    assert_eq!(settled(body, b"P41"), (true, 4));
+    assert_eq!(settled(body, b"S888"), (false, 4));
+    // none, and none later
+    assert_eq!(settled(b"", b"O"), (false, 0));
+    assert_eq!(settled(b"O", b"O"), (true, 1));
+    assert_eq!(settled(b"O(0)", b"O"), (false, 2));
+    let handheld = text_in(handheld(2), b"NP(34(1))");
+    let asked = ask(&handheld, code_of(0, 0, b"P4")).unwrap();
+    assert_eq!((asked.covered, asked.settled), (false, 5));
+}
+
+/// The bytes of a body through so many letters and digits.
+fn through(body: &[u8], count: u64) -> &[u8] {
+    let marks = (0..body.len()).filter(|&at| ![b'(', b')'].contains(&body[at]));
+    let last = marks.take(count as usize).last();
+    &body[..last.map_or(0, |at| at + 1)]
+}
+
+/// W-213: "another accepted text with the same heading, the same bytes through the last one counted
+/// and the same report gives the same answer", over all texts up to a length. With none more for
+/// a later one that would not hold: O whole and O with a list are an example.
+#[test]
+fn settled_is_settled() {
+    let mut names: Vec<Name> = LETTERS.iter().map(|&letter| vec![letter]).collect();
+    for at in 0..6 + 6 * 3 {
+        let child = |&digit: &u8| [&names[at][..], &[digit]].concat();
+        names.extend(b"018".iter().map(child).collect::<Vec<Name>>());
+    }
+    let profiles = [FIRST, handheld(1), handheld(2)];
+    for profile in profiles {
+        let bodies = derived(RULES, profile, b"", b"NOPS018()", 10);
+        let (mut pairs, mut without) = (0, 0);
+        for name in &names {
+            let code = code_of(0, 0, name);
+            let mut answers: HashMap<(u64, &[u8]), bool> = HashMap::new();
+            let mut fewer: HashMap<(u64, &[u8]), bool> = HashMap::new();
+            for (body, _) in &bodies {
+                let text = text_in(profile, body);
+                let asked = ask(&text, code).unwrap();
+                let key = (asked.settled, through(body, asked.settled));
+                match answers.insert(key, asked.covered) {
+                    Some(before) => {
+                        assert_eq!(before, asked.covered, "{}", body.escape_ascii());
+                        pairs += 1;
+                    }
+                    None => (),
+                }
+                let not_above = |of: &&u64| **of <= code;
+                let count = named_codes(&text).iter().filter(not_above).count() as u64;
+                let before = fewer.insert((count, through(body, count)), asked.covered);
+                without += u64::from(before.is_some_and(|before| before != asked.covered));
+            }
+        }
+        say(&format!(
+            "settled, {profile:?}: {} texts, {} questions, {pairs} that agree with another \
+             ({without} would not with none more for a later one)",
+            bodies.len(),
+            bodies.len() * names.len(),
+        ));
+        assert!(pairs > 1000 && without > 0);
+    }
+}
+
+/// Which letters and digits name which cells, from the derivations: in the order they stand the
+/// names rise, and the whole cells are those that no other name goes on from.
+#[test]
+fn named_cells_rise() {
+    for profile in [FIRST, handheld(2)] {
+        for (body, cells) in derived(RULES, profile, b"", b"NOS018()", 9) {
+            let text = text_in(profile, &body);
+            let named = named_cells(&text);
+            let marks = body.iter().filter(|byte| !b"()".contains(byte));
+            let last = |name: &Name| *name.last().unwrap();
+            assert!(marks.copied().eq(named.iter().map(last)));
+            assert!(named.windows(2).all(|pair| pair[0] < pair[1]));
+            let goes_on = |name: &Name| {
+                named
+                    .iter()
+                    .any(|other| other.len() > name.len() && other.starts_with(name))
+            };
+            let whole: Vec<Name> = named
+                .iter()
+                .filter(|name| !goes_on(name))
+                .cloned()
+                .collect();
+            assert_eq!(whole, cells);
         }
     }
 }
@@ -765,9 +878,9 @@ fn texts_for_handhelds() {
     let mut listed = [0; 3];
     assert_eq!(list(&text, &mut listed), Ok(3));
     assert_eq!(&listed[..], &codes(&["N", "P3", "P41"])[..]);
-    assert_eq!(ask(&text, code_of(0, 0, b"N123")), Ok(true));
-    assert_eq!(ask(&text, code_of(0, 0, b"P4")), Ok(false));
-    assert_eq!(ask(&text, code_of(1, 0, b"P3")), Err(14.into()));
+    assert_eq!(covered(&text, code_of(0, 0, b"N123")), Ok(true));
+    assert_eq!(covered(&text, code_of(0, 0, b"P4")), Ok(false));
+    assert_eq!(covered(&text, code_of(1, 0, b"P3")), Err(14.into()));
 }
 
 /// The names of a cell's nine children.
@@ -924,11 +1037,11 @@ fn refusals() {
     assert_eq!(ask(&long, other), Err(13.into()));
     assert_eq!(ask(b"CVR\0\x0300", other), Err(10.into()));
     assert_eq!(ask(&text(b")"), other), Err(at(7)));
-    assert_eq!(ask(&body, other), Err(14.into()));
-    assert_eq!(ask(&body, cells[0]), Ok(true));
-    assert_eq!(ask(&body, code_of(0, 0, b"P")), Ok(false));
-    assert_eq!(ask(&body, code_of(0, 0, b"P4")), Ok(false));
-    assert_eq!(ask(&body, code_of(0, 0, b"P412")), Ok(true));
+    assert_eq!(covered(&body, other), Err(14.into()));
+    assert_eq!(covered(&body, cells[0]), Ok(true));
+    assert_eq!(covered(&body, code_of(0, 0, b"P")), Ok(false));
+    assert_eq!(covered(&body, code_of(0, 0, b"P4")), Ok(false));
+    assert_eq!(covered(&body, code_of(0, 0, b"P412")), Ok(true));
 }
 
 /// Texts of exactly 65,536 bytes are written and read, and one byte more is refused; a list of

@@ -44,6 +44,25 @@ fn floors_over_a_root() {
     }
 }
 
+/// W-213: "No whole z has 3z equal to -2 x 10^18". The last z of the belt falls in the last row at
+/// every resolution, by the rule as it stands, and the next one in S; the row would be one past
+/// the last only at -2 x 10^18 / 3.
+#[test]
+fn no_fix_on_the_bottom_edge() {
+    let bottom = 2 * i128::from(ONE);
+    assert_ne!(bottom % 3, 0);
+    for resolution in 0..=15 {
+        let m = 3i128.pow(resolution);
+        let row = |thrice: i128| m * (bottom + thrice) / (2 * bottom);
+        assert_eq!(row(bottom), m);
+        assert_eq!(row(3 * i128::from(BELT_END)), m - 1);
+        let cell = |z: i64| name_of_fix(0, 0, resolution.into(), -1_350_000_000, z);
+        let last = cell(-BELT_END);
+        assert!(last[0] == b'O' && last[1..].iter().all(|&digit| digit >= b'6'));
+        assert_eq!(cell(-BELT_END - 1)[0], b'S');
+    }
+}
+
 /// 01's rules over real numbers, near enough in floating point: the way right and up from the
 /// middle of the face, in face sides.
 fn forward(n: u64, s: u64, longitude: i64, z: i64) -> (f64, f64) {

@@ -1,6 +1,6 @@
 //! The proved coverage entries against the second program: each on more than a million texts or
-//! lists of both versions and every depth, all short texts, damaged headings, and the values that
-//! 01 and 02 print.
+//! lists of both versions and every depth, all short texts and what is added to them, damaged
+//! headings, and the values that 01 and 02 print.
 
 #[cfg(not(proved))]
 #[test]
@@ -11,14 +11,15 @@ fn the_proved_library_is_linked() {
 /// Each entry on random, border, bad and long inputs.
 #[cfg(proved)]
 mod entries {
-    use jeguarivo::Length;
-    use second::compare::{About, Refusing, Tally};
+    use jeguarivo::{Ask, Length};
+    use second::compare::{say, About, Refusing, Tally};
     use second::coverage::{self, accepts, arrangement_of_text, profile_of_text, whole_cells};
-    use second::coverage::{written, Profile, FIRST, RULES};
-    use second::grid::{resolution_of, Answer};
+    use second::coverage::{named_cells, written, Profile, FIRST, RULES};
+    use second::grid::{code_of, resolution_of, Answer, Name};
     use second::proved::{coverage as proved, Like};
     use second::random::{Kind, Random, KINDS};
     use second::texts::{lent, lent_mut, Given};
+    use std::collections::BTreeMap;
 
     const INPUTS: u64 = 1_050_000;
 
@@ -209,6 +210,179 @@ mod entries {
             |given| proved::ask(lent(&given.bytes), given.code),
         );
     }
+
+    /// How many of the lent bytes are said to be the text: all of them, or more than are lent, or
+    /// more than a text may have.
+    fn said_length(random: &mut Random, kind: Kind, length: usize, room: usize) -> u64 {
+        if kind != Kind::Bad || !random.chance(6) {
+            return length as u64;
+        }
+        let wide = 1u64 << random.pick(&[16, 17, 32, 63]);
+        let past = room as u64 + random.below(100);
+        random.pick(&[
+            room as u64,
+            room as u64 + 1,
+            past,
+            65_536,
+            65_537,
+            wide + length as u64,
+            u64::MAX,
+        ])
+    }
+
+    /// `n` is the length that the text is said to have; what is lent has a room for the answer.
+    #[test]
+    fn add() {
+        compare(
+            "jgv_coverage_add",
+            &[4, 13, 8, 10, 9, 14, 15],
+            |random, kind, nth| {
+                let text = text(random, kind, nth);
+                let (mut bytes, code) = random.to_add(kind, text);
+                let length = bytes.len();
+                bytes.resize(length + 60, 0);
+                let longer = coverage::add(&mut bytes.clone(), length as u64, code);
+                let room = match longer {
+                    Ok(longer) => random.room(longer as usize).max(length),
+                    Err(_) => length + random.below(40) as usize,
+                };
+                bytes.truncate(length);
+                bytes.resize_with(room, || random.any() as u8);
+                Given {
+                    n: said_length(random, kind, length, room),
+                    code,
+                    bytes: random.guarded(&bytes),
+                    ..Given::default()
+                }
+            },
+            |given| {
+                let text = lent(&given.bytes).get(..given.n as usize).unwrap_or(&[]);
+                About {
+                    profile: accepts(RULES, text).then(|| profile_of_text(text)),
+                    ..About::code(given.code)
+                }
+            },
+            |given| {
+                Like::like(coverage::add(
+                    lent_mut(&mut given.bytes),
+                    given.n,
+                    given.code,
+                ))
+            },
+            |given| proved::add(lent_mut(&mut given.bytes), given.n, given.code),
+        );
+    }
+
+    /// A cell to ask for beside one that a letter or digit names, whole or not: the same, one that
+    /// holds it, its first child, which comes next in code order, another child, or the sibling
+    /// before or behind it.
+    fn beside(random: &mut Random, name: &Name) -> Name {
+        let mut name = name.clone();
+        let last = name.len() - 1;
+        let few = name.len() < 16;
+        match random.below(6) {
+            0 => name.truncate(1 + random.below(name.len() as u64) as usize),
+            1 if few => name.push(b'0'),
+            2 if few => name.push(random.pick(b"12345678")),
+            3 if last > 0 && name[last] > b'0' => name[last] -= 1,
+            4 if last > 0 && name[last] < b'8' => name[last] += 1,
+            _ => (),
+        }
+        name
+    }
+
+    /// W-213: more than a million questions beside the letters and digits of accepted texts, with
+    /// how often nothing, one, some or all of them were counted, and how often the asked cell is
+    /// one that is divided.
+    #[test]
+    fn settled() {
+        let mut random = Random::for_test("settled");
+        let mut profiles: BTreeMap<Profile, u64> = BTreeMap::new();
+        let [mut questions, mut none, mut first, mut some, mut all, mut divided] = [0u64; 6];
+        while questions < INPUTS {
+            let kind = random.pick(&[Kind::Random, Kind::Border]);
+            let text = match questions % 50_000 {
+                0..20 => {
+                    let profile = random.long_profile();
+                    random.text_of_length(profile, coverage::LONGEST)
+                }
+                _ => random.text(kind),
+            };
+            if !accepts(RULES, &text) {
+                continue;
+            }
+            let (n, s) = arrangement_of_text(&text);
+            let names = named_cells(&text);
+            let whole = whole_cells(&text);
+            for _ in 0..20 {
+                let name = match names.is_empty() {
+                    true => random.name(Kind::Random),
+                    false => {
+                        let nth = random.below(names.len() as u64) as usize;
+                        beside(&mut random, &names[nth])
+                    }
+                };
+                let code = code_of(n, s, &name);
+                let wanted = Ask::like(coverage::ask(&text, code));
+                assert_eq!(proved::ask(&text, code), wanted, "{code} {text:?}");
+                questions += 1;
+                *profiles.entry(profile_of_text(&text)).or_default() += 1;
+                match wanted.settled {
+                    0 => none += 1,
+                    1 => first += 1,
+                    count if count == names.len() as u64 => all += 1,
+                    _ => some += 1,
+                }
+                divided += u64::from(names.contains(&name) && !whole.contains(&name));
+            }
+        }
+        say(&format!(
+            "settled: {questions} questions, counted none {none}, one {first}, some {some}, \
+             all {all}; of a divided cell {divided}; profiles {}",
+            profiles.len()
+        ));
+        assert!([none, first, some, all, divided]
+            .iter()
+            .all(|&met| met > 1000));
+        assert!(profiles.len() == 17 && profiles.values().all(|&met| met > 1000));
+    }
+}
+
+/// Texts up to fifty bytes from the longest, with cells that just fit and cells that don't.
+#[cfg(proved)]
+#[test]
+fn additions_near_the_longest() {
+    use jeguarivo::Add;
+    use second::compare::say;
+    use second::coverage::{self, LONGEST};
+    use second::proved::{coverage as proved, Like};
+    use second::random::{Kind, Random};
+    let mut random = Random::for_test("additions near the longest");
+    let (mut taken, mut longest, mut too_long) = (0, 0, 0);
+    for _ in 0..60 {
+        let profile = random.long_profile();
+        let short = random.pick(&[0, 1, 1, 1, 1, 4, 4, 7, 40]);
+        let text = random.text_of_length(profile, LONGEST - short);
+        for _ in 0..15 {
+            let (mut lent, code) = random.to_add(Kind::Random, text.clone());
+            let length = lent.len() as u64;
+            lent.resize(LONGEST + 46, b'0');
+            let mut wanted = lent.clone();
+            let answer = proved::add(&mut lent, length, code);
+            let by_second = Add::like(coverage::add(&mut wanted, length, code));
+            assert!(
+                answer == by_second && lent == wanted,
+                "{answer:?} {by_second:?} {code}"
+            );
+            taken += u64::from(answer.refusal == 0);
+            longest += u64::from(answer.length == LONGEST as u64);
+            too_long += u64::from(answer.refusal == 13);
+        }
+    }
+    say(&format!(
+        "additions near the longest: {taken} taken, {longest} to 65,536 bytes, {too_long} too long"
+    ));
+    assert!(taken > 300 && longest > 2 && too_long > 30);
 }
 
 /// Every string of some bytes up to a length, after some beginnings, checked and listed.
@@ -359,6 +533,147 @@ mod all_short_texts {
         say(&format!(
             "two bytes of a heading (all, accepted): {counts:?}"
         ));
+    }
+}
+
+/// Every cell of a small family added to every text over few bytes.
+#[cfg(proved)]
+mod all_small_additions {
+    use jeguarivo::Add;
+    use second::compare::say;
+    use second::coverage::{self, accepts, handheld, heading, text_of, Profile, FIRST, RULES};
+    use second::grid::{code_of, Name};
+    use second::proved::{coverage as proved, Like};
+
+    /// What was met: all, refused with 15, unchanged, shorter, longer.
+    #[derive(Default, Debug)]
+    struct Met {
+        all: u64,
+        outside: u64,
+        same: u64,
+        shorter: u64,
+        longer: u64,
+    }
+
+    impl Met {
+        /// Both programs add a cell to a text that is accepted.
+        fn add(&mut self, text: &[u8], name: &[u8]) {
+            let length = text.len() as u64;
+            let code = code_of(0, 0, name);
+            let mut lent = text.to_vec();
+            lent.resize(text.len() + 46, b'8');
+            let mut wanted = lent.clone();
+            let answer = proved::add(&mut lent, length, code);
+            let by_second = Add::like(coverage::add(&mut wanted, length, code));
+            let shown = (text.escape_ascii(), name.escape_ascii());
+            assert_eq!(answer, by_second, "{} {}", shown.0, shown.1);
+            assert!(lent == wanted, "{} {}", shown.0, shown.1);
+            self.all += 1;
+            match answer.refusal {
+                15 => self.outside += 1,
+                _ => assert_eq!(answer.refusal, 0),
+            }
+            if answer.refusal == 0 {
+                let by_length = [&mut self.shorter, &mut self.same, &mut self.longer];
+                *by_length
+                    [1 + (answer.length > length) as usize - (answer.length < length) as usize] +=
+                    1;
+            }
+        }
+    }
+
+    /// The accepted texts of a profile with bodies of these bytes up to a length.
+    fn texts(profile: Profile, alphabet: &[u8], length: usize) -> Vec<Vec<u8>> {
+        let mut level = vec![heading(profile, 0, 0)];
+        let mut all = Vec::new();
+        for _ in 0..=length {
+            all.extend(level.iter().filter(|text| accepts(RULES, text)).cloned());
+            let with = |text: &[u8], byte: u8| [text, &[byte]].concat();
+            level = level
+                .iter()
+                .flat_map(|text| alphabet.iter().map(|&byte| with(text, byte)))
+                .collect();
+        }
+        all
+    }
+
+    /// The cells of some faces with these digits, up to a resolution.
+    fn names(faces: &[u8], digits: &[u8], resolution: usize) -> Vec<Name> {
+        let mut level: Vec<Name> = faces.iter().map(|&face| vec![face]).collect();
+        let mut all = level.clone();
+        for _ in 0..resolution {
+            let with = |name: &[u8], digit: u8| [name, &[digit]].concat();
+            level = level
+                .iter()
+                .flat_map(|name| digits.iter().map(|&digit| with(name, digit)))
+                .collect();
+            all.extend(level.clone());
+        }
+        all
+    }
+
+    #[test]
+    fn to_every_short_text() {
+        let names = names(b"NOPS", b"018", 3);
+        for profile in [FIRST, handheld(0), handheld(1), handheld(2), handheld(15)] {
+            let mut met = Met::default();
+            for text in texts(profile, b"NOS018()", 7) {
+                for name in &names {
+                    met.add(&text, name);
+                }
+            }
+            say(&format!(
+                "additions to all short texts of {profile:?}: {met:?}"
+            ));
+            let divided = profile.version == 1 || profile.depth > 0;
+            assert!(met.same > 0 && met.longer > 0 && met.shorter > 0 || !divided);
+            assert!((met.outside > 0) == (profile.version == 2));
+        }
+    }
+
+    /// Every choice of a cell's children, and below one of them every choice of its children where
+    /// six or more of the others are there: every cell of the family is added.
+    #[test]
+    fn to_every_family() {
+        let below = names(b"P", b"012345678", 2);
+        let deeper: Vec<Name> = vec![b"P400".to_vec(), b"P448".to_vec()];
+        for profile in [FIRST, handheld(1), handheld(2)] {
+            let mut met = Met::default();
+            for choice in 0..1u32 << 9 {
+                let outer = |digit: u8| choice >> (digit - b'0') & 1 == 1;
+                let family: Vec<Name> = (b'0'..=b'8')
+                    .filter(|&digit| outer(digit))
+                    .map(|digit| vec![b'P', digit])
+                    .collect();
+                if choice < 511 {
+                    let text = text_of(profile, 0, 0, &family);
+                    for name in &below {
+                        met.add(&text, name);
+                    }
+                }
+                let others = (choice & !16).count_ones();
+                if outer(b'4') || others < 6 || profile.depth == 1 {
+                    continue;
+                }
+                for inner in 1..511u32 {
+                    let mut names = family.clone();
+                    let inside = (b'0'..=b'8').filter(|digit| inner >> (digit - b'0') & 1 == 1);
+                    names.extend(inside.map(|digit| vec![b'P', b'4', digit]));
+                    names.sort();
+                    let text = text_of(profile, 0, 0, &names);
+                    let near = below
+                        .iter()
+                        .filter(|name| name.len() < 3 || name[1] == b'4');
+                    for name in near.chain(&deeper) {
+                        met.add(&text, name);
+                    }
+                }
+            }
+            say(&format!(
+                "additions to all families of {profile:?}: {met:?}"
+            ));
+            assert!(met.same > 0 && met.longer > 0 && met.shorter > 0);
+        }
     }
 }
 

@@ -2,8 +2,10 @@
 
 use second::coverage::{ask, check, whole_cells};
 use second::ellipsoid::WGS84;
-use second::flights::{geodetic_line_code, line_code, lines, named, named_by, recorded};
+use second::flights::{geodetic_line_code, line_code, lines, named, named_by};
+use second::flights::{recorded, recorded_anew, recorded_by};
 use second::grid::code_of;
+use second::random::Random;
 
 fn example(file: &str) -> Vec<u8> {
     let folder = concat!(env!("CARGO_MANIFEST_DIR"), "/../../examples");
@@ -15,9 +17,38 @@ fn the_sample_text_is_the_second_programs() {
     let flown = recorded(0, 0, 9, &example("flight/flight.txt"));
     assert_eq!(flown.left_out, [], "lines left out");
     assert!(
-        flown.text == Ok(example("flight/flight.cvr")),
+        flown.text == example("flight/flight.cvr"),
         "examples/flight/flight.cvr is not the text of flight.txt"
     );
+}
+
+/// The names of a growing ground, kept from fix to fix, are those that its text has when it is made
+/// anew for each line: on flights of every resolution, over patches where siblings merge, and one that
+/// fills its text.
+#[test]
+fn the_text_made_anew_for_each_line() {
+    let mut random = Random::for_test("the text made anew");
+    let mut full = 0;
+    for nth in 0..120 {
+        let resolution = nth % 16;
+        let wide = 900_000_000 / 3_i64.pow(resolution as u32).min(900_000_000);
+        let apart = if nth == 47 { 70_000_000 } else { wide.max(1) };
+        let input: String = (0..if nth == 47 { 3500 } else { 250 })
+            .map(|_| {
+                let longitude = random.below(12 * apart as u64) as i64;
+                let z = random.below(16 * 10u64.pow(18) / 3u64.pow(resolution as u32)) as i64;
+                format!("{longitude} {z}\n")
+            })
+            .collect();
+        let code = |line: &[u8]| line_code(1, 2, resolution, line);
+        let flown = recorded_by(1, 2, input.as_bytes(), code);
+        full += flown.refused(13);
+        assert!(
+            flown == recorded_anew(1, 2, input.as_bytes(), code),
+            "{nth}"
+        );
+    }
+    assert!(full > 100, "{full} refused with 13");
 }
 
 /// 5 and 2 come before 6, whatever the line is.
@@ -77,7 +108,7 @@ fn what_the_example_prints_is_the_second_programs() {
     wanted.push(cells.len().to_string());
     for command in commands.iter().filter(|command| command.contains(" ask ")) {
         let name = command.split(' ').nth(4).expect("a name");
-        let covered = ask(&text, code_of(0, 0, name.as_bytes())).expect("an accepted text");
+        let covered = ask(&text, code_of(0, 0, name.as_bytes())).expect("an accepted text").covered;
         wanted.push(if covered { "yes" } else { "no" }.to_string());
     }
     let flight = example("flight/flight.txt");

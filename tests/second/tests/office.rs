@@ -1,11 +1,14 @@
 //! The proved program `settings` against the second program: the file after each command, what is printed,
-//! and files that are encodings, damaged or cut. RATTLE_BIN names the folder of the programs.
+//! and files that are encodings, damaged or cut; and `record` and `name_fixes` with the settings of a revision.
+//! RATTLE_BIN names the folder of the programs.
 
 use second::compare::say;
-use second::random::{Kind, Random};
+use second::flights::{geodetic_line_code, named_by, recorded_by};
+use second::random::{Kind, Random, KINDS};
 use second::settings::{checked, encoded, words, Call, Log, Settings};
+use std::io::Write;
 use std::path::PathBuf;
-use std::process::Command;
+use std::process::{Command, Output, Stdio};
 
 /// A folder of its own for a test, removed at its end.
 struct Folder(PathBuf);
@@ -17,16 +20,28 @@ impl Folder {
         Folder(folder)
     }
 
-    /// Runs `settings FILE` with words: standard output, and standard error.
-    fn settings(&self, words: &str) -> (String, String) {
+    /// Runs a program with words and an input, in this folder.
+    fn run(&self, program: &str, words: &str, input: &[u8]) -> Output {
         let programs = std::env::var("RATTLE_BIN").expect("RATTLE_BIN names the programs' folder");
-        let output = Command::new(PathBuf::from(programs).join("settings"))
-            .arg("office.set")
+        let mut started = Command::new(PathBuf::from(programs).join(program))
             .args(words.split(' '))
             .current_dir(&self.0)
-            .output()
+            .stdin(Stdio::piped())
+            .stdout(Stdio::piped())
+            .stderr(Stdio::piped())
+            .spawn()
             .expect("the program runs");
+        let written = started.stdin.take().expect("an input").write_all(input);
+        let output = started.wait_with_output().expect("the program ends");
         assert!(output.status.success(), "{words}: {:?}", output.status);
+        // a program that refuses its words reads nothing
+        assert!(written.is_ok() || output.stdout.is_empty(), "{words}");
+        output
+    }
+
+    /// Runs `settings FILE` with words: standard output, and standard error.
+    fn settings(&self, words: &str) -> (String, String) {
+        let output = self.run("settings", &format!("office.set {words}"), b"");
         let text = |bytes| String::from_utf8(bytes).expect("plain text");
         (text(output.stdout), text(output.stderr))
     }
@@ -237,4 +252,91 @@ fn every_cut() {
             assert_eq!((printed, said), (String::new(), wanted));
         }
     }
+}
+
+/// A flight of lines `longitude sine`, good and bad ones, that leave no cell open.
+fn flight(random: &mut Random, settings: Settings) -> Vec<u8> {
+    let [n, s, resolution, eccentricity] = settings;
+    let mut input = Vec::new();
+    for _ in 0..40 {
+        let kind = random.pick(&KINDS);
+        let (longitude, _) = random.fix(kind, n, s, resolution);
+        let line = format!("{longitude} {}", random.sine(kind));
+        if geodetic_line_code(n, s, resolution, eccentricity, line.as_bytes()).is_some() {
+            input.extend(line.bytes());
+            input.push(b'\n');
+        }
+    }
+    input
+}
+
+/// `record` and `name_fixes` with a revision that is kept: the second program's answers with what was accepted
+/// under it. The words are `settings FILE` and, if it is named, the revision.
+fn flown(random: &mut Random, folder: &Folder, words: &str, revision: u64, settings: Settings) {
+    let [n, s, resolution, eccentricity] = settings;
+    let input = flight(random, settings);
+    let code = |line: &[u8]| {
+        geodetic_line_code(n, s, resolution, eccentricity, line)
+            .expect("a line that leaves no cell open")
+    };
+    let used = |program: &str| format!("{program}: revision {revision} of office.set\n");
+
+    let named = folder.run("name_fixes", words, &input);
+    assert_eq!(named.stdout, named_by(&input, code), "{words}");
+    assert_eq!(named.stderr, used("name_fixes").as_bytes(), "{words}");
+
+    let wanted = recorded_by(n, s, &input, code);
+    let to = format!("{words} to kept.cvr");
+    for words in [words, &to] {
+        let found = folder.run("record", words, &input);
+        assert_eq!(found.stdout, wanted.text, "{words}");
+        let said = String::from_utf8(found.stderr).expect("plain text");
+        assert!(said.starts_with(&used("record")), "{words}: {said}");
+    }
+    let kept = folder.0.join("kept.cvr");
+    assert_eq!(std::fs::read(&kept).expect("the text"), wanted.text);
+    std::fs::remove_file(kept).expect("the text is removed");
+}
+
+#[test]
+fn flights_with_settings() {
+    let mut random = Random::for_test("record settings FILE");
+    let folder = Folder::new("flights");
+    let (mut kept, mut not_kept) = (0, 0);
+    for nth in 0..300 {
+        let revisions = 1 + random.below(50);
+        let log = log(&mut random, revisions);
+        std::fs::write(folder.file(), encoded(&log)).expect("the file is written");
+        let newest = log.newest();
+        let (revision, words) = match nth % 3 {
+            0 => (newest, "settings office.set".to_string()),
+            _ => {
+                let revision = (newest + 1).saturating_sub(random.below(36));
+                (revision, format!("settings office.set {revision}"))
+            }
+        };
+        match log.read(revision) {
+            Ok(settings) => {
+                kept += 1;
+                flown(&mut random, &folder, &words, revision, settings);
+            }
+            Err(number) => {
+                not_kept += 1;
+                for program in ["record", "name_fixes"] {
+                    let found = folder.run(program, &words, b"");
+                    let said = String::from_utf8(found.stderr).expect("plain text");
+                    let start = format!("{program}: refusal {number}: ");
+                    assert!(
+                        found.stdout.is_empty() && said.starts_with(&start),
+                        "{said}"
+                    );
+                }
+            }
+        }
+        assert_eq!(folder.bytes(), encoded(&log), "the history stays as it is");
+    }
+    say(&format!(
+        "settings FILE for flights: {kept} with a kept revision, {not_kept} with none"
+    ));
+    assert!(kept >= 150 && not_kept >= 5, "too little was tried");
 }

@@ -5,7 +5,7 @@ use second::compare::say;
 use second::coverage::HEADING;
 use second::flights::{
     fix, geodetic_line_code, line_code, lines, named, named_by, number, recorded, recorded_by,
-    Flown, MOST_CELLS,
+    Flown,
 };
 use second::grid::Answer;
 use second::random::{Kind, Random, KINDS};
@@ -177,45 +177,126 @@ fn name_fixes_on_ellipsoids() {
     assert!(all > 8000 && refused > 1500 && all - refused > 4000);
 }
 
-/// `record` on each run: how many lines there were, lines left out, texts, and texts too long.
-fn record_all(test: &str, on_ellipsoids: bool) -> [usize; 4] {
-    let mut random = Random::for_test(test);
-    let (mut all, mut left_out, mut texts, mut too_long) = (0, 0, 0, 0);
-    for run in runs(&mut random, on_ellipsoids) {
-        let wanted = run.recorded();
-        let found = output("record", &run);
-        let refusal =
-            |(line, refusal): &(u64, u64)| format!("record: line {line}: refusal {refusal}:");
-        let mut said: Vec<String> = wanted.left_out.iter().map(refusal).collect();
-        match &wanted.text {
-            Ok(_) => texts += 1,
-            Err(_) => {
-                too_long += 1;
-                said.push("record: nothing is written: refusal 13:".into());
-            }
-        }
-        let text = wanted.text.unwrap_or_default();
-        assert!(found.stdout == text, "{:?}: {:?}", run.setting, run.input);
-        check_said(&found.stderr, &said, run.setting);
-        all += lines(&run.input).len();
-        left_out += wanted.left_out.len();
+/// What `record` is to say of a flight: each line that it left out, and the counts.
+fn said_of(flown: &Flown) -> Vec<String> {
+    let refusal = |(line, refusal): &(u64, u64)| format!("record: line {line}: refusal {refusal}:");
+    let mut said: Vec<String> = flown.left_out.iter().map(refusal).collect();
+    let (taken, bad, full) = (flown.taken, flown.refused(6), flown.refused(13));
+    said.push(format!(
+        "record: {taken} fixes taken, {bad} lines refused with 6, {full} with 13"
+    ));
+    said
+}
+
+/// `record` on a run, and what the second program says of it.
+fn record_one(run: &Run) -> Flown {
+    let wanted = run.recorded();
+    let found = output("record", run);
+    let setting = run.setting;
+    assert!(found.stdout == wanted.text, "{setting:?}: {:?}", run.input);
+    check_said(&found.stderr, &said_of(&wanted), setting);
+    wanted
+}
+
+/// How many fixes were taken after the first that was refused with 13.
+fn taken_after(flown: &Flown, lines: usize) -> usize {
+    let mut refused = flown.left_out.iter();
+    match refused.find(|(_, refusal)| *refusal == 13) {
+        Some((first, _)) => lines - *first as usize - refused.count(),
+        None => 0,
+    }
+}
+
+/// `record` on each run: how many lines there were, refused with 6, refused with 13, and fixes taken
+/// after the first of these.
+fn record_all(test: &str, runs: Vec<Run>) -> [usize; 4] {
+    let (mut all, mut bad, mut too_long, mut after, mut full) = (0, 0, 0, 0, 0);
+    for run in runs {
+        let flown = record_one(&run);
+        let count = lines(&run.input).len();
+        all += count;
+        bad += flown.refused(6);
+        too_long += flown.refused(13);
+        after += taken_after(&flown, count);
+        full += usize::from(flown.refused(13) > 0);
     }
     say(&format!(
-        "{test}: {all} lines, left out {left_out}; {texts} texts, {too_long} too long"
+        "{test}: {all} lines, refused 6: {bad}, 13: {too_long}; {full} flights filled their text, \
+         and {after} fixes were taken after that"
     ));
-    [all, left_out, texts, too_long]
+    [all, bad, too_long, after]
 }
 
 #[test]
 fn record() {
-    let [all, left_out, texts, too_long] = record_all("record", false);
-    assert!(all > 30_000 && left_out > 5000 && texts > 200 && too_long > 0);
+    let mut random = Random::for_test("record");
+    let [all, bad, too_long, _] = record_all("record", runs(&mut random, false));
+    assert!(all > 30_000 && bad > 5000 && too_long > 1000);
 }
 
 #[test]
 fn record_on_ellipsoids() {
-    let [all, left_out, texts, _] = record_all("record on ellipsoids", true);
-    assert!(all > 8000 && left_out > 1500 && texts > 200);
+    let mut random = Random::for_test("record on ellipsoids");
+    let [all, bad, ..] = record_all("record on ellipsoids", runs(&mut random, true));
+    assert!(all > 8000 && bad > 1500);
+}
+
+/// A flight back and forth over a patch, with some lines that are no fixes: its cells share most of
+/// their digits, and siblings merge. From time to time it goes to another patch, or back to where it
+/// has been.
+fn survey(random: &mut Random, setting: [u64; 3], count: u64) -> Vec<u8> {
+    let cell = 900_000_000 / 3_i64.pow(setting[2] as u32).min(900_000_000);
+    let step = (cell * random.pick(&[1, 2, 3, 7]) / random.pick(&[1, 2, 5])).max(1);
+    let across = random.pick(&[6, 20, 60, 200]) * step;
+    let turn =
+        random.pick(&[1, 3, 30]) * (4_000_000_000_000_000_000 / 3_i64.pow(setting[2] as u32));
+    let (mut longitude, mut z) = random.fix(Kind::Random, setting[0], setting[1], setting[2]);
+    let patch = random.pick(&[8, 8, 20, 60]);
+    let (mut west, mut east, mut been) = (longitude, true, Vec::new());
+    let mut input = Vec::new();
+    for _ in 0..count {
+        let bad = random.chance(50);
+        input.extend(
+            match bad {
+                true => format!("{longitude} {z} \n"),
+                false => format!("{longitude} {z}\n"),
+            }
+            .into_bytes(),
+        );
+        longitude += if east { step } else { -step };
+        if (longitude - west).abs() > across {
+            (east, z) = (!east, z + random.below(turn as u64) as i64 - turn / 2);
+            longitude += if east { step } else { -step };
+        }
+        if random.chance(patch) {
+            been.push((longitude, z));
+            (longitude, z) = match random.chance(3) {
+                true => random.pick(&been),
+                false => random.fix(Kind::Random, setting[0], setting[1], setting[2]),
+            };
+            west = longitude;
+        }
+    }
+    input
+}
+
+/// Flights that fill their text: after that a fix is refused with 13 where its cell doesn't fit, and
+/// taken where it lies in ground that is there, or still fits.
+#[test]
+fn record_full() {
+    let mut random = Random::for_test("record full");
+    let mut runs = Vec::new();
+    for nth in 0..30 {
+        let setting = [nth % 4, nth / 4 % 4, 11 + nth % 5];
+        let input = survey(&mut random, setting, 15_000);
+        runs.push(Run {
+            setting,
+            eccentricity: None,
+            input,
+        });
+    }
+    let [all, bad, too_long, after] = record_all("record, full texts", runs);
+    assert!(all > 400_000 && bad > 5000 && too_long > 3000 && after > 100);
 }
 
 /// `name_fixes` on an input, by both programs.
@@ -233,21 +314,20 @@ fn names(setting: [u64; 3], input: &[u8], wanted: &str) {
     check_said(&found.stderr, &[], setting);
 }
 
-/// `record` on an input, by both programs: the text's body, or none, and what is said.
-fn records(setting: [u64; 3], input: &[u8], body: Option<&[u8]>, said: &[&str]) {
-    let [n, s, resolution] = setting;
-    let wanted = body.map_or(Vec::new(), |body| [HEADING, body].concat());
-    let flown = recorded(n, s, resolution, input);
-    assert_eq!(flown.text.unwrap_or_default(), wanted);
+/// `record` on an input, by both programs: the text's body, and what is said.
+fn records(setting: [u64; 3], input: &[u8], body: &[u8], said: &[&str]) {
     let run = Run {
         setting,
         eccentricity: None,
         input: input.to_vec(),
     };
-    let found = output("record", &run);
-    assert_eq!(found.stdout, wanted);
-    let said: Vec<String> = said.iter().map(|said| said.to_string()).collect();
-    check_said(&found.stderr, &said, setting);
+    let flown = record_one(&run);
+    assert_eq!(flown.text, [HEADING, body].concat());
+    let by_second = said_of(&flown);
+    assert_eq!(by_second.len(), said.len());
+    for (line, said) in by_second.iter().zip(said) {
+        assert!(line.starts_with(said), "{line:?} {said:?}");
+    }
 }
 
 /// A fix with a carriage return, one number alone, and a number of 64 bits.
@@ -267,19 +347,33 @@ fn printed_lines() {
     names(setting, long, "6\n6\n");
 }
 
-/// A cell that is flown later goes to its place, one that is flown again changes nothing, and one
-/// more than a recorder holds is refused. Line numbers are printed in decimal.
+/// A cell that is flown later goes to its place, and one that is flown again changes nothing. Line
+/// numbers are printed in decimal.
 #[test]
 fn printed_flights() {
-    let (setting, fine) = ([0, 0, 0], [0, 0, 15]);
+    let setting = [0, 0, 0];
     let three = b"-1800000000 0\n0 0\n-900000000 0\n0 0\n";
-    records(setting, three, Some(b"OPQ"), &[]);
+    let said = ["record: 4 fixes taken, 0 lines refused with 6, 0 with 13"];
+    records(setting, three, b"OPQ", &said);
     let late = [&b"0 0\n".repeat(204)[..], b"x\n"].concat();
-    let said = ["record: line 205: refusal 6:"];
-    records(setting, &late, Some(b"Q"), &said);
-    let many: String = (0..=MOST_CELLS)
-        .map(|i| format!("{} 0\n", 100 * i))
+    let said = [
+        "record: line 205: refusal 6:",
+        "record: 204 fixes taken, 1 lines refused with 6, 0 with 13",
+    ];
+    records(setting, &late, b"Q", &said);
+}
+
+/// More than 65,536 cells, of which all but the last few merge: none is refused.
+#[test]
+fn many_cells_that_merge() {
+    let many: String = (0..=65_536_i64)
+        .map(|i| format!("{} {}\n", i % 300 * 25_000, i / 300 * 45_000_000_000_000))
         .collect();
-    let said = ["record: nothing is written, there are more than 65,536 cells: refusal 13:"];
-    records(fine, many.as_bytes(), None, &said);
+    let run = Run {
+        setting: [0, 0, 9],
+        eccentricity: None,
+        input: many.into_bytes(),
+    };
+    let flown = record_one(&run);
+    assert_eq!((flown.taken, flown.left_out.len()), (65_537, 0));
 }

@@ -5,7 +5,7 @@ use borrow.Author.Needs.{needs}
 use borrow.Author.Tests.{not-true, not-false}
 use Rattle.cell.specs.Cell.{IsArrangement}
 use Rattle.code.specs.Code.{isCode}
-use Rattle.code.specs.Laws.Code.{code-passes, code-stops}
+use Rattle.code.specs.Laws.Code.{code-passes, code-stops, of-arrangement}
 use Rattle.reading.specs.Laws.TextReading.{text-arranged}
 use Rattle.reader.specs.Laws.Answer.{TextChecked, checked-arrangement, text-checked, text-refused}
 use Rattle.asking.proofs.Answers.{no-code, not-read, another, answered}
@@ -52,11 +52,13 @@ returns-2 c =
     let a = t .before .before .before .args in
     another (a .text .now) (a .code) (code-passes (a .code) (a-code t)) (read-in n) (sym (c .before .is-of .ensures) ∙ not-true _ (c .if2 .taken))
 
-is-covered-requires : tie.Need-is-covered-requires
-is-covered-requires c κs =
-    let n = c .before .before .before in
+answered-requires : tie.Need-answered-requires
+answered-requires c κs =
+    let o = c .before in
+    let n = o .before .before in
     let r = read-in n in
-    (r .text, r .start, a-code (n .before .before .before))
+    let a = n .before .before .before .before .before .before .args in
+    (r .text, r .start, a-code (n .before .before .before), of-arrangement _ (a .code) (sym (o .is-of .ensures) ∙ not-false _ (c .if2 .left)) ∙ checked-arrangement r)
 
 returns-3 : tie.Need-returns-3
 returns-3 c =
@@ -70,7 +72,7 @@ returns-4 c =
     let n = o .before .before in
     let t = n .before .before .before in
     let a = t .before .before .before .args in
-    answered (a .text .now) (a .code) (code-passes (a .code) (a-code t)) (read-in n) (sym (o .is-of .ensures) ∙ not-false _ (c .before .if2 .left)) (c .is-covered .ensures)
+    c .answered .ensures ∙ answered (a .text .now) (a .code) (code-passes (a .code) (a-code t)) (read-in n) (sym (o .is-of .ensures) ∙ not-false _ (c .before .if2 .left))
 
 pub ask-spec : {M : Type 1} → statement M
 ask-spec =
@@ -83,6 +85,6 @@ ask-spec =
     enum-known-north
     is-of-requires
     returns-2
-    is-covered-requires
+    answered-requires
     returns-3
     returns-4)

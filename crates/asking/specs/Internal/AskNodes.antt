@@ -1,5 +1,6 @@
 -- Asking along the nodes of a text: the answer, as definitions that follow the nodes. Assumes nothing.
 use mathlib.Core.Path.{_≡_, refl, sym, ap, ap₂, _∙_}
+use mathlib.Core.Logic.{⊎-elim}
 use mathlib.Core.Bool.{Bool, true, false, _&&_, _||_}
 use mathlib.Core.List.{List, [], _∷_, _++_, map}
 use Prim.Native.Nat.{ℕ, suc, _+_, _-_, _*_, _/_, _^_, _≤_, _<_}
@@ -8,6 +9,7 @@ use native.Mathlib.Omega.{arith}
 use lib.Dec.{leb}
 use borrow.Author.Tests.{lt-leb}
 use Rattle.logic.specs.Laws.Bools.{and-none, or-assoc}
+use Rattle.logic.specs.Laws.Order.{lt-or}
 use Rattle.cell.specs.declared.Cell.{Cell}
 use Rattle.code.specs.Inside.{startOf, endOf, liesWithin}
 use Rattle.code.specs.Number.{startAs, endAs}
@@ -34,12 +36,14 @@ anyIn from to a z (whole c ns) = (leb (a + c * z) from && leb to (a + c * z + z)
 anyIn from to a z (listed c is ns) = anyIn from to (a + c * z) (z / 9) is || anyIn from to a z ns
 
 -- the same of the cells where the walk stands
-unfoldable anyHolds : (from to : ℕ) → List Spot → Bool
-anyHolds from to [] = false
-anyHolds from to (s ∷ ss) =
-    (leb (startAs (s .resolution) (s .number)) from && leb to (endAs (s .resolution) (s .number))) || anyHolds from to ss
+abbrev pub holds : (from to : ℕ) → Spot → Bool
+holds from to s = leb (startAs (s .resolution) (s .number)) from && leb to (endAs (s .resolution) (s .number))
 
-any-spots : (qs : List Cell) (x : Cell) → Cells qs → anyHolds (startOf x) (endOf x) (map spotOf qs) ≡ anyWithin qs x
+unfoldable pub anyHolds : (from to : ℕ) → List Spot → Bool
+anyHolds from to [] = false
+anyHolds from to (s ∷ ss) = holds from to s || anyHolds from to ss
+
+pub any-spots : (qs : List Cell) (x : Cell) → Cells qs → anyHolds (startOf x) (endOf x) (map spotOf qs) ≡ anyWithin qs x
 unfolding anyHolds anyWithin liesWithin
 any-spots [] x c = refl
 any-spots (q ∷ qs) x c =
@@ -50,8 +54,7 @@ module _ (from to : ℕ) where
   unfolding anyHolds
   any-append [] ys = refl
   any-append (x ∷ xs) ys =
-      let h : Bool = leb (startAs (x .resolution) (x .number)) from && leb to (endAs (x .resolution) (x .number)) in
-      ap (λ (b : Bool). h || b) (any-append xs ys) ∙ or-assoc h (anyHolds from to xs) (anyHolds from to ys)
+      ap (λ (b : Bool). holds from to x || b) (any-append xs ys) ∙ or-assoc (holds from to x) (anyHolds from to xs) (anyHolds from to ys)
 
   any-in : (ns : Nodes) (l : Level) (d lo k p : ℕ) → Good l d lo ns → k + d ≤ 15 →
       anyIn from to (p * 9 * 9 ^ (15 - k)) (9 ^ (15 - k)) ns ≡ anyHolds from to (spotsIn k p ns)
@@ -81,6 +84,12 @@ nodes-asked t e x =
 -- ---- nodes that cannot hold it
 
 module _ (from to : ℕ) where
+  finer : (s z : ℕ) → from ≤ s → from + z < to → (leb s from && leb to (s + z)) ≡ false
+  finer s z h k =
+      ⊎-elim (λ l. ap (λ (b : Bool). b && leb to (s + z)) (lt-leb s from l))
+      (λ l. ap (λ (b : Bool). leb s from && b) (lt-leb to (s + z) (omega arith)) ∙ and-none (leb s from))
+      (lt-or from s)
+
   -- they end before it does
   pub in-short : (ns : Nodes) (l : Level) (d lo a z : ℕ) → Good l d lo ns → a + many l * z < to → anyIn from to a z ns ≡ false
   unfolding anyIn
@@ -102,3 +111,14 @@ module _ (from to : ℕ) where
   in-behind (listed c is ns) l d lo a z g h =
       let k : from < a + c * z = omega (arith, mul-le-mul-right z (g .0)) in
       ap₂ _||_ (in-behind is Digits (room l c d - 1) 0 (a + c * z) (z / 9) (g .5) (omega arith)) (in-behind ns l d (suc c) a z (g .6) (omega (arith, suc-mul c z)))
+
+  -- they start no sooner than it does, and are smaller
+  pub in-finer : (ns : Nodes) (l : Level) (d lo a z : ℕ) → Good l d lo ns → from ≤ a + lo * z → from + z < to → anyIn from to a z ns ≡ false
+  unfolding anyIn
+  in-finer end l d lo a z g h f = refl
+  in-finer (whole c ns) l d lo a z g h f =
+      let k : from ≤ a + c * z = omega (arith, mul-le-mul-right z (g .0)) in
+      ap₂ _||_ (finer (a + c * z) z k f) (in-finer ns l d (suc c) a z (g .2) (omega (arith, suc-mul c z)) f)
+  in-finer (listed c is ns) l d lo a z g h f =
+      let k : from ≤ a + c * z = omega (arith, mul-le-mul-right z (g .0)) in
+      ap₂ _||_ (in-finer is Digits (room l c d - 1) 0 (a + c * z) (z / 9) (g .5) (omega arith) (omega arith)) (in-finer ns l d (suc c) a z (g .6) (omega (arith, suc-mul c z)) f)

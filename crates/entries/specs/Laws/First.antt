@@ -93,7 +93,7 @@ unfolding allDigits
 digits [] = record { holds = λ e. clash (sym e); fails = λ e h. h }
 digits (b ∷ bs) = not-and (isDigit b) (allDigits bs) (outside 48 56 b) (digits bs)
 
-cell-of : (code : ℕ) → Decides (not (isCode code)) (NoCell code)
+pub cell-of : (code : ℕ) → Decides (not (isCode code)) (NoCell code)
 cell-of code = record { holds = λ e. no-cell code (not-true _ e); fails = λ e. some-cell code (not-false _ e) }
 
 cells-of : (codes : List ℕ) → Decides (not (allCodes codes)) (Any NoCell codes)
@@ -109,18 +109,18 @@ of-another a (c ∷ cs) = not-and (isOf a c) (allOf a cs) (not-decides own) (of-
     own : Decides (isOf a c) (arrangementOf c ≡ a)
     own = record { holds = of-arrangement a c; fails = λ e g. clash (sym (arrangement-of a c g) ∙ e) }
 
-version : (t : List ℕ) → Decides (otherVersion t) (WrongVersion t)
+pub version : (t : List ℕ) → Decides (otherVersion t) (WrongVersion t)
 version t = record { holds = version-bytes t; fails = λ e h. clash (sym (bytes-version t h) ∙ e) }
 
-grammar : (t : List ℕ) → Decides (isText t) (Accepted t)
+pub grammar : (t : List ℕ) → Decides (isText t) (Accepted t)
 grammar t = record { holds = is-accepted t; fails = is-not t }
 
 -- what does not fail passes
-passed : {t : Bool} {A : Type 0} → Decides t A → ((A → ⊥) → ⊥) → t ≡ true
+pub passed : {t : Bool} {A : Type 0} → Decides t A → ((A → ⊥) → ⊥) → t ≡ true
 passed {t = true} d n = refl
 passed {t = false} d n = absurd (n (d .fails refl))
 
-missed : (t : Bool) {A : Type 0} → Decides (not t) A → (A → ⊥) → t ≡ true
+pub missed : (t : Bool) {A : Type 0} → Decides (not t) A → (A → ⊥) → t ≡ true
 missed true d n = refl
 missed false d n = absurd (n (d .holds refl))
 
@@ -130,7 +130,7 @@ pub arrangement-first : (n s : ℕ) → FirstOf (arrangementTests n s) (arrangem
 unfolding arrangementRefusal
 arrangement-first n s = twice 4 (lt-decides 3 n) (lt-decides 3 s)
 
-code-first : (code : ℕ) → FirstOf (codeTests code) (codeRefusal code)
+pub code-first : (code : ℕ) → FirstOf (codeTests code) (codeRefusal code)
 unfolding codeRefusal
 code-first code = last 3 (cell-of code)
 
@@ -171,7 +171,7 @@ unfolding nameAnswer
 name-refusal n s bs = code-refusal (arrangementRefusal (arrangement n s) otherwise nameRefusal bs) (nameCode (arrangement n s) bs)
 
 -- jgv_point_code
-image : (n s : ℕ) (x y : ℤ) → Decides (inImage (arrangement n s) x y) (OnImage n s x y)
+pub image : (n s : ℕ) (x y : ℤ) → Decides (inImage (arrangement n s) x y) (OnImage n s x y)
 unfolding inImage inBelt inNorth inSouth
 image n s x y =
     or-decides
@@ -362,7 +362,7 @@ module _ (t : List ℕ) where
   read n = reads-own t (passed (grammar t) (n .1 .1 .0))
 
   -- "the heading's"
-  headed : (code : ℕ) → NoneOf (textTests t) → Decides (isOf (textArrangement t) code) (take 2 (drop 5 t) ≡ turnsOf code)
+  pub headed : (code : ℕ) → NoneOf (textTests t) → Decides (isOf (textArrangement t) code) (take 2 (drop 5 t) ≡ turnsOf code)
   unfolding isOf
   headed code k =
       let n : ℕ = arrangementOf code .north in

@@ -2,28 +2,33 @@
 use mathlib.Core.Path.{_≡_, refl, sym, ap, _∙_}
 use mathlib.Core.Logic.{_↔_}
 use mathlib.Core.Bool.{Bool, true, false, _&&_, not}
+use mathlib.Core.List.{List}
 use Prim.Native.Nat.{ℕ, zero, suc, _≤_}
 use native.Mathlib.Omega.{arith}
 use lib.IntN.{ℤ}
 use lib.Dec.{leb, ltb}
 use borrow.Author.Tests.{ltb-false, lt-ltb, le-ltb, leb-true, leb-false}
-use Rattle.logic.specs.Laws.Bools.{refuted}
+use Rattle.logic.specs.Laws.Bools.{clash, refuted}
 use Rattle.logic.specs.Refusal.{refuse, _otherwise_}
 use Rattle.logic.specs.Laws.Refusal.{both, passes, allowed}
 use Rattle.cell.specs.declared.Arrangement.{Arrangement}
 use Rattle.cell.specs.Cell.{IsArrangement, arrangementRefusal}
 use Rattle.cell.specs.Laws.Cell.{is-arrangement, arrangement-is}
-use Rattle.code.specs.declared.Coded.the-variants.{Refused}
-use Rattle.code.specs.Code.{codeOf, coded}
+use Rattle.code.specs.declared.Coded.{Coded}
+use Rattle.code.specs.declared.Coded.the-variants.{Code, Refused}
+use Rattle.code.specs.Code.{codeOf, coded, refusalIn}
 use Rattle.locate.specs.Fix.{InRange, inRange, fixRefusal}
 use Rattle.locate.specs.Laws.Fix.{within-range, range-holds}
 use Rattle.authalic.specs.Authalic.{eccentricityRefusal}
 use Rattle.geodetic.specs.GeodeticFix.{inGeodeticRange, geodeticRefusal}
+use Rattle.decimal.specs.declared.FixLine.{FixLine}
+use Rattle.decimal.specs.declared.FixLine.the-variants as Lines
+use Rattle.decimal.specs.Decimal.{fixIn}
 use Rattle.flight.specs.declared.Latitude.{Latitude}
 use Rattle.flight.specs.declared.Latitude.the-variants.{Authalic, Geodetic}
 use Rattle.flight.specs.declared.Setting.{Setting}
 use Rattle.flight.specs.Setting.{UsableLatitude, UsableSetting, latitudeRefusal, settingRefusal}
-use Rattle.flight.specs.Flight.{lineRefusal, lineCell, fixCoded, noFix}
+use Rattle.flight.specs.Flight.{lineRefusal, lineCell, fixCoded, noFix, ofLine, lineCode}
 
 latitude-usable : (x : Latitude) → latitudeRefusal x ≡ 0 → UsableLatitude x
 unfolding eccentricityRefusal
@@ -115,3 +120,31 @@ out-of-range-refused s L second h =
     ap (λ (r : ℕ). coded r (codeOf (s .arrangement) (lineCell s L second)))
     (in-range (s .latitude) (s .arrangement) (s .resolution) L second false (refuted (inRange L second) (λ e. h (range-holds e))) ∙ sym (setting-last s))
     ∙ refused-last (settingRefusal s) (codeOf (s .arrangement) (lineCell s L second))
+
+-- where the setting can be used, a line is refused with 6 or not at all
+module _ (s : Setting) (u : UsableSetting s) where
+  no-fix-six : noFix s ≡ Refused 6
+  unfolding noFix _otherwise_
+  no-fix-six = ap (λ (r : ℕ). Refused (r otherwise 6)) (usable-exactly s .1 u)
+
+  refused-six : (c : Coded) → c ≡ Refused 6 → (r : ℕ) → c ≡ Refused r → r ≡ 6
+  refused-six c e r f = ap refusalIn (sym f ∙ e)
+
+  fix-six : (L second : ℤ) (r : ℕ) → fixCoded s L second ≡ Refused r → r ≡ 6
+  unfolding fixCoded coded
+  fix-six L second r e = go (inRange L second) refl
+    where
+      go : (t : Bool) → inRange L second ≡ t → r ≡ 6
+      go true i =
+          let z : lineRefusal s L second ≡ 0 = in-range-refused s L second (range-holds i) ∙ usable-exactly s .1 u in
+          let f : Code (codeOf (s .arrangement) (lineCell s L second)) ≡ Refused r = sym (ap (λ (q : ℕ). coded q (codeOf (s .arrangement) (lineCell s L second))) z) ∙ e in
+          let k : _≡_ {A = ℕ} 0 1 = cc in absurd (omega arith)
+      go false i = refused-six _ (out-of-range-refused s L second (λ h. clash (sym (within-range h) ∙ i)) ∙ no-fix-six) r e
+
+  pub line-six : (line : List ℕ) (r : ℕ) → lineCode s line ≡ Refused r → r ≡ 6
+  unfolding lineCode ofLine
+  line-six line r e = go (fixIn line) e
+    where
+      go : (l : FixLine) → ofLine s l ≡ Refused r → r ≡ 6
+      go (Lines.Fix L second) f = fix-six L second r f
+      go Lines.Not f = refused-six _ no-fix-six r f

@@ -19,7 +19,7 @@ enum-known-refusal c = search needs
 
 returns : tie.Need-returns
 returns c =
-    (λ i. record { refusal = 0; place = 0; covered = c .as-number .ensures i })
+    (λ i. record { refusal = 0; place = 0; covered = c .as-number .ensures i; settled = c .before .before .covered .given .0 .1 .0 })
     ∙ sym (ap askNumbers (c .before .before .covered .given .1)) ∙ ap askNumbers (c .before .before .before .before .ask .ensures)
 
 returns-2 : tie.Need-returns-2

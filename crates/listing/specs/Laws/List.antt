@@ -2,21 +2,22 @@
 use mathlib.Core.Path.{_≡_, refl, ap, ap₂, _∙_}
 use mathlib.Core.Bool.{true}
 use mathlib.Core.List.{List, [], _∷_, map}
-use Prim.Native.Nat.{ℕ, _<_}
+use Prim.Native.Nat.{ℕ}
 use native.Mathlib.Omega.{arith}
 use lib.ListN.{length, drop, length-map}
-use Rattle.logic.specs.Rise.{Above, Rise}
+use Rattle.logic.specs.Rise.{Rise}
 use Rattle.cell.specs.declared.Cell.{Cell}
 use Rattle.cell.specs.declared.Arrangement.{Arrangement}
 use Rattle.cell.specs.Cell.{IsArrangement}
-use Rattle.code.specs.Code.{cellCode, codeOf, cellOf, arrangementOf}
-use Rattle.code.specs.Laws.Code.{cell-code, arrangement-code, code-order}
+use Rattle.code.specs.Code.{codeOf, cellOf, arrangementOf}
+use Rattle.code.specs.Laws.Code.{cell-code, arrangement-code}
 use Rattle.code.specs.Number.{codeAs}
 use Rattle.code.specs.Laws.Number.{code-as}
 use Rattle.reading.specs.Ground.{wholeCells, Cells, All, Rising, Apart}
 use Rattle.reading.specs.TextReading.{nodesOf, textArrangement, isText, bodyStart}
 use Rattle.reading.specs.Laws.TextReading.{reads-body, text-arranged}
 use Rattle.reading.specs.Laws.Demand.{whole-cells}
+use Rattle.reading.specs.Laws.Rising.{codes-rise}
 use Rattle.walk.specs.declared.Spot.{Spot}
 use Rattle.walk.specs.Walk.{origin, spotOf, walk}
 use Rattle.walk.specs.Laws.Walk.{walk-text}
@@ -30,14 +31,6 @@ module _ (a : Arrangement) where
   spot-codes : (cs : List Cell) → Cells cs → map (spotCode a) (map spotOf cs) ≡ map (codeOf a) cs
   spot-codes [] h = refl
   spot-codes (c ∷ cs) h = ap₂ _∷_ (code-as a c (h .0)) (spot-codes cs (h .1))
-
-  below-all : (c : Cell) (cs : List Cell) → All (λ (p : Cell). cellCode c < cellCode p) cs → Above (codeOf a c) (map (codeOf a) cs)
-  below-all c [] h = tt
-  below-all c (p ∷ cs) h = (code-order a c p .1 (h .0), below-all c cs (h .1))
-
-  codes-rise : (cs : List Cell) → Rising cs → Rise (map (codeOf a) cs)
-  codes-rise [] h = tt
-  codes-rise (c ∷ cs) h = (below-all c cs (h .0), codes-rise cs (h .1))
 
   module _ (g : IsArrangement a) where
     -- a code's cell is the cell, and its arrangement the one it was made in

@@ -11,7 +11,8 @@ use Rattle.signed.specs.Laws.Sign.{back, below-zero, sign-and-size}
 use Rattle.locate.specs.Fix.{inRange, isBelt, eastOf, offsetOf, heightOf, beltCell, capCell, northCell, southCell, fixCell}
 use Rattle.locate.specs.Internal.End.{turnedEnd}
 use Rattle.locate.specs.Laws.Fix.{fix-belt, fix-south, fix-north}
-use Rattle.locate.specs.Internal.RangeLaws.{east-small, z-small, belt-at, cap-at, offset-small}
+use Rattle.locate.specs.Internal.RangeLaws.{east-small, z-small, belt-at, cap-at}
+use Rattle.locate.specs.Laws.Bottom.{offset-small}
 use Rattle.locate.proofs.Laws.{stands-cell}
 use Rattle.locate.proofs.cell_of.Statement.{statement}
 use Rattle.locate.proofs.cell_of.Tie as tie

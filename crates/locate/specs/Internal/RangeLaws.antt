@@ -1,14 +1,14 @@
 -- What the range of a fix says of its numbers. Assumes nothing.
 use mathlib.Core.Path.{_≡_, refl, sym, ap, _∙_}
-use mathlib.Core.Bool.{Bool, true, false, _&&_}
+use mathlib.Core.Bool.{true, false, _&&_}
 use Prim.Native.Nat.{ℕ, zero, suc, _+_, _-_, _*_, _^_, _≤_, _<_}
 use native.Mathlib.Omega.{arith}
 use lib.IntN.{ℤ, pos, negsuc, negℤ, natAbs, negℤ-negℤ, _+ℤ_}
 use lib.Signed.{leZ}
 use borrow.Author.Tests.{leb-true, leb-false, le-leb, lt-leb}
 use Rattle.logic.specs.Laws.Bools.{and-left, and-right}
-use Rattle.signed.specs.Sign.{negative, withSign}
-use Rattle.signed.specs.Laws.Sign.{sub-at, size-between, minus-plain, sign-and-size}
+use Rattle.signed.specs.Sign.{withSign}
+use Rattle.signed.specs.Laws.Sign.{sub-at, size-between, minus-plain}
 use Rattle.locate.specs.Fix.{inRange, eastOf, isBelt, offsetOf, heightOf}
 
 pub east-small : (L : ℤ) → eastOf L < 3600000000
@@ -56,14 +56,6 @@ offset-south (suc y) = ap (λ (x : ℤ). natAbs (pos 2000000000000000000 +ℤ x)
 pub offset-north : (y : ℕ) → 3 * y ≤ 2 * 10 ^ 18 → 2 * 10 ^ 18 - 3 * y ≡ offsetOf (withSign false y)
 unfolding offsetOf
 offset-north y h = ap natAbs (sym (minus-plain (2 * 10 ^ 18) (pos (3 * y)) refl ∙ sub-at (2 * 10 ^ 18) (3 * y) h))
-
--- it is below 4 x 10^18: 3z is never 2 x 10^18
-offset-below : (b : Bool) (y : ℕ) → 3 * y ≤ 2 * 10 ^ 18 → offsetOf (withSign b y) < 4 * 10 ^ 18
-offset-below true y h = rw (← offset-south y) (omega arith)
-offset-below false y h = rw (← offset-north y h) (omega arith)
-
-pub offset-small : (z : ℤ) → isBelt z ≡ true → offsetOf z < 4 * 10 ^ 18
-offset-small z t = rw (sign-and-size z) at (offset-below (negative z) (natAbs z) (in-belt z t))
 
 -- ---- the caps: (10^9 h)^2 is below 10^18
 

@@ -3,7 +3,8 @@ use mathlib.Core.Path.{_≡_, refl, sym, ap, _∙_}
 use mathlib.Core.Logic.{_↔_}
 use mathlib.Core.Bool.{Bool, true, false, _&&_, not, cond}
 use Prim.Native.Nat.{ℕ, zero, suc, _+_, _-_, _*_, _/_, _%_, _^_, _≤_, _<_}
-use native.Mathlib.Nat.{pow-suc, mul-zero, mul-pos, mul-assoc, mul-comm, mul-left-comm, div-one, div-div-eq-div-mul}
+use native.Mathlib.Decide.{decLe}
+use native.Mathlib.Nat.{lt-of-not-le, pow-suc, mul-zero, mul-pos, mul-assoc, mul-comm, mul-left-comm, div-one, div-div-eq-div-mul}
 use native.Mathlib.Omega.{arith}
 use lib.Arith.{digits-div}
 use lib.Dec.{T, lit<}
@@ -26,7 +27,8 @@ use Rattle.root.specs.Laws.Floor.{floor-one, floor-below, floor-third'}
 use Rattle.locate.specs.Fix.{Agree, CapPoint, quarter, InRange, inRange, isBelt, eastOf, offsetOf, heightOf, startNorth}
 use Rattle.locate.specs.Fix.{startSouth, turnedNorth, turnedSouth, beltCell, capCell, northCell, southCell, fixCell, fixRefusal}
 use Rattle.locate.specs.Laws.Part.{part-lt, part-third}
-use Rattle.locate.specs.Internal.RangeLaws.{east-small, offset-small, height-small}
+use Rattle.locate.specs.Internal.RangeLaws.{east-small, height-small}
+use Rattle.locate.specs.Laws.Bottom.{offset-small}
 use Rattle.locate.specs.Laws.Turn.{Spanned, opposite-le, north-within, south-within, start-north, start-south}
 
 -- ---- the three places
@@ -51,6 +53,28 @@ module _ (a : Arrangement) (k : ℕ) (L z : ℤ) where
 
   pub fix-north : isBelt z ≡ false → ltZ z (pos 0) ≡ false → fixCell a k L z ≡ inNorth
   fix-north e f = outside-belt e ∙ ap (λ (t : Bool). cond t inSouth inNorth) f
+
+-- ---- the belt's bottom edge (02, W-213)
+
+-- The rule's row is past the last one on that edge only: there "it falls on the bottom edge"
+pub held-only : (k n : ℕ) → n ≤ 4 * 10 ^ 18 → 3 ^ k ≤ 3 ^ k * n / (4 * 10 ^ 18) → n ≡ 4 * 10 ^ 18
+held-only k n h l = go (decLe (4 * 10 ^ 18) n)
+  where
+    go : Dec (4 * 10 ^ 18 ≤ n) → n ≡ 4 * 10 ^ 18
+    go (yes e) = omega arith
+    go (no e) = absurd (omega (arith, part-lt (3 ^ k) n (4 * 10 ^ 18) (lt-of-not-le e) (power-pos k)))
+
+module _ (a : Arrangement) (k : ℕ) (L z : ℤ) (e : isBelt z ≡ true) where
+  -- a fix's row is the rule's, with "no such step there"
+  pub belt-row : fixCell a k L z .row ≡ 3 ^ k * offsetOf z / (4 * 10 ^ 18)
+  unfolding beltCell
+  belt-row = ap (λ (c : Cell). c .row) (fix-belt a k L z e)
+
+  -- and it is a row: "the case never occurs for a fix"
+  pub belt-row-below : fixCell a k L z .row < 3 ^ k
+  belt-row-below = rw belt-row (part-lt (3 ^ k) (offsetOf z) (4 * 10 ^ 18) (offset-small z e) (power-pos k))
+
+-- ---- the caps
 
 -- the points that the caps' floors are taken of
 north-point : (n east : ℕ) → Spanned quarter (turnedNorth (turnOf (east / quarter) n) (startNorth (east % quarter)))

@@ -12,6 +12,7 @@ use lib.ListN.{length}
 use borrow.Author.Tests.{lt-ltb, eq-eqb, ne-eqb}
 use Rattle.logic.specs.Laws.Lists.{all-append, all-each, all-map}
 use Rattle.cell.specs.declared.Cell.{Cell}
+use Rattle.cell.specs.Cell.{IsCell}
 use Rattle.reading.specs.declared.Level.{Level}
 use Rattle.reading.specs.declared.Level.the-variants.{Faces, Belt, Digits}
 use Rattle.reading.specs.declared.Profile.{Profile}
@@ -118,6 +119,11 @@ module _ (d : ℕ) where
   allows-roomy [] h = tt
   allows-roomy ([] ∷ qs) h = (tt, allows-roomy qs (h .1))
   allows-roomy ((c ∷ q) ∷ qs) h = (belt-room c (length q) .1 (h .0), allows-roomy qs (h .1))
+
+-- a cell is allowed exactly where its digits have room below its face
+pub allows-room : (p : Profile) (c : Cell) → IsCell c → Allows p c ↔ (c .resolution ≤ room (levelOf p) (c .face) (depthOf p))
+allows-room Full c v = ((λ h. v .fine), (λ h. tt))
+allows-room (Handheld d) c v = let b = belt-room d (c .face) (c .resolution) in (b .1, b .0)
 
 all-full : (qs : List Cell) → All (Allows Full) qs
 all-full [] = tt

@@ -78,7 +78,7 @@ no-more (w ∷ ws) qs a e =
 
 -- ---- the names of a reading are names
 
-name-longer : (c m r : ℕ) → c < m → (q : Name) → IsName 9 r q → IsName m (suc r) (c ∷ q)
+pub name-longer : (c m r : ℕ) → c < m → (q : Name) → IsName 9 r q → IsName m (suc r) (c ∷ q)
 name-longer c m r h [] n = absurd n
 name-longer c m r h (y ∷ q) n = (h, omega (arith, n .1), (n .0, n .2))
 

@@ -7,14 +7,16 @@ use native.Mathlib.Nat.{add-mul, mul-assoc, suc-mul, mul-le-mul-right}
 use native.Mathlib.Omega.{arith}
 use lib.ListN.{length}
 use Rattle.logic.specs.Lists.{All, Pairwise}
+use Rattle.logic.specs.Rise.{Above, Rise}
 use Rattle.logic.specs.Laws.Lists.{all-append, all-map, all-each}
 use Rattle.ternary.specs.Digits.{value, Below}
 use Rattle.ternary.specs.Laws.Digits.{value-below}
 use Rattle.ternary.specs.Laws.Powers.{nine-add}
 use Rattle.cell.specs.declared.Cell.{Cell}
+use Rattle.cell.specs.declared.Arrangement.{Arrangement}
 use Rattle.cell.specs.Cell.{IsCell}
-use Rattle.code.specs.Code.{digitsOf, pathOf, cellCode, sizeOf}
-use Rattle.code.specs.Laws.Code.{length-digits-of, digits-of-below}
+use Rattle.code.specs.Code.{digitsOf, pathOf, cellCode, codeOf, sizeOf}
+use Rattle.code.specs.Laws.Code.{length-digits-of, digits-of-below, code-order}
 use Rattle.code.specs.Inside.{Inside, startOf, endOf}
 use Rattle.code.specs.Laws.Inside.{start-code, size-pos, inside-within}
 use Rattle.reading.specs.declared.Level.{Level}
@@ -26,11 +28,11 @@ use Rattle.reading.specs.Prefix.{Name, numbersOf, Ahead, AheadAll, InOrd
 -- ---- the names rise
 
 -- it begins with this number or a later one
-abbrev From : ℕ → Name → Type 0
+abbrev pub From : ℕ → Name → Type 0
 From lo [] = ⊥
 From lo (x ∷ q) = lo ≤ x
 
-from-less : (lo hi : ℕ) → lo ≤ hi → (q : Name) → From hi q → From lo q
+pub from-less : (lo hi : ℕ) → lo ≤ hi → (q : Name) → From hi q → From lo q
 from-less lo hi h [] g = g
 from-less lo hi h (x ∷ q) g = omega arith
 
@@ -64,14 +66,14 @@ names-rise (listed c is ns) l d lo g =
 
 -- ---- numbers with zeros behind them, r numbers in all
 
-rank : ℕ → Name → ℕ
+unfoldable pub rank : ℕ → Name → ℕ
 rank r q = value 9 q * 9 ^ (r - length q)
 
 nine-rest : (r n : ℕ) → n ≤ r → 9 ^ n * 9 ^ (r - n) ≡ 9 ^ r
 nine-rest r n h = let s : n + (r - n) ≡ r = omega arith in sym (nine-add n (r - n)) ∙ ap (λ (x : ℕ). 9 ^ x) s
 
 -- the first number counts 9^r of the others
-rank-cons : (r a : ℕ) (q : Name) → length q ≤ r → rank (suc r) (a ∷ q) ≡ a * 9 ^ r + rank r q
+pub rank-cons : (r a : ℕ) (q : Name) → length q ≤ r → rank (suc r) (a ∷ q) ≡ a * 9 ^ r + rank r q
 unfolding rank value
 rank-cons r a q h =
     let n = length q in
@@ -80,7 +82,7 @@ rank-cons r a q h =
     ∙ add-mul (a * 9 ^ n) (value 9 q) (9 ^ (r - n))
     ∙ ap (λ (x : ℕ). x + value 9 q * 9 ^ (r - n)) (mul-assoc a (9 ^ n) (9 ^ (r - n)) ∙ ap (λ (x : ℕ). a * x) (nine-rest r n h))
 
-rank-end : (r : ℕ) (q : Name) → Below 9 q → length q ≤ r → rank r q + 9 ^ (r - length q) ≤ 9 ^ r
+pub rank-end : (r : ℕ) (q : Name) → Below 9 q → length q ≤ r → rank r q + 9 ^ (r - length q) ≤ 9 ^ r
 unfolding rank
 rank-end r q b h =
     let n = length q in
@@ -112,18 +114,18 @@ ahead-rank (suc r) (x ∷ q) (y ∷ p) b h k f =
 
 -- ---- the finest cells of a cell ahead come before the other's
 
-start-rank : (c : Cell) → IsCell c → startOf c ≡ rank 16 (numbersOf c)
+pub start-rank : (c : Cell) → IsCell c → startOf c ≡ rank 16 (numbersOf c)
 unfolding startOf pathOf rank numbersOf
 start-rank c v =
     let ds = digitsOf (c .resolution) (c .row) (c .column) in
     let n : length ds ≡ c .resolution = length-digits-of (c .resolution) (c .row) (c .column) in
     ap (λ (k : ℕ). c .face * 9 ^ 15 + value 9 ds * 9 ^ (15 - k)) (sym n) ∙ sym (rank-cons 15 (c .face) ds (omega (arith, v .fine)))
 
-length-name : (c : Cell) → length (numbersOf c) ≡ suc (c .resolution)
+pub length-name : (c : Cell) → length (numbersOf c) ≡ suc (c .resolution)
 unfolding numbersOf
 length-name c = ap suc (length-digits-of (c .resolution) (c .row) (c .column))
 
-name-below : (c : Cell) → IsCell c → Below 9 (numbersOf c)
+pub name-below : (c : Cell) → IsCell c → Below 9 (numbersOf c)
 unfolding numbersOf
 name-below c v = (omega (arith, v .faced), digits-of-below (c .resolution) (c .row) (c .column))
 
@@ -165,3 +167,13 @@ rise-rising = rise-each (λ c x. cellCode c < cellCode x) code-before
 
 pub rise-apart : (qs : List Cell) → Cells qs → InOrder (map numbersOf qs) → Apart qs
 rise-apart = rise-each (λ c x. (Inside c x → ⊥) × (Inside x c → ⊥)) apart-before
+
+-- ---- and so do their codes, in an arrangement
+
+below-all : (a : Arrangement) (c : Cell) (cs : List Cell) → All (λ (p : Cell). cellCode c < cellCode p) cs → Above (codeOf a c) (map (codeOf a) cs)
+below-all a c [] h = tt
+below-all a c (p ∷ cs) h = (code-order a c p .1 (h .0), below-all a c cs (h .1))
+
+pub codes-rise : (a : Arrangement) (cs : List Cell) → Rising cs → Rise (map (codeOf a) cs)
+codes-rise a [] h = tt
+codes-rise a (c ∷ cs) h = (below-all a c cs (h .0), codes-rise a cs (h .1))

@@ -58,13 +58,15 @@ pub listed-written : {p : Profile} {n s : ℕ} {t : List ℕ} {ns : Nodes} → R
 unfolding writtenText
 listed-written {p} {n} {s} {t} {ns} r = ap (λ (x : Nodes). heading p n s ++ render (levelOf p) x) (listed-nodes r) ∙ sym (r .body .all)
 
--- cells of one ground have one text, whatever the list
+-- cells of one ground have the same nodes, and so one text, whatever the list
+pub one-nodes : (qs ps : List Cell) → Cells qs → Cells ps → SameGround qs ps → nodesFor qs ≡ nodesFor ps
+one-nodes qs ps c d g =
+    let j = written-ground ps d in
+    only-nodes qs c (nodesFor ps) (nodes-good ps d) (λ x f. ((λ h. j x f .0 (g x f .0 h)), (λ h. g x f .1 (j x f .1 h))))
+
 pub one-text : (p : Profile) (n s : ℕ) (qs ps : List Cell) → Cells qs → Cells ps → SameGround qs ps → writtenText p n s qs ≡ writtenText p n s ps
 unfolding writtenText
-one-text p n s qs ps c d g =
-    let j = written-ground ps d in
-    ap (λ (x : Nodes). heading p n s ++ render (levelOf p) x)
-    (only-nodes qs c (nodesFor ps) (nodes-good ps d) (λ x f. ((λ h. j x f .0 (g x f .0 h)), (λ h. g x f .1 (j x f .1 h)))))
+one-text p n s qs ps c d g = ap (λ (x : Nodes). heading p n s ++ render (levelOf p) x) (one-nodes qs ps c d g)
 
 -- a text of some ground: accepted, with the heading of a profile and of (n, s)
 pub record TextOf (p : Profile) (n s : ℕ) (cells : List Cell) : Type 0 where

@@ -1,32 +1,52 @@
 -- `record_all` meets its contract: each turn records the line that it was handed. Assumes nothing.
-use mathlib.Core.Path.{_≡_, refl, sym, ap, _∙_}
-use mathlib.Core.Bool.{false}
-use mathlib.Core.List.{[]}
-use Prim.Native.Nat.{ℕ, _-_, _≤_}
+use mathlib.Core.Path.{_≡_, refl, sym, ap, _∙_, subst}
+use Prim.Native.Nat.{ℕ, suc, _+_, _-_, _≤_}
 use lib.ListN.{length, take}
 use lib.Seq.{length-take-le}
-use Rattle.track.specs.Track.{Held}
 use Rattle.lines.specs.Fold.{OfEnded}
 use Rattle.lines.specs.Laws.Fold.{no-line, then-none}
-use Rattle.flight.specs.Memory.{withLine}
+use Rattle.flight.specs.Recording.{Records, counted, withLine, started}
+use Rattle.flight.specs.Laws.Recording.{line-once}
 use Rattle.console.specs.Input.{unread}
 use Rattle.console.specs.Laws.Input.{line-given, line-length, last-given, last-length}
-use Rattle.record.proofs.Laws.{line-recorded, last-recorded}
+use Rattle.record.specs.Recorded.{flownOf, lineCount}
+use Rattle.record.proofs.Laws.{line-recorded, last-recorded, kept-flown, kept-recording, kept-count}
 use native.Mathlib.Omega.{arith}
 use borrow.Author.Needs.{needs}
 use Rattle.record.proofs.record_all.Statement.{statement}
 use Rattle.record.proofs.record_all.Tie as tie
 
 abbrev Inv-loop : tie.InvT-loop
-Inv-loop setting bytes₀ room₀ codes₀ from₀ end₀ memory₀ number₀ t13 bytes room codes from end memory number =
-    (from ≤ end) × (end ≤ length bytes) × Held codes (memory .count) × (length bytes ≡ length bytes₀) × (length room ≡ length room₀) × (length codes ≡ length codes₀)
-    × OfEnded (withLine setting (length codes₀)) ([], false) (take (memory .count) codes, memory .full)
+Inv-loop setting path bytes₀ room₀ text₀ from₀ end₀ flight₀ number₀ t17 bytes room text from end flight number =
+    (from ≤ end) × (end ≤ length bytes) × Records text (flight .recording) × (length bytes ≡ length bytes₀) × (length room ≡ length room₀) × (length text ≡ length text₀)
+    × (lineCount flight ≤ number) × OfEnded (withLine setting (length text₀)) (started setting) (flownOf text flight)
 
 abbrev μ-loop : tie.MeasureT-loop
-μ-loop setting bytes₀ room₀ codes₀ from₀ end₀ memory₀ number₀ t13 bytes room codes from end memory number = 18446744073709551615 - number
+μ-loop setting path bytes₀ room₀ text₀ from₀ end₀ flight₀ number₀ t17 bytes room text from end flight number = 18446744073709551615 - number
+
+-- the room of a line is large enough for a fix
+roomy : (c : tie.After-next-line Inv-loop μ-loop) → 43 ≤ length (c .next-line .last .1 .1 .1 .1 .0)
+roomy c = omega (
+  arith,
+  c .next-line .kept .1 .1 .1 .1 .0,
+  c .before .before .before .before .before .loop .inv .4,
+  c .before .before .before .before .before .before .before .before .before .before .pre .0,
+)
 
 loop-holds : tie.Need-loop-holds Inv-loop μ-loop
-loop-holds c = (omega arith, omega arith, record { fits = omega arith; rises = tt }, refl, refl, refl, no-line (withLine _ _) ([], false))
+loop-holds c =
+    let s = c .before .before .before .before in
+    let e = s .pre .2 in (
+      omega arith,
+      omega arith,
+      s .pre .1,
+      refl,
+      refl,
+      refl,
+      omega (arith, ap counted e),
+      subst (OfEnded (withLine (s .args .setting) (length (s .args .text .now))) (started (s .args .setting))) (sym e)
+          (no-line (withLine (s .args .setting) (length (s .args .text .now))) (started (s .args .setting))),
+    )
 
 add-number : tie.Need-add-number Inv-loop μ-loop
 add-number c = search needs
@@ -44,26 +64,41 @@ slice-reshare-prefix-record-line : tie.Need-slice-reshare-prefix-record-line Inv
 slice-reshare-prefix-record-line c = line-length _ _ _ (c .before .before .before .before .before .before .before .next-line .ensures) _ _ _ (c .before .length .given .1)
 
 slice-aggregate-record-line : tie.Need-slice-aggregate-record-line Inv-loop μ-loop
-slice-aggregate-record-line c = sym
-    (length-take-le _ _ (line-length _ _ _ (c .before .before .before .before .before .before .before .before .next-line .ensures) _ _ _ (c .before .before .length .given .1)))
+slice-aggregate-record-line c = sym (length-take-le _ _ (line-length _ _ _ (c .before .before .before .before .before .before .before .before .next-line .ensures) _ _ _
+    (c .before .before .length .given .1)))
 
 record-line-requires : tie.Need-record-line-requires Inv-loop μ-loop
-record-line-requires c κs = search needs
+record-line-requires c κs = let l = c .before .before .before .before .before .before .before .before .before .before .before .before .before .before .loop in (l .inv .2, omega (arith, l .inv .6))
+
+checkpoint-requires : tie.Need-checkpoint-requires Inv-loop μ-loop
+checkpoint-requires c κs =
+    let n = c .before .before .before .before .before .before .before .before .before .before .before .before .before in
+    (n .before .before .before .before .before .before .before .before .before .before .pre .3, c .before .before .before .record-line .ensures .1 .holds .fits)
 
 loop-less : tie.Need-loop-less Inv-loop μ-loop
-loop-less c = search needs
+loop-less c = omega (arith, c .before .before .before .before .before .before .before .before .before .before .before .before .before .before .before .before .before .before .loop-test .taken)
 
 loop-again : tie.Need-loop-again Inv-loop μ-loop
 loop-again c =
-    let n = c .before .before .before .before .before .before .before .before .before .before .before .before in
+    let n = c .before .before .before .before .before .before .before .before .before .before .before .before .before .before in
     let l = n .before .before .before .before .before .loop in
-    let a = n .before .before .before .before .before .before .before .before .before .args in
-    let line = c .before .before .before .before .before .before .length .given in
+    let a = n .before .before .before .before .before .before .before .before .before .before .args in
+    let line = c .before .before .before .before .before .before .before .before .length .given in
     let g = line-given _ _ _ (n .next-line .ensures) _ _ _ (line .1) in
-    let q = c .before .before .record-line .ensures in
-    let e = q .1 ∙ ap (λ (size : ℕ). withLine (a .setting) size (take (l .memory .count) (l .codes), l .memory .full) (take (line .0 .0) (n .next-line .last .1 .1 .1 .1 .0))) (l .inv .5) in
-    let v = line-recorded (a .setting) (n .next-line .last .1 .1 .1 .1 .0) (search needs) _ (line .0 .0) _ _ (l .inv .6) e (unread (l .bytes) (l .from) (l .end)) _ _ _ g in
-    (g .6, g .7, q .0, search needs, search needs, search needs, v)
+    let d = c .before .before .before .before .record-line in
+    let q = d .ensures in
+    let k = c .checkpoint .ensures in
+    let e = q .0 ∙ ap (λ (size : ℕ). withLine (a .setting) size (flownOf (l .text) (l .flight)) (take (line .0 .0) (n .next-line .last .1 .1 .1 .1 .0))) (l .inv .5) in
+    let v = line-recorded (a .setting) (n .next-line .last .1 .1 .1 .1 .0) (roomy n) _ (line .0 .0) _ _ (l .inv .7) e (unread (l .bytes) (l .from) (l .end)) _ _ _ g in (
+      g .6,
+      g .7,
+      subst (Records (d .last .1 .1 .1 .0)) (sym (kept-recording k)) (q .1),
+      search needs,
+      search needs,
+      search needs,
+      omega (arith, kept-count k, ap counted (q .0), line-once (a .setting) (length (l .text)) (flownOf (l .text) (l .flight)) (take (line .0 .0) (n .next-line .last .1 .1 .1 .1 .0)), l .inv .6),
+      subst (OfEnded (withLine (a .setting) (length (a .text .now))) (started (a .setting))) (sym (kept-flown k (d .last .1 .1 .1 .0))) v,
+    )
 
 enum-known-length-2 : tie.Need-enum-known-length-2 Inv-loop μ-loop
 enum-known-length-2 c = search needs
@@ -72,11 +107,11 @@ slice-reshare-prefix-record-line-2 : tie.Need-slice-reshare-prefix-record-line-2
 slice-reshare-prefix-record-line-2 c = last-length _ _ _ (c .before .before .before .before .before .before .before .next-line .ensures) _ (c .before .length2 .given .1)
 
 slice-aggregate-record-line-2 : tie.Need-slice-aggregate-record-line-2 Inv-loop μ-loop
-slice-aggregate-record-line-2 c = sym
-    (length-take-le _ _ (last-length _ _ _ (c .before .before .before .before .before .before .before .before .next-line .ensures) _ (c .before .before .length2 .given .1)))
+slice-aggregate-record-line-2 c = sym (length-take-le _ _ (last-length _ _ _ (c .before .before .before .before .before .before .before .before .next-line .ensures) _
+    (c .before .before .length2 .given .1)))
 
 record-line-requires-2 : tie.Need-record-line-requires-2 Inv-loop μ-loop
-record-line-requires-2 c κs = search needs
+record-line-requires-2 c κs = let l = c .before .before .before .before .before .before .before .before .before .before .before .before .before .before .loop in (l .inv .2, omega (arith, l .inv .6))
 
 same-length : tie.Need-same-length Inv-loop μ-loop
 same-length c = search needs
@@ -91,12 +126,12 @@ returns : tie.Need-returns Inv-loop μ-loop
 returns c =
     let n = c .before .before .before .before .before .before .before .before .before .before .before .before in
     let l = n .before .before .before .before .before .loop in
-    let a = n .before .before .before .before .before .before .before .before .before .args in
+    let a = n .before .before .before .before .before .before .before .before .before .before .args in
     let line = c .before .before .before .before .before .before .length2 .given in
     let g = last-given _ _ _ (n .next-line .ensures) _ (line .1) in
     let q = c .before .before .record-line2 .ensures in
-    let e = q .1 ∙ ap (λ (size : ℕ). withLine (a .setting) size (take (l .memory .count) (l .codes), l .memory .full) (take (line .0 .0) (n .next-line .last .1 .1 .1 .1 .0))) (l .inv .5) in
-    (q .0, last-recorded (a .setting) (n .next-line .last .1 .1 .1 .1 .0) (search needs) _ (line .0 .0) _ _ (l .inv .6) e (unread (l .bytes) (l .from) (l .end)) (n .next-line .last .1 .0) g)
+    let e = q .0 ∙ ap (λ (size : ℕ). withLine (a .setting) size (flownOf (l .text) (l .flight)) (take (line .0 .0) (n .next-line .last .1 .1 .1 .1 .0))) (l .inv .5) in
+    (last-recorded (a .setting) (n .next-line .last .1 .1 .1 .1 .0) (roomy n) _ (line .0 .0) _ _ (l .inv .7) e (unread (l .bytes) (l .from) (l .end)) (n .next-line .last .1 .0) g, q .1)
 
 enum-told : tie.Need-enum-told Inv-loop μ-loop
 enum-told c = search needs
@@ -111,7 +146,7 @@ same-length-6 : tie.Need-same-length-6 Inv-loop μ-loop
 same-length-6 c = search needs
 
 returns-2 : tie.Need-returns-2 Inv-loop μ-loop
-returns-2 c = let l = c .before .before .before .before .before .before .before .before .before .before .before .loop in (l .inv .2, then-none (withLine _ _) (l .inv .6))
+returns-2 c = let l = c .before .before .before .before .before .before .before .before .before .before .before .loop in (then-none (withLine _ _) (l .inv .7), l .inv .2)
 
 enum-told-2 : tie.Need-enum-told-2 Inv-loop μ-loop
 enum-told-2 c = search needs
@@ -126,7 +161,7 @@ same-length-9 : tie.Need-same-length-9 Inv-loop μ-loop
 same-length-9 c = search needs
 
 returns-3 : tie.Need-returns-3 Inv-loop μ-loop
-returns-3 c = tt
+returns-3 c = let l = c .before .before .before .before .before .before .before .before .before .before .before .loop in (then-none (withLine _ _) (l .inv .7), l .inv .2)
 
 same-length-10 : tie.Need-same-length-10 Inv-loop μ-loop
 same-length-10 c = search needs
@@ -138,7 +173,7 @@ same-length-12 : tie.Need-same-length-12 Inv-loop μ-loop
 same-length-12 c = search needs
 
 returns-4 : tie.Need-returns-4 Inv-loop μ-loop
-returns-4 c = tt
+returns-4 c = let l = c .before .loop in (then-none (withLine _ _) (l .inv .7), l .inv .2)
 
 pub record-all-spec : {M : Type 1} → statement M
 record-all-spec =
@@ -154,6 +189,7 @@ record-all-spec =
     slice-reshare-prefix-record-line
     slice-aggregate-record-line
     record-line-requires
+    checkpoint-requires
     loop-less
     loop-again
     enum-known-length-2

@@ -1,5 +1,6 @@
 -- `report::put_asked` meets its contract: each case has its line. Assumes nothing.
 use mathlib.Core.Path.{sym, ap, _∙_}
+use mathlib.Core.Bool.{Bool}
 use Rattle.asking.specs.declared.Asked.the-variants as asked-as
 use Rattle.report.specs.Lines.{askedLine}
 use Rattle.report.proofs.Laws.{put-as}
@@ -25,7 +26,8 @@ unfolding askedLine
 returns c =
     let q = c .before .before .copy .ensures in
     let x = c .before .before .before .before .before in
-    let e = x .before .before .asked .given .1 ∙ ap asked-as.Covered (x .if1 .taken) in
+    let g = x .before .before .asked .given in
+    let e = g .1 ∙ ap (λ (b : Bool). asked-as.Answer b (g .0 .1 .0)) (x .if1 .taken) in
     (put-as (ap askedLine (sym e)) (record { ends = q .0; is = q .1 }), omega (arith, q .0))
 
 slice-aggregate-copy-2 : tie.Need-slice-aggregate-copy-2
@@ -48,7 +50,8 @@ unfolding askedLine
 returns-2 c =
     let q = c .before .before .copy2 .ensures in
     let x = c .before .before .before .before .before in
-    let e = x .before .before .asked .given .1 ∙ ap asked-as.Covered (x .if1 .left) in
+    let g = x .before .before .asked .given in
+    let e = g .1 ∙ ap (λ (b : Bool). asked-as.Answer b (g .0 .1 .0)) (x .if1 .left) in
     (put-as (ap askedLine (sym e)) (record { ends = q .0; is = q .1 }), omega (arith, q .0))
 
 same-length-3 : tie.Need-same-length-3

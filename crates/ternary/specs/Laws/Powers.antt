@@ -1,10 +1,24 @@
 -- Laws of powers of three and of nine. Assumes nothing.
 use mathlib.Core.Path.{_≡_, refl, sym, ap, ap₂, _∙_}
+use mathlib.Core.Bool.{true}
 use Prim.Native.Nat.{ℕ, zero, suc, _+_, _-_, _*_, _^_, _≤_, _<_}
 use native.Mathlib.Numerals.{add-one}
 use native.Mathlib.Nat.{pow-suc, mul-assoc, mul-comm, mul-left-comm, one-le-pow, zero-lt-suc, pow-le-pow-right}
 use native.Mathlib.Omega.{arith}
+use lib.ListN.{getD}
 use lib.Pow.{pow-add}
+use Rattle.logic.specs.Table.{follows}
+use Rattle.logic.specs.Laws.Table.{table-entry}
+use Rattle.ternary.specs.Internal.Powers.{powers}
+
+-- "Powers of three .. come from a short table, its rule shown once" (02, W-213): one test, computed over the whole table, gives each entry
+powers-follow : follows (λ (e : ℕ). 3 ^ e) 0 powers ≡ true
+unfolding follows powers
+powers-follow = refl
+
+pub power-entry : (e : ℕ) → e ≤ 15 → getD powers e 0 ≡ 3 ^ e
+unfolding powers
+power-entry e h = table-entry (λ (x : ℕ). 3 ^ x) powers powers-follow e (omega arith)
 
 pub next-power : (i : ℕ) → 3 ^ (i + 1) ≡ 3 ^ i * 3
 next-power i = ap (λ (x : ℕ). 3 ^ x) (add-one i) ∙ pow-suc 3 i

@@ -155,7 +155,7 @@ goes-nodes (listed c is ns) l d k p rest g h =
 -- ---- the spots are those of the whole cells
 
 -- the spot of a name inside a cell of number p
-named : ℕ → ℕ → Name → Spot
+unfoldable pub named : ℕ → ℕ → Name → Spot
 named k p q = spot (k + length q - 1) (p * 9 ^ length q + value 9 q)
 
 named-list : (k p c : ℕ) (q : Name) → named (k + 1) (p * 9 + c) q ≡ named k p (c ∷ q)
@@ -168,11 +168,11 @@ named-list k p c q =
     ap (λ (x : ℕ). p * x) (pow-suc 9 (length q) ∙ mul-comm n 9) ∙ sym (mul-assoc p 9 n) in
     ap₂ spot e (omega arith)
 
-named-one : (k p c : ℕ) → spot k (p * 9 + c) ≡ named k p (c ∷ [])
+pub named-one : (k p c : ℕ) → spot k (p * 9 + c) ≡ named k p (c ∷ [])
 unfolding named value
 named-one k p c = let e : k ≡ k + 1 - 1 = omega arith in ap₂ spot e (omega arith)
 
-named-all : (k p c : ℕ) (qs : List Name) → map (named (k + 1) (p * 9 + c)) qs ≡ map (named k p) (map (λ (q : Name). c ∷ q) qs)
+pub named-all : (k p c : ℕ) (qs : List Name) → map (named (k + 1) (p * 9 + c)) qs ≡ map (named k p) (map (λ (q : Name). c ∷ q) qs)
 named-all k p c [] = refl
 named-all k p c (q ∷ qs) = ap₂ _∷_ (named-list k p c q) (named-all k p c qs)
 
@@ -196,7 +196,7 @@ named-cell (f ∷ ds) h =
     let i : 0 + suc (length ds) - 1 ≡ length ds = omega arith in
     ap₂ spot i (omega arith)
 
-named-cells : (qs : List Name) → AreNames 6 15 qs → map (named 0 0) qs ≡ map spotOf (map cellNamed qs)
+pub named-cells : (qs : List Name) → AreNames 6 15 qs → map (named 0 0) qs ≡ map spotOf (map cellNamed qs)
 named-cells [] h = refl
 named-cells (q ∷ qs) h = ap₂ _∷_ (named-cell q (h .0)) (named-cells qs (h .1))
 

@@ -20,6 +20,12 @@ fn main() {
     for (line, refusal) in &flown.left_out {
         eprintln!("line {line}: refusal {refusal}");
     }
-    let text = flown.text.expect("the text is refused");
-    std::io::stdout().write_all(&text).expect("standard output");
+    let (taken, full) = (flown.taken, flown.refused(13));
+    eprintln!(
+        "{taken} fixes taken, {} lines refused with 6, {full} with 13",
+        flown.refused(6)
+    );
+    std::io::stdout()
+        .write_all(&flown.text)
+        .expect("standard output");
 }

@@ -1,0 +1,3 @@
+pub mod Chain
+pub mod Rounding
+pub mod Scale

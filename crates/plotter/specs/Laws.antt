@@ -1,0 +1,3 @@
+pub mod Box
+pub mod Frame
+pub mod Order

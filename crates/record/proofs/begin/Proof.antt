@@ -1,0 +1,19 @@
+-- `begin` meets its contract. Assumes nothing.
+use Rattle.flight.specs.Laws.Setting.{usable-exactly}
+use Rattle.flight.specs.Recording.{Flown}
+use native.Mathlib.Omega.{arith}
+use borrow.Author.Needs.{needs}
+use Rattle.record.proofs.begin.Statement.{statement}
+use Rattle.record.proofs.begin.Tie as tie
+
+begin-requires : tie.Need-begin-requires
+begin-requires c κs = (usable-exactly _ .0 (c .before .before .pre .0) .arrangement, c .before .before .pre .1)
+
+same-length : tie.Need-same-length
+same-length c = search needs
+
+returns : tie.Need-returns
+returns c = let b = c .before .before .begin .ensures in ((λ i. record { text = b .0 i; fixes = 0; full = 0; bad = 0 }), b .1)
+
+pub begin-spec : {M : Type 1} → statement M
+begin-spec = tie.close (tie.spec begin-requires same-length returns)
