@@ -25,9 +25,12 @@
  *       the asked one, or two texts whose headings differ in n or s
  *   15  list, or text with a cell, outside the profile of version 2: the fewest cells of its ground hold a part of N or S, or one deeper than
  *       the asked depth or the text's
+ *   16  a change of settings that was not made from the newest revision
+ *   17  a change of settings past revision 65,535
+ *   18  a revision of settings that is dropped or not yet made
  *   19  a face side in metres out of range or not a number, a frame handed in with an edge that is not a number
  *
- * Where several apply, the order is 19, 5, 2, 1, 3, 4, 6, 7, 12, 13, 10, 9, 14, 11, 15, 8; in
+ * Where several apply, the order is 19, 5, 2, 1, 3, 4, 6, 7, 12, 13, 10, 9, 14, 11, 15, 8, 18, 16, 17; in
  * writing 13 comes after 15; jgv_coverage_add has its own order. Faces 0 to 5 are N, O, P, Q, R, S; N lies above face n of O to R and S below
  * face s, both from 0 to 3.
  *
@@ -65,6 +68,13 @@ typedef struct { uint64_t refusal, kind; double numbers[4]; } jgv_mark_answer;
 typedef struct { double left, bottom, right, top; } jgv_frame;
 typedef struct { uint64_t refusal; double left, bottom, right, top; } jgv_frame_answer;
 typedef struct { uint64_t refusal, place, first_cells, second_cells, both_cells, first_size, second_size, both_size; } jgv_compare;
+
+/* Settings: an arrangement, the working resolution, and the squared eccentricity, from 0 to 10,000,000,000 in units of 10^-12. */
+typedef struct { uint64_t n, s, resolution, eccentricity; } jgv_settings;
+/* Settings with their past: the newest revision, and what was accepted under the last 32; revision r stands at r modulo 32. */
+typedef struct { uint64_t newest; jgv_settings kept[32]; } jgv_history;
+typedef struct { uint64_t refusal; jgv_history history; } jgv_history_answer;
+typedef struct { uint64_t refusal; jgv_settings settings; } jgv_settings_answer;
 
 /* The code of a cell in an arrangement. Refusals 5, 2, 1, 3. */
 jgv_code jgv_cell_code(uint64_t n, uint64_t s, uint64_t face, uint64_t resolution, uint64_t row, uint64_t column);
@@ -171,6 +181,20 @@ jgv_frame_answer jgv_frame_first(double side, uint64_t code);
 /* A frame grown to hold the box of a further cell, in metres: each edge becomes the one further out, on a tie the frame's, as -0.0 stays beside
  * 0.0. An infinite edge is a number. Refusals 19, 4. */
 jgv_frame_answer jgv_frame_grow(double side, jgv_frame frame, uint64_t code);
+
+/* A history whose revision 0 is these settings. It is a value, handed from call to call: each change answers the next one. A history that no such
+ * calls made gets some answer. Refusals 5, 2, 6. */
+jgv_history_answer jgv_settings_fresh(uint64_t n, uint64_t s, uint64_t resolution, uint64_t eccentricity);
+
+/* The history with these settings as a new revision. `revision` is the one that the change was made from, which must be the newest. The
+ * thirty-third revision drops the oldest. A refused change answers the history that it was given. Refusals 5, 2, 6, 16, 17. */
+jgv_history_answer jgv_settings_change(jgv_history history, uint64_t revision, uint64_t n, uint64_t s, uint64_t resolution, uint64_t eccentricity);
+
+/* The same with the settings of a kept revision, `wanted`. Refusals 18, 16, 17. */
+jgv_history_answer jgv_settings_back(jgv_history history, uint64_t revision, uint64_t wanted);
+
+/* What was accepted under a kept revision. Refusal 18. */
+jgv_settings_answer jgv_settings_read(jgv_history history, uint64_t revision);
 
 /* What two texts of one arrangement cover, each as the fewest cells in rising order: only the first to `firsts`, only the second to
  * `seconds`, both to `boths`; how many cells each listing has, and the sum of their sizes. First only and both add up to the first text's

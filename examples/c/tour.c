@@ -399,6 +399,35 @@ static void coverage(void) {
     print_bad_text("O(012345678)");
 }
 
+/* The history after a change, or the one at hand where it is refused. */
+static jgv_history after_change(const char *what, jgv_history_answer answer) {
+    printf("%s -> ", what);
+    if (answer.refusal)
+        printf("refused with %" PRIu64 "\n", answer.refusal);
+    else
+        printf("newest %" PRIu64 "\n", answer.history.newest);
+    return answer.history;
+}
+
+/* A history is a value, handed from call to call: each change answers the next one, and a refused change the one that it was given. */
+static void office(void) {
+    const uint64_t wgs84 = 6694379990;
+    jgv_history history = after_change("settings_fresh: 0 0 9 6694379990", jgv_settings_fresh(0, 0, 9, wgs84));
+    history = after_change("settings_change: from 0, 1 0 10 6694379990", jgv_settings_change(history, 0, 1, 0, 10, wgs84));
+    /* Two people changed revision 0: the second of them has to look at revision 1 first. */
+    history = after_change("settings_change: from 0, 0 0 11 6694379990", jgv_settings_change(history, 0, 0, 0, 11, wgs84));
+    history = after_change("settings_back: from 1, to 0", jgv_settings_back(history, 1, 0));
+    for (uint64_t revision = 0; revision <= 3; revision++) {
+        jgv_settings_answer read = jgv_settings_read(history, revision);
+        jgv_settings kept = read.settings;
+        printf("settings_read: %" PRIu64 " -> ", revision);
+        if (read.refusal)
+            printf("refused with %" PRIu64 "\n", read.refusal);
+        else
+            printf("%" PRIu64 " %" PRIu64 " %" PRIu64 " %" PRIu64 "\n", kept.n, kept.s, kept.resolution, kept.eccentricity);
+    }
+}
+
 static void print_listing(const char *which, const uint64_t *codes, uint64_t count, uint64_t size) {
     printf("coverage_compare: P(34(1)) and P(4): %s ->", which);
     for (uint64_t i = 0; i < count; i++)
@@ -434,6 +463,7 @@ int main(void) {
     two_arrangements();
     handhelds();
     plotter();
+    office();
     crews();
     return 0;
 }

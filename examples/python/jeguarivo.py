@@ -36,6 +36,9 @@ REASONS = {
     13: "a text longer than 65,536 bytes",
     14: "a question of another arrangement than the text's, a list with a code of another arrangement than the asked one, or two texts that differ in n or s",
     15: "a list outside the profile: a part of N or S, or a cell deeper than the asked depth",
+    16: "a change of settings that was not made from the newest revision",
+    17: "a change of settings past revision 65,535",
+    18: "a revision of settings that is dropped or not yet made",
     19: "a face side that is not a number from 1 to 2^30, or a frame with an edge that is not a number",
 }
 
@@ -110,6 +113,15 @@ class Frame(NamedTuple):
 Mark = Union[PointInMetres, Frame]  # what the plotter draws
 
 
+class Settings(NamedTuple):
+    """An arrangement, the working resolution and the squared eccentricity."""
+
+    n: int
+    s: int
+    resolution: int
+    eccentricity: int
+
+
 def _struct(name: str, kind: type, *fields: str) -> type:
     """The struct of an answer: `refusal`, then fields of one kind, in the header's order."""
     return type(name, (ctypes.Structure,), {"_fields_": [("refusal", c_uint64), *((field, kind) for field in fields)]})
@@ -141,6 +153,20 @@ class _MarkAnswer(ctypes.Structure):
 class _Frame(ctypes.Structure):
     _fields_ = [(edge, c_double) for edge in Frame._fields]
 _Compare = _struct("jgv_compare", c_uint64, "place", "first_cells", "second_cells", "both_cells", "first_size", "second_size", "both_size")
+
+
+class _Settings(ctypes.Structure):
+    _fields_ = [(field, c_uint64) for field in Settings._fields]
+
+
+class History(ctypes.Structure):
+    """Settings with their past: `newest` is the newest revision. A value: the functions answer a new one."""
+
+    _fields_ = [("newest", c_uint64), ("_kept", _Settings * 32)]
+
+
+_HistoryAnswer = _struct("jgv_history_answer", History, "history")
+_SettingsAnswer = _struct("jgv_settings_answer", _Settings, "settings")
 
 
 class _U64:
@@ -211,6 +237,10 @@ _mark_point = _entry("jgv_mark_point", _MarkAnswer, c_double, _U64, _U64, _I64, 
 _mark_code = _entry("jgv_mark_code", _MarkAnswer, c_double, _U64)
 _frame_first = _entry("jgv_frame_first", _FrameAnswer, c_double, _U64)
 _frame_grow = _entry("jgv_frame_grow", _FrameAnswer, c_double, _Frame, _U64)
+_settings_fresh = _entry("jgv_settings_fresh", _HistoryAnswer, _U64, _U64, _U64, _U64)
+_settings_change = _entry("jgv_settings_change", _HistoryAnswer, History, _U64, _U64, _U64, _U64, _U64)
+_settings_back = _entry("jgv_settings_back", _HistoryAnswer, History, _U64, _U64)
+_settings_read = _entry("jgv_settings_read", _SettingsAnswer, History, _U64)
 _coverage_compare = _entry("jgv_coverage_compare", _Compare, _BYTES, c_size_t, _BYTES, c_size_t, _CODES, c_size_t, _CODES, c_size_t, _CODES, c_size_t)
 
 
@@ -380,6 +410,27 @@ def frame_first(side: float, code: int) -> Frame:
 def frame_grow(side: float, frame: Frame, code: int) -> Frame:
     """A frame grown to hold the box of a further cell."""
     return _frame(_frame_grow(side, _Frame(*frame), code))
+
+
+def settings_fresh(settings: Settings) -> History:
+    """A history whose revision 0 is these settings."""
+    return _settings_fresh(*settings).history
+
+
+def settings_change(history: History, revision: int, settings: Settings) -> History:
+    """The history with these settings as a new revision, made from `revision`, which must be the newest."""
+    return _settings_change(history, revision, *settings).history
+
+
+def settings_back(history: History, revision: int, wanted: int) -> History:
+    """The same with the settings of a kept revision."""
+    return _settings_back(history, revision, wanted).history
+
+
+def settings_read(history: History, revision: int) -> Settings:
+    """What was accepted under a kept revision."""
+    got = _settings_read(history, revision).settings
+    return Settings(got.n, got.s, got.resolution, got.eccentricity)
 
 
 def coverage_compare(first: bytes, second: bytes) -> Tuple[Listing, Listing, Listing]:

@@ -228,6 +228,24 @@ def plotter():
     print(f"frame_grow: side {side:.1f}, a top that is not a number, and P1 -> {refusal(jgv.frame_grow, side, bad, code_of('P1'))}")
 
 
+def office():
+    """A history is a value, handed from call to call: each change answers the next one, and a refused change leaves the one at hand."""
+    history = jgv.settings_fresh(jgv.Settings(0, 0, 9, jgv.WGS84))
+    print(f"settings_fresh: 0 0 9 {jgv.WGS84} -> newest {history.newest}")
+    history = jgv.settings_change(history, 0, jgv.Settings(1, 0, 10, jgv.WGS84))
+    print(f"settings_change: from 0, 1 0 10 {jgv.WGS84} -> newest {history.newest}")
+    # Two people changed revision 0: the second of them has to look at revision 1 first.
+    stale = refusal(jgv.settings_change, history, 0, jgv.Settings(0, 0, 11, jgv.WGS84))
+    print(f"settings_change: from 0, 0 0 11 {jgv.WGS84} -> {stale}")
+    history = jgv.settings_back(history, 1, 0)
+    print(f"settings_back: from 1, to 0 -> newest {history.newest}")
+    for revision in range(4):
+        try:
+            print(f"settings_read: {revision} ->", *jgv.settings_read(history, revision))
+        except jgv.Refused as refused:
+            print(f"settings_read: {revision} -> refused with {refused.number}")
+
+
 def crews():
     """What you flew and I did not: two texts of one arrangement, which may be of two versions. Each listing is the fewest cells of its ground."""
     first, second = b"CVR\0\x0100P(34(1))", b"CVR\0\x0200bP(4)"
@@ -241,5 +259,6 @@ def crews():
 if __name__ == "__main__":
     for part in (
         codes_and_names, families, shapes, plane, ground, neighbours, corners, coverage, additions, two_arrangements, handhelds, plotter, crews,
+        office,
     ):
         part()

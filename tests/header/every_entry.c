@@ -1227,6 +1227,85 @@ static void frame_grow(void) {
     }
 }
 
+/* What a change answers: the refusal, and the newest revision of the history that it hands back. */
+static jgv_history changed(jgv_history_answer got, uint64_t refusal, uint64_t newest, const char *call) {
+    CHECK(got.refusal, refusal, call);
+    CHECK(got.history.newest, newest, call);
+    return got.history;
+}
+#define CHANGED(call, refusal, newest) changed((call), refusal, newest, #call)
+
+#define KEPT(history, revision, want_refusal, want_n, want_s, want_resolution, want_eccentricity)     \
+    do {                                                                                              \
+        jgv_settings_answer got = jgv_settings_read(history, revision);                               \
+        CHECK(got.refusal, want_refusal, "jgv_settings_read: refusal of " #revision);                 \
+        CHECK(got.settings.n, want_n, "jgv_settings_read: n of " #revision);                          \
+        CHECK(got.settings.s, want_s, "jgv_settings_read: s of " #revision);                          \
+        CHECK(got.settings.resolution, want_resolution, "jgv_settings_read: resolution of " #revision); \
+        CHECK(got.settings.eccentricity, want_eccentricity, "jgv_settings_read: eccentricity of " #revision); \
+    } while (0)
+
+static void settings(void) {
+    const uint64_t most = 10000000000;
+    jgv_history none, history, same;
+    memset(&none, 0, sizeof none);
+
+    /* contents by 5, 2 and 6, and zeros for a history that was not made */
+    CHANGED(jgv_settings_fresh(4, 0, 16, most + 1), 5, 0);
+    CHANGED(jgv_settings_fresh(0, WIDE, 16, most + 1), 5, 0);
+    CHANGED(jgv_settings_fresh(3, 3, 16, most + 1), 2, 0);
+    CHANGED(jgv_settings_fresh(3, 3, WIDE, 0), 2, 0);
+    history = CHANGED(jgv_settings_fresh(3, 3, 15, most + 1), 6, 0);
+    CHECK(memcmp(&history, &none, sizeof none), 0, "jgv_settings_fresh: zeros beside a refusal");
+
+    history = CHANGED(jgv_settings_fresh(1, 2, 9, most), 0, 0);
+    KEPT(history, 0, 0, 1, 2, 9, most);
+    KEPT(history, 1, 18, 0, 0, 0, 0);
+    history = CHANGED(jgv_settings_change(history, 0, 3, 0, 15, 0), 0, 1);
+    KEPT(history, 0, 0, 1, 2, 9, most);
+    KEPT(history, 1, 0, 3, 0, 15, 0);
+    KEPT(history, 2, 18, 0, 0, 0, 0);
+
+    /* a refused change hands back the same; contents are judged first, then 16; 18 comes before 16 */
+    same = CHANGED(jgv_settings_change(history, 0, 4, 0, 0, 0), 5, 1);
+    CHECK(memcmp(&same, &history, sizeof same), 0, "jgv_settings_change: the history beside 5");
+    CHANGED(jgv_settings_change(history, 0, 0, 0, 16, 0), 2, 1);
+    CHANGED(jgv_settings_change(history, 0, 0, 0, 0, most + 1), 6, 1);
+    same = CHANGED(jgv_settings_change(history, 0, 0, 0, 0, 0), 16, 1);
+    CHECK(memcmp(&same, &history, sizeof same), 0, "jgv_settings_change: the history beside 16");
+    CHANGED(jgv_settings_change(history, 2, 0, 0, 0, 0), 16, 1);
+    CHANGED(jgv_settings_change(history, 1 + WIDE, 0, 0, 0, 0), 16, 1);
+    CHANGED(jgv_settings_back(history, 1, 2), 18, 1);
+    CHANGED(jgv_settings_back(history, 0, 2), 18, 1);
+    CHANGED(jgv_settings_back(history, 1, WIDE), 18, 1);
+    same = CHANGED(jgv_settings_back(history, 0, 0), 16, 1);
+    CHECK(memcmp(&same, &history, sizeof same), 0, "jgv_settings_back: the history beside 16");
+    history = CHANGED(jgv_settings_back(history, 1, 0), 0, 2);
+    KEPT(history, 2, 0, 1, 2, 9, most);
+
+    /* the thirty-third drops the oldest, and there is none past 65,535 */
+    for (uint64_t revision = 2; revision < 65535; revision++) {
+        jgv_history_answer got = jgv_settings_change(history, revision, revision % 4, revision / 4 % 4, revision % 16, revision);
+        history = got.history;
+        if (got.refusal != 0 || history.newest != revision + 1)
+            break;
+        if (revision == 30)
+            KEPT(history, 0, 0, 1, 2, 9, most);
+        if (revision == 31)
+            KEPT(history, 0, 18, 0, 0, 0, 0);
+    }
+    CHECK(history.newest, 65535, "jgv_settings_change: 65,535 revisions");
+    KEPT(history, 65535, 0, 2, 3, 14, 65534);
+    KEPT(history, 65504, 0, 3, 3, 15, 65503);
+    KEPT(history, 65503, 18, 0, 0, 0, 0);
+    KEPT(history, 65536, 18, 0, 0, 0, 0);
+    same = CHANGED(jgv_settings_change(history, 65535, 0, 0, 0, 0), 17, 65535);
+    CHECK(memcmp(&same, &history, sizeof same), 0, "jgv_settings_change: the history beside 17");
+    CHANGED(jgv_settings_change(history, 65534, 0, 0, 0, 0), 16, 65535);
+    CHANGED(jgv_settings_back(history, 65535, 65535), 17, 65535);
+    CHANGED(jgv_settings_back(history, 65535, 65503), 18, 65535);
+}
+
 int main(void) {
     cell_code();
     code_cell();
@@ -1255,6 +1334,7 @@ int main(void) {
     mark_code();
     frame_first();
     frame_grow();
+    settings();
     coverage_compare();
     long_lists(); /* last, since it fills `long_text` and `many` */
     if (failed)

@@ -14,6 +14,11 @@ try "a folder that is not there" 'echo 0 0 | record 0 0 1 to none/kept' "${H}Q(3
 mkdir -p folder
 try "a folder in the file's place" 'echo 0 0 | record 0 0 1 to folder' "${H}Q(3)" 'record: folder: Is a directory; record: folder: Is a directory; 1+0+0'
 try "a full disk" 'echo 0 0 | record 0 0 1 to /dev/full/f' "${H}Q(3)" '*Not a directory*; 1+0+0'
+try "what is beside cannot be synced" "ln -s /dev/null synced.part; echo 0 0 | record 0 0 1 to synced >out1; cat synced; ls synced*" "${H}Q(3)synced\n" \
+    'record: synced.part: Invalid argument; 1+0+0' # the link is removed, and the next one is a file
+try "a full disk, with nothing left beside" "ln -s /dev/full nospace.part; echo 0 0 | record 0 0 1 to nospace >out1; cat nospace; ls nospace*" "${H}Q(3)nospace\n" \
+    'record: nospace.part: No space left on device; 1+0+0'
+try "a file of the one before beside" "echo half >halved.part; echo 0 0 | record 0 0 1 to halved >out1; cat halved; ls halved*" "${H}Q(3)halved\n" 1+0+0
 try "an input that fails" "failing '0 0\\n' record 0 0 1 to kept.cvr >/dev/null; cat kept.cvr" "${H}Q(3)" 'record: standard input: *; 1+0+0'
 
 # after so many lines: one writes into a pipe and looks at the file meanwhile

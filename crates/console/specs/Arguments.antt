@@ -4,6 +4,7 @@ use mathlib.Core.Bool.{cond}
 use mathlib.Core.List.{List}
 use Prim.Native.Nat.{ℕ}
 use lib.Dec.{eqb}
+use Rattle.logic.specs.Refusal.{given}
 use Rattle.decimal.specs.declared.Whole.{Whole}
 use Rattle.decimal.specs.declared.Whole.the-variants.{Is, Not}
 use Rattle.decimal.specs.Decimal.{wholeIn}
@@ -22,6 +23,11 @@ OfWord r = (word : List ℕ) × (r ≡ wholeIn word)
 abbrev pub Usable : Arguments → Type 0
 Usable (Good s) = settingRefusal s ≡ 0
 Usable Wrong = Unit {0}
+
+-- the setting that is given, if it is not refused
+abbrev pub judged : Arguments → Arguments
+judged (Good s) = given (settingRefusal s) (Good s) Wrong
+judged Wrong = Wrong
 
 -- "the squared eccentricity E" (02, W-203), if the word is a number
 abbrev pub eccentricityGiven : (fourth : Whole) → LatitudeGiven

@@ -1,5 +1,6 @@
 pub mod Arguments
 pub mod Beside
+pub mod History
 pub mod Input
 pub mod Laws
 pub mod Names

@@ -1,9 +1,11 @@
 // What the programs share: words for people on standard error, arguments, and input and output that can fail.
 ghost use mathlib.Core.Path.{_≡_};
+ghost use mathlib.Core.Bool.{true};
 ghost use Prim.Native.Nat.{_+_, _≤_, _<_};
 ghost use lib.ListN.{length, take};
-ghost use Rattle.console.specs.Arguments.{latitudeGiven, settingGiven, OfWord, Usable};
-ghost use Rattle.console.specs.Beside.{besideOf};
+ghost use Rattle.console.specs.Arguments.{latitudeGiven, settingGiven, judged, OfWord, Usable};
+ghost use Rattle.console.specs.Beside.{besideOf, Folder};
+ghost use Rattle.console.specs.History.{loadedFrom, OfBytes, revisionWanted, settingAt, settingWanted};
 ghost use Rattle.console.specs.Input.{unread, Given, Fits, lastLine};
 ghost use Rattle.console.specs.Room.{Made};
 ghost use Rattle.console.specs.Names.{NamesWritten};
@@ -11,6 +13,7 @@ use cell::Arrangement;
 use decimal::Whole;
 use flight::Latitude;
 use flight::Setting;
+use history::History;
 use libc::STDERR_FILENO;
 use libc::STDIN_FILENO;
 use libc::STDOUT_FILENO;
@@ -26,6 +29,12 @@ pub enum Arguments {
 enum LatitudeGiven {
     Good(Latitude),
     Wrong,
+}
+
+// A history that was read from a file, or that there is none.
+pub struct Loaded {
+    pub done: bool,
+    pub history: History,
 }
 
 // How many bytes were read. No byte is the end of the input.
@@ -133,6 +142,9 @@ fn say_meaning(refusal: u64) {
         13 => say(b": the text or the list is too long\n"),
         14 => say(b": the two texts differ in n or s\n"),
         15 => say(b": the cells do not keep to the profile: N or S in part, or a cell too deep\n"),
+        16 => say(b": the change was made from a revision that is not the newest\n"),
+        17 => say(b": there is no revision past 65535\n"),
+        18 => say(b": the revision is not made yet, or it is dropped: the last 32 are kept\n"),
         19 => say(b": a face's side in metres is 1 to 1073741824, with at most 15 digits\n"),
         _ => say(b"\n"),
     }
@@ -225,37 +237,6 @@ fn setting_given(latitude: LatitudeGiven, n: Whole, s: Whole, resolution: Whole)
     })
 }
 
-// The same of the first `count` words, the program's own name among them. Where they cannot be used, standard error says why.
-pub fn setting_in(program: &[u8], count: usize) -> Arguments
-    ensures { λ r. ⌜ Usable r ⌝ }
-{
-    let latitude = latitude_given(count, whole_argument(4));
-    let given = setting_given(
-        latitude,
-        whole_argument(1),
-        whole_argument(2),
-        whole_argument(3),
-    );
-    let Arguments::Good(setting) = given else {
-        return Arguments::Wrong;
-    };
-    let refusal = setting.refusal();
-    if refusal != 0 {
-        say(program);
-        say(b": ");
-        say_refusal(refusal);
-        return Arguments::Wrong;
-    }
-    Arguments::Good(setting)
-}
-
-// The arguments n, s, resolution and, where there is a fourth, eccentricity.
-pub fn given_setting(program: &[u8]) -> Arguments
-    ensures { λ r. ⌜ Usable r ⌝ }
-{
-    setting_in(program, os::arg_count())
-}
-
 // Whether the argument with this number is this word.
 pub fn argument_is(i: usize, word: &[u8]) -> bool {
     let mut room = [0u8; 20];
@@ -277,39 +258,117 @@ pub fn beside(path: &[u8], room: &mut [u8]) -> usize
     at + more
 }
 
-// Whether all bytes went to the disk.
-fn on_disk(fd: i32, bytes: &[u8]) -> bool {
+// Whether the bytes are in the file and on the disk. Where that fails, standard error says why.
+fn on_disk(program: &[u8], path: &[u8], fd: i32, bytes: &[u8]) -> bool {
     if !io::write_all(fd, bytes) {
+        say_failure(program, path);
         return false;
     }
-    libc::fsync(fd) == 0
+    if libc::fsync(fd) != 0 {
+        say_failure(program, path);
+        return false;
+    }
+    true
 }
 
-// Whether a file has these bytes, and no other, on the disk.
-fn written(path: &[u8], bytes: &[u8]) -> bool {
+// Whether a file has these bytes, and no other, on the disk, and is closed.
+fn written(program: &[u8], path: &[u8], bytes: &[u8]) -> bool {
     let fd = os::open_overwrite(path);
     if fd < 0 {
+        say_failure(program, path);
         return false;
     }
-    let whole = on_disk(fd, bytes);
-    if libc::close(fd) < 0 {
+    let whole = on_disk(program, path, fd, bytes);
+    if libc::close(fd) != 0 {
+        if whole {
+            say_failure(program, path);
+        }
         return false;
     }
     whole
 }
 
-// Puts bytes in a file's place: they go to the file beside it, which takes the name once it is on the disk, so the file is whole at any moment. Where
-// that fails, standard error says why, and the file is as it was.
-pub fn keep(program: &[u8], path: &[u8], beside: &[u8], bytes: &[u8]) -> bool {
-    if !written(beside, bytes) {
-        say_failure(program, beside);
-        return false;
+// Removes a file, if it is there.
+pub fn remove(program: &[u8], path: &[u8]) {
+    if os::unlink(path) != 0 {
+        if os::errno() != libc::ENOENT {
+            say_failure(program, path);
+        }
     }
-    if os::rename(beside, path) < 0 {
+}
+
+// How much of a path is its folder, with the slash: nothing where there is none.
+fn folder_length(path: &[u8]) -> usize
+    ensures { λ r. ⌜ Folder (now (path .entry)) r ⌝ }
+{
+    let mut n = path.len();
+    while n > 0 {
+        let before = n - 1;
+        if path[before] == b'/' {
+            return n;
+        }
+        n = before;
+    }
+    0
+}
+
+// Brings a folder to the disk, and with it which file has which name.
+fn sync(program: &[u8], folder: &[u8]) {
+    let fd = os::open_read(folder);
+    if fd < 0 {
+        say_failure(program, folder);
+        return;
+    }
+    if libc::fsync(fd) != 0 {
+        say_failure(program, folder);
+    }
+    libc::close(fd);
+}
+
+// The same of the folder of a file.
+fn sync_folder(program: &[u8], path: &[u8]) {
+    let n = folder_length(path);
+    if n == 0 {
+        sync(program, b".");
+        return;
+    }
+    sync(program, &path[..n]);
+}
+
+// The file beside another takes its name. Only one that is whole, and on the disk, may.
+fn take_place(program: &[u8], path: &[u8], beside: &[u8], whole: bool) -> bool
+    requires { ⌜ (whole ≡ true) × (now beside ≡ besideOf (now path)) ⌝ }
+{
+    if os::rename(beside, path) != 0 {
         say_failure(program, path);
         return false;
     }
-    true
+    sync_folder(program, path);
+    whole
+}
+
+// Bytes by way of the file beside, which is not left behind.
+fn keep_by(program: &[u8], path: &[u8], beside: &[u8], bytes: &[u8]) -> bool
+    requires { ⌜ now beside ≡ besideOf (now path) ⌝ }
+{
+    let whole = written(program, beside, bytes);
+    if whole {
+        if take_place(program, path, beside, whole) {
+            return true;
+        }
+    }
+    remove(program, beside);
+    false
+}
+
+// Puts bytes in a file's place: they go to the file beside it, which takes the name once it is on the disk, so the file is whole at any moment; then the
+// folder goes to the disk. Where that fails, standard error says why, the file is as it was, and the one beside it is removed.
+pub fn keep(program: &[u8], path: &[u8], bytes: &[u8]) -> bool
+    requires { ⌜ length (now path) ≤ 4096 ⌝ }
+{
+    let mut room = [0u8; 4101];
+    let n = beside(path, &mut room);
+    keep_by(program, path, &room[..n], bytes)
 }
 
 // What comes first of the input.
@@ -349,6 +408,181 @@ pub fn read_all(fd: i32, buf: &mut [u8]) -> BytesRead
     BytesRead::Count(count)
 }
 
+// A file to its end, or as much of it as there is room for. Where it cannot be read, standard error says why.
+pub fn read_file(program: &[u8], path: &[u8], buf: &mut [u8]) -> BytesRead
+    ensures { λ r. ⌜ Fits (now (buf .exit)) r ⌝ }
+{
+    let fd = os::open_read(path);
+    if fd < 0 {
+        say_failure(program, path);
+        return BytesRead::Failed; // not opened
+    }
+    let BytesRead::Count(count) = read_all(fd, buf) else {
+        say_failure(program, path);
+        libc::close(fd);
+        return BytesRead::Failed;
+    };
+    libc::close(fd);
+    BytesRead::Count(count) // of the file
+}
+
+// The history that the bytes of a file encode. Where they encode none, standard error says so.
+fn history_in(program: &[u8], path: &[u8], bytes: &[u8]) -> Loaded
+    ensures { λ r. ⌜ r ≡ loadedFrom (now (bytes .entry)) ⌝ }
+{
+    let decoded = encoding::decode(bytes);
+    let refusal = decoded.refusal;
+    let history = decoded.history;
+    if refusal != 0 {
+        say(program);
+        say(b": ");
+        say(path);
+        say(b": refusal 9 at place ");
+        say_whole(decoded.place);
+        say(b": not a history of settings\n");
+        return Loaded {
+            done: false, // no encoding
+            history,
+        };
+    }
+    Loaded {
+        done: true,
+        history,
+    }
+}
+
+// The history in a file. Where there is none, standard error says why. A file that is longer than an encoding fills the room, and is refused.
+pub fn load_history(program: &[u8], path: &[u8]) -> Loaded
+    ensures { λ r. ⌜ OfBytes r ⌝ }
+{
+    let mut bytes = [0u8; 264];
+    let BytesRead::Count(count) = read_file(program, path, &mut bytes) else {
+        return Loaded {
+            done: false, // no file
+            history: history::no_history(),
+        };
+    };
+    history_in(program, path, &bytes[..count])
+}
+
+// The revision that is asked for, by the number of words, the program's own name among them: the newest, or with one word more the one that it says.
+fn revision_wanted(count: usize, word: Whole, newest: u64) -> Whole
+    ensures { λ r. ⌜ r ≡ revisionWanted count word newest ⌝ }
+{
+    if count == 3 {
+        return Whole::Is(newest);
+    }
+    if count != 4 {
+        return Whole::Not;
+    }
+    word
+}
+
+// The setting of a revision: its lines have the sine of a geodetic latitude. None where the revision is not kept.
+fn setting_at(history: History, revision: u64) -> Arguments
+    ensures { λ r. ⌜ r ≡ settingAt history revision ⌝ }
+{
+    let answer = history::read(history, revision);
+    if answer.refusal != 0 {
+        return Arguments::Wrong;
+    }
+    let settings = answer.settings;
+    Arguments::Good(Setting {
+        arrangement: Arrangement {
+            north: settings.n, // of the revision
+            south: settings.s, // of the revision
+        },
+        resolution: settings.resolution,
+        latitude: Latitude::Geodetic(settings.eccentricity), // held with it
+    })
+}
+
+// The setting of a history's revision. Standard error says which revision is used, or why there is none.
+fn setting_of(program: &[u8], path: &[u8], history: History, wanted: Whole) -> Arguments
+    ensures { λ r. ⌜ r ≡ settingWanted history wanted ⌝ }
+{
+    let Whole::Is(revision) = wanted else {
+        return Arguments::Wrong;
+    };
+    let given = setting_at(history, revision);
+    say(program);
+    let Arguments::Good(setting) = given else {
+        say(b": ");
+        say_refusal(18);
+        return Arguments::Wrong;
+    };
+    say(b": revision ");
+    say_whole(revision);
+    say(b" of ");
+    say(path);
+    say(b"\n");
+    Arguments::Good(setting) // of that revision
+}
+
+// The arguments `settings`, a file and, if there is one, a revision.
+fn kept_setting(program: &[u8], count: usize) -> Arguments {
+    let mut path = io::buffer();
+    let n = os::arg(2, &mut path);
+    if os::errno() != 0 {
+        say_failure(program, b"FILE");
+        return Arguments::Wrong;
+    }
+    let loaded = load_history(program, &path[..n]);
+    if !loaded.done {
+        return Arguments::Wrong;
+    }
+    let history = loaded.history;
+    let wanted = revision_wanted(count, whole_argument(3), history.newest);
+    setting_of(program, &path[..n], history, wanted)
+}
+
+// Whether the words are `settings` and one or two more.
+fn is_kept(count: usize) -> bool {
+    argument_is(1, b"settings") && (count == 3 || count == 4)
+}
+
+// The setting, if it can be used. Where it cannot, standard error says why.
+fn usable(program: &[u8], given: Arguments) -> Arguments
+    ensures { λ r. ⌜ r ≡ judged given ⌝ }
+{
+    let Arguments::Good(setting) = given else {
+        return Arguments::Wrong;
+    };
+    let number = setting.refusal();
+    if number != 0 {
+        say(program);
+        say(b": ");
+        say_refusal(number);
+        return Arguments::Wrong;
+    }
+    Arguments::Good(setting) // as it is given
+}
+
+// The setting that the first `count` words say, the program's own name among them: n, s, resolution and, where there is a fourth, eccentricity; or
+// `settings`, a file and, if there is one, a revision (02 W-209). Where they cannot be used, standard error says why.
+pub fn setting_in(program: &[u8], count: usize) -> Arguments
+    ensures { λ r. ⌜ Usable r ⌝ }
+{
+    if is_kept(count) {
+        return usable(program, kept_setting(program, count));
+    }
+    let latitude = latitude_given(count, whole_argument(4));
+    let given = setting_given(
+        latitude,
+        whole_argument(1),
+        whole_argument(2),
+        whole_argument(3),
+    );
+    usable(program, given)
+}
+
+// The same of all words.
+pub fn given_setting(program: &[u8]) -> Arguments
+    ensures { λ r. ⌜ Usable r ⌝ }
+{
+    setting_in(program, os::arg_count())
+}
+
 // The file that the argument with this number names, as much of it as there is room for. Where it cannot be read, standard error says why.
 pub fn load(program: &[u8], i: usize, path: &mut [u8], text: &mut [u8]) -> BytesRead
     ensures { λ r. ⌜ Fits (now (text .exit)) r ⌝ }
@@ -356,20 +590,9 @@ pub fn load(program: &[u8], i: usize, path: &mut [u8], text: &mut [u8]) -> Bytes
     let n = os::arg(i, path);
     if os::errno() != 0 {
         say_failure(program, b"FILE");
-        return BytesRead::Failed;
+        return BytesRead::Failed; // no word
     }
-    let fd = os::open_read(&path[..n]);
-    if fd < 0 {
-        say_failure(program, &path[..n]);
-        return BytesRead::Failed;
-    }
-    let BytesRead::Count(count) = read_all(fd, text) else {
-        say_failure(program, &path[..n]);
-        libc::close(fd);
-        return BytesRead::Failed;
-    };
-    libc::close(fd);
-    BytesRead::Count(count) // of the file
+    read_file(program, &path[..n], text)
 }
 
 // What comes next of standard input. Where reading fails, standard error says why.

@@ -6,9 +6,10 @@ use mathlib.Core.List.{List, [], _∷_}
 use Prim.Native.Nat.{ℕ}
 use lib.Dec.{eqb}
 
--- "Order where several apply"; 15 comes "after 11" (02, W-208), 19 "before all others" (02, W-214)
+-- "Order where several apply"; 15 comes "after 11" (02, W-208), 19 "before all others" (02, W-214); the settings have 18, "judged before 16", and 17
+-- behind all others (02, W-209)
 abbrev pub order : List ℕ
-order = 19 ∷ 5 ∷ 2 ∷ 1 ∷ 3 ∷ 4 ∷ 6 ∷ 7 ∷ 12 ∷ 13 ∷ 10 ∷ 9 ∷ 14 ∷ 11 ∷ 15 ∷ 8 ∷ []
+order = 19 ∷ 5 ∷ 2 ∷ 1 ∷ 3 ∷ 4 ∷ 6 ∷ 7 ∷ 12 ∷ 13 ∷ 10 ∷ 9 ∷ 14 ∷ 11 ∷ 15 ∷ 8 ∷ 18 ∷ 16 ∷ 17 ∷ []
 
 -- "in writing, 13 is judged on the text of a good list, so there it comes last but for 8"
 abbrev pub orderInWriting : List ℕ

@@ -19,6 +19,7 @@ ghost use Rattle.entries.specs.Entries.{arrangement, codedAnswer, codeAnswer, c
 ghost use Rattle.entries.specs.Entries.{cellSize, cellShape, cornerCount, cellSquare, cellNucleus, cellVertices, pointCode, neighbourCode, fixCode, groundFix};
 ghost use Rattle.entries.specs.Entries.{geodeticZ, geodeticCode, cornerCells};
 ghost use Rattle.entries.specs.Plotter.{markNumbers, frameNumbers, pointMarked, codeMarked, frameBegun, frameGrown};
+ghost use Rattle.entries.specs.Settings.{freshHistory, changedHistory, backHistory, readSettings};
 use adding::Added;
 use asking::Asked;
 use cell::Arrangement;
@@ -46,6 +47,10 @@ use entries::SizeAnswer;
 use entries::SquareAnswer;
 use entries::VerticesAnswer;
 use entries::ZAnswer;
+use history::History;
+use history::HistoryAnswer;
+use history::Settings;
+use history::SettingsAnswer;
 use listing::Listed;
 use name::Named;
 use plotter::Frame;
@@ -666,6 +671,61 @@ pub extern "C" fn jgv_frame_grow(side: f64, frame: Frame, code: u64) -> FrameAns
     ensures { λ r. ⌜ r ≡ frameGrown side frame code ⌝ }
 {
     frame_answer(plotter::frame_grow(side, frame, code))
+}
+
+// 5 where n or s is above 3, 2 where the resolution is above 15, 6 where the squared eccentricity is out of range (02 W-209).
+#[no_mangle]
+pub extern "C" fn jgv_settings_fresh(
+    n: u64,
+    s: u64,
+    resolution: u64,
+    eccentricity: u64,
+) -> HistoryAnswer
+    ensures { λ r. ⌜ r ≡ freshHistory n s resolution eccentricity ⌝ }
+{
+    history::fresh(Settings {
+        n, // of revision 0
+        s, // of revision 0
+        resolution,
+        eccentricity,
+    })
+}
+
+// 5, 2 and 6 as for a fresh one, 16 where the revision is not the newest, 17 where that is 65,535.
+#[no_mangle]
+pub extern "C" fn jgv_settings_change(
+    history: History,
+    revision: u64,
+    n: u64,
+    s: u64,
+    resolution: u64,
+    eccentricity: u64,
+) -> HistoryAnswer
+    ensures { λ r. ⌜ r ≡ changedHistory history revision n s resolution eccentricity ⌝ }
+{
+    let settings = Settings {
+        n, // of the next revision
+        s, // of the next revision
+        resolution,
+        eccentricity,
+    };
+    history::change(history, revision, settings)
+}
+
+// 18 where the wanted revision is not kept, 16 where the revision is not the newest, 17 where that is 65,535.
+#[no_mangle]
+pub extern "C" fn jgv_settings_back(history: History, revision: u64, wanted: u64) -> HistoryAnswer
+    ensures { λ r. ⌜ r ≡ backHistory history revision wanted ⌝ }
+{
+    history::back(history, revision, wanted)
+}
+
+// 18 where the revision is not kept.
+#[no_mangle]
+pub extern "C" fn jgv_settings_read(history: History, revision: u64) -> SettingsAnswer
+    ensures { λ r. ⌜ r ≡ readSettings history revision ⌝ }
+{
+    history::read(history, revision)
 }
 
 // "ground only in the first, only in the second, and in both": the first text's 13, 10 or 9, then the second's, 14 where their headings differ in n or s,

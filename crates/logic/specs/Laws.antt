@@ -1,5 +1,6 @@
 pub mod Bools
 pub mod Lists
+pub mod Longest
 pub mod Order
 pub mod Refusal
 pub mod Stores

@@ -1,5 +1,6 @@
 // name_fixes n s resolution [eccentricity]: reads a line `longitude z` for each fix, and writes for each the name of its cell, or the refusal number.
-// With an eccentricity the lines are `longitude sine` (02 W-203).
+// With an eccentricity the lines are `longitude sine` (02 W-203). name_fixes settings FILE [REVISION]: the same with the settings of a revision, the
+// newest if none is given (02 W-209).
 ghost use Prim.Native.Nat.{_≤_};
 ghost use lib.ListN.{length};
 ghost use Rattle.name_fixes.specs.Answers.{Answered, AllAnswered};
@@ -62,12 +63,14 @@ fn answer_all(setting: Setting, bytes: &mut [u8], room: &mut [u8], out: &mut [u8
 
 fn main() {
     let Arguments::Good(setting) = console::given_setting(b"name_fixes") else {
-        console::say(b"usage: name_fixes n s resolution [eccentricity] < fixes > names\n");
+        console::say(
+            b"usage: name_fixes n s resolution [eccentricity] < fixes > names\n       name_fixes settings FILE [REVISION] < fixes > names\n",
+        );
         console::say(
             b"  n and s are 0 to 3, the resolution is 0 to 15; a fix is a line `longitude z`\n",
         );
         console::say(
-            b"  with a squared eccentricity, 0 to 10000000000 in units of 10^-12, it is a line `longitude sine`\n",
+            b"  with a squared eccentricity, 0 to 10000000000 in units of 10^-12, it is a line `longitude sine`; so it is with settings\n",
         );
         return;
     };

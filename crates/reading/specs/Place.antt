@@ -1,23 +1,14 @@
 -- The place of refusal 9 (01 "Refusal numbers"). Assumes nothing.
-use mathlib.Core.List.{List, _++_}
+use mathlib.Core.List.{List}
 use mathlib.Core.Bool.{cond}
-use Prim.Native.Nat.{ℕ, _+_, _≤_}
-use lib.ListN.{length, take, drop}
+use Prim.Native.Nat.{ℕ, _+_}
+use lib.ListN.{drop}
 use lib.Dec.{ltb}
+use Rattle.logic.specs.Longest.{BeginsOne, LongestOf}
 use Rattle.reading.specs.declared.Profile.{Profile}
 use Rattle.reading.specs.Text.{levelOf, depthOf, headingLength, Accepted}
 use Rattle.reading.specs.Heading.{least, greatest, lead, profileIn}
 use Rattle.reading.specs.Scan.{scan, start}
-
--- a string that is so begins with p
-abbrev pub BeginsOne : (P : List ℕ → Type 0) → List ℕ → Type 0
-BeginsOne P p = (q : List ℕ) × P (p ++ q)
-
--- k is the length of the longest leading part of t that such a string begins with
-pub record LongestOf (P : List ℕ → Type 0) (t : List ℕ) (k : ℕ) : Type 0 where
-  pub within : k ≤ length t
-  pub begun : BeginsOne P (take k t)
-  pub longest : (j : ℕ) → j ≤ length t → BeginsOne P (take j t) → j ≤ k
 
 -- "some accepted text" of either version "begins with" p, "length limit aside"
 abbrev pub Begins : List ℕ → Type 0

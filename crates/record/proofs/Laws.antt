@@ -8,6 +8,7 @@ use native.Mathlib.Numerals.{add-one}
 use native.Mathlib.Omega.{arith}
 use lib.Dec.{eqb}
 use lib.ListN.{length, take}
+use lib.Seq.{length-take-le}
 use Rattle.lines.specs.Fold.{OfBytes, OfEnded}
 use Rattle.lines.specs.Laws.Fold.{then-line, then-last}
 use Rattle.code.specs.declared.Coded.{Coded}
@@ -85,8 +86,11 @@ module _ {f r : Flight} (h : (r ≡ f) ⊎ (r ≡ kept f)) where
 
 -- ---- what is given
 
-pub path-given : (path beside : List ℕ) {r : File} (n m : ℕ) → FileFits path beside r → r ≡ Path n m → (n ≤ length path) × (m ≤ length beside)
-path-given path beside n m h e = subst (FileFits path beside) e h
+pub path-given : (path : List ℕ) {r : File} (n : ℕ) → FileFits path r → r ≡ Path n → n ≤ length path
+path-given path n h e = subst (FileFits path) e h
+
+pub path-short : (path : List ℕ) {r : File} (n : ℕ) → FileFits path r → r ≡ Path n → length path ≡ 4080 → length (take n path) ≤ 4096
+path-short path n h e l = omega (arith, length-take-le n path (path-given path n h e), path-given path n h e)
 
 pub setting-used : {r : Arguments} (s : Setting) → Usable r → r ≡ Good s → settingRefusal s ≡ 0
 setting-used s h e = subst Usable e h

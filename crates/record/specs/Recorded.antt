@@ -31,8 +31,8 @@ refusedAdded f q r =
 abbrev pub kept : Flight → Flight
 kept f = record { recording = f .recording; fixes = f .fixes; full = f .full; bad = f .bad; changed = false }
 
--- the paths stand in front of their rooms
-abbrev pub FileFits : (path beside : List ℕ) → File → Type 0
-FileFits path beside (file-as.Path n m) = (n ≤ length path) × (m ≤ length beside)
-FileFits path beside file-as.None = Unit {0}
-FileFits path beside file-as.Wrong = Unit {0}
+-- the path stands in front of its room
+abbrev pub FileFits : (path : List ℕ) → File → Type 0
+FileFits path (file-as.Path n) = n ≤ length path
+FileFits path file-as.None = Unit {0}
+FileFits path file-as.Wrong = Unit {0}

@@ -1,6 +1,6 @@
 // record n s resolution [eccentricity] [to FILE]: reads a flight, a line `longitude z` for each fix, and writes the coverage text of the cells flown.
 // With an eccentricity the lines are `longitude sine` (02 W-203). With a file the text so far is in it too, after each minute's worth of lines. The
-// text is all that is held.
+// text is all that is held. record settings FILE [REVISION] [to FILE]: the same with the settings of a revision, the newest if none is given (02 W-209).
 ghost use mathlib.Core.Path.{_≡_};
 ghost use mathlib.Core.Logic.{_⊎_};
 ghost use Prim.Native.Nat.{_+_, _≤_, _<_};
@@ -28,9 +28,9 @@ struct Flight {
     changed: bool,
 }
 
-// A file's path of so many bytes, and so many of the one beside it; or there is none, or none that can be used.
+// A file's path of so many bytes; or there is none, or none that can be used.
 enum File {
-    Path { length: usize, beside: usize },
+    Path(usize),
     None,
     Wrong,
 }
@@ -116,15 +116,15 @@ fn record_line(
 }
 
 // Keeps the text in its file, if there is one.
-fn keep_text(path: &[u8], beside: &[u8], text: &[u8], flight: Flight) -> Flight
-    requires { ⌜ flight .recording .length ≤ length (now text) ⌝ }
+fn keep_text(path: &[u8], text: &[u8], flight: Flight) -> Flight
+    requires { ⌜ (length (now path) ≤ 4096) × (flight .recording .length ≤ length (now text)) ⌝ }
     ensures { λ r. ⌜ (r ≡ flight) ⊎ (r ≡ kept flight) ⌝ }
 {
     let recording = flight.recording;
     if path.len() == 0 {
         return flight;
     }
-    if !console::keep(b"record", path, beside, &text[..recording.length]) {
+    if !console::keep(b"record", path, &text[..recording.length]) {
         return flight;
     }
     Flight {
@@ -137,8 +137,8 @@ fn keep_text(path: &[u8], beside: &[u8], text: &[u8], flight: Flight) -> Flight
 }
 
 // The same after each minute's worth of lines in which the text has changed.
-fn checkpoint(path: &[u8], beside: &[u8], text: &[u8], number: u64, flight: Flight) -> Flight
-    requires { ⌜ flight .recording .length ≤ length (now text) ⌝ }
+fn checkpoint(path: &[u8], text: &[u8], number: u64, flight: Flight) -> Flight
+    requires { ⌜ (length (now path) ≤ 4096) × (flight .recording .length ≤ length (now text)) ⌝ }
     ensures { λ r. ⌜ (r ≡ flight) ⊎ (r ≡ kept flight) ⌝ }
 {
     if number % MINUTE != 0 {
@@ -147,20 +147,19 @@ fn checkpoint(path: &[u8], beside: &[u8], text: &[u8], number: u64, flight: Flig
     if !flight.changed {
         return flight;
     }
-    keep_text(path, beside, text, flight)
+    keep_text(path, text, flight)
 }
 
 // All lines of the flight, or where the input fails those that ended before. No flight has so many lines.
 fn record_all(
     setting: Setting,
     path: &[u8],
-    beside: &[u8],
     bytes: &mut [u8],
     room: &mut [u8],
     text: &mut [u8],
     first: Flight,
 ) -> Flight
-    requires { ⌜ (43 ≤ length (now room)) × Records (now text) (first .recording) × (flownOf (now text) first ≡ started setting) ⌝ }
+    requires { ⌜ (43 ≤ length (now room)) × Records (now text) (first .recording) × (flownOf (now text) first ≡ started setting) × (length (now path) ≤ 4096) ⌝ }
     ensures { λ r. ⌜ OfBytes (withLine setting (length (now (text .entry)))) (started setting) (flownOf (now (text .exit)) r) ⌝ }
     ensures { λ r. ⌜ Records (now (text .exit)) (r .recording) ⌝ }
 {
@@ -177,7 +176,7 @@ fn record_all(
                 end: stop,
             } => {
                 let with_line = record_line(setting, &room[..length], number, text, flight);
-                flight = checkpoint(path, beside, text, number, with_line);
+                flight = checkpoint(path, text, number, with_line);
                 from = next;
                 end = stop;
             }
@@ -202,11 +201,11 @@ fn say_counts(flight: Flight) {
     console::say(b" with 13\n");
 }
 
-// How many words come before `to FILE`, of so many.
+// How many words come before `to FILE`, of so many. These are three or more, the program's own name among them.
 fn words_before(count: usize) -> usize
     ensures { λ r. ⌜ r ≤ count ⌝ }
 {
-    if count < 6 {
+    if count < 5 {
         return count;
     }
     if console::argument_is(count - 2, b"to") {
@@ -215,10 +214,9 @@ fn words_before(count: usize) -> usize
     count
 }
 
-// The file named by the last of so many words, if it is named, and the one beside it.
-fn file_given(words: usize, count: usize, path: &mut [u8], beside: &mut [u8]) -> File
-    requires { ⌜ length (now path) + 5 ≤ length (now beside) ⌝ }
-    ensures { λ r. ⌜ FileFits (now (path .exit)) (now (beside .exit)) r ⌝ }
+// The file named by the last of so many words, if it is named.
+fn file_given(words: usize, count: usize, path: &mut [u8]) -> File
+    ensures { λ r. ⌜ FileFits (now (path .exit)) r ⌝ }
 {
     if words >= count {
         return File::None;
@@ -227,20 +225,18 @@ fn file_given(words: usize, count: usize, path: &mut [u8], beside: &mut [u8]) ->
     if length == 0 {
         return File::Wrong; // none, or too long
     }
-    let more = console::beside(&path[..length], beside);
-    File::Path {
-        length,
-        beside: more,
-    }
+    File::Path(length)
 }
 
 fn say_usage() {
-    console::say(b"usage: record n s resolution [eccentricity] [to FILE] < flight > text\n");
+    console::say(
+        b"usage: record n s resolution [eccentricity] [to FILE] < flight > text\n       record settings FILE [REVISION] [to FILE] < flight > text\n",
+    );
     console::say(
         b"  n and s are 0 to 3, the resolution is 0 to 15; a flight has a line `longitude z` for each fix\n",
     );
     console::say(
-        b"  with a squared eccentricity, 0 to 10000000000 in units of 10^-12, the lines are `longitude sine`\n",
+        b"  with a squared eccentricity, 0 to 10000000000 in units of 10^-12, the lines are `longitude sine`; so they are with settings\n",
     );
     console::say(
         b"  with a file the text so far is in it too, after each 1200 lines and at the end\n",
@@ -248,24 +244,16 @@ fn say_usage() {
 }
 
 // The flight from its first line to its last, and what it came to.
-fn record_flight(setting: Setting, path: &[u8], beside: &[u8])
-    requires { ⌜ settingRefusal setting ≡ 0 ⌝ }
+fn record_flight(setting: Setting, path: &[u8])
+    requires { ⌜ (settingRefusal setting ≡ 0) × (length (now path) ≤ 4096) ⌝ }
 {
     let mut bytes = [0u8; 4096];
     let mut room = [0u8; 64];
     let mut text = [0u8; 65536];
     let begun = begin(setting, &mut text);
-    let first = keep_text(path, beside, &text, begun);
-    let flight = record_all(
-        setting,
-        path,
-        beside,
-        &mut bytes,
-        &mut room,
-        &mut text,
-        first,
-    );
-    keep_text(path, beside, &text, flight);
+    let first = keep_text(path, &text, begun);
+    let flight = record_all(setting, path, &mut bytes, &mut room, &mut text, first);
+    keep_text(path, &text, flight);
     console::print_first(&text, flight.recording.length);
     say_counts(flight);
 }
@@ -278,13 +266,9 @@ fn main() {
         return;
     };
     let mut path = [0u8; 4080];
-    let mut beside = [0u8; 4096];
-    match file_given(words, count, &mut path, &mut beside) {
-        File::Path {
-            length,
-            beside: more,
-        } => record_flight(setting, &path[..length], &beside[..more]),
-        File::None => record_flight(setting, &path[..0], &beside[..0]),
+    match file_given(words, count, &mut path) {
+        File::Path(length) => record_flight(setting, &path[..length]),
+        File::None => record_flight(setting, &path[..0]),
         File::Wrong => say_usage(),
     }
 }

@@ -1,3 +1,4 @@
+pub mod History
 pub mod Names
 pub mod Part
 pub mod Put

@@ -8,9 +8,12 @@ ghost use Rattle.report.specs.Put.{Put};
 ghost use Rattle.report.specs.Answer.{answerLine};
 ghost use Rattle.report.specs.Names.{nameBytes, nameLine, NamesPut};
 ghost use Rattle.report.specs.Lines.{numberLine, fourNumbers, checkLine, askedLine};
+ghost use Rattle.report.specs.History.{settingsLine, revisionLine, keptNumber, historyLines};
 use asking::Asked;
 use code::Coded;
 use flight::Setting;
+use history::History;
+use history::Settings;
 use name::Named;
 use reader::Checked;
 
@@ -149,4 +152,60 @@ pub fn put_asked(asked: Asked, out: &mut [u8]) -> usize
         }
         Asked::Refused { refusal, place: _ } => put_line(refusal, out),
     }
+}
+
+// Puts settings in one line, `n s resolution eccentricity`, from `at` on: where it ends.
+pub fn put_settings(settings: Settings, out: &mut [u8], at: usize) -> usize
+    requires { ⌜ at + 84 ≤ length (now out) ⌝ }
+    ensures { λ r. ⌜ Put at (settingsLine settings) (now (out .entry)) (now (out .exit)) r ⌝ }
+    ensures { λ r. ⌜ r ≤ at + 84 ⌝ }
+{
+    put_four(
+        settings.n,
+        settings.s,
+        settings.resolution,
+        settings.eccentricity,
+        b'\n',
+        out,
+        at,
+    )
+}
+
+// Puts one revision, `revision n s resolution eccentricity`: where it ends.
+fn put_revision(history: History, revision: u64, out: &mut [u8], at: usize) -> usize
+    requires { ⌜ at + 105 ≤ length (now out) ⌝ }
+    ensures { λ r. ⌜ Put at (revisionLine history revision) (now (out .entry)) (now (out .exit)) r ⌝ }
+    ensures { λ r. ⌜ r ≤ at + 105 ⌝ }
+{
+    let kept = history.kept;
+    let place = (revision % 32) as usize;
+    let middle = put_number(revision, b' ', out, at);
+    put_settings(kept[place], out, middle)
+}
+
+// How many revisions are kept.
+fn kept_number(newest: u64) -> u64
+    ensures { λ r. ⌜ r ≡ keptNumber newest ⌝ }
+    ensures { λ r. ⌜ (r ≤ 32) × (r ≤ newest + 1) ⌝ }
+{
+    if newest < 31 {
+        return newest + 1;
+    }
+    32
+}
+
+// Puts every kept revision, a line each, the newest last: where they end.
+pub fn put_history(history: History, out: &mut [u8]) -> usize
+    requires { ⌜ 3360 ≤ length (now out) ⌝ }
+    ensures { λ r. ⌜ Put 0 (historyLines history) (now (out .entry)) (now (out .exit)) r ⌝ }
+    ensures { λ r. ⌜ r ≤ 3360 ⌝ }
+{
+    let newest = history.newest;
+    let mut left = kept_number(newest);
+    let mut end: usize = 0;
+    while left > 0 {
+        left = left - 1;
+        end = put_revision(history, newest - left, out, end);
+    }
+    end
 }

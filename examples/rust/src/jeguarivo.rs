@@ -57,6 +57,8 @@ answers! {
     Compare at place { first_cells: u64, second_cells: u64, both_cells: u64, first_size: u64, second_size: u64, both_size: u64 }
     MarkAnswer { kind: u64, numbers: [f64; 4] }
     FrameAnswer { left: f64, bottom: f64, right: f64, top: f64 }
+    HistoryAnswer { history: History }
+    SettingsAnswer { settings: Settings }
 }
 
 /// Four edges in metres.
@@ -74,6 +76,24 @@ pub struct Frame {
 pub enum Mark {
     Point { x: f64, y: f64 },
     Box(Frame),
+}
+
+/// Settings: an arrangement, the working resolution and the squared eccentricity.
+#[repr(C)]
+#[derive(Clone, Copy, Debug, Default, PartialEq, Eq)]
+pub struct Settings {
+    pub n: u64,
+    pub s: u64,
+    pub resolution: u64,
+    pub eccentricity: u64,
+}
+
+/// Settings with their past: the newest revision, and what was accepted under the last 32; revision r stands at r modulo 32.
+#[repr(C)]
+#[derive(Clone, Copy, Debug, Default, PartialEq, Eq)]
+pub struct History {
+    pub newest: u64,
+    pub kept: [Settings; 32],
 }
 
 // Safe are those that take numbers alone: the library takes any.
@@ -108,6 +128,12 @@ unsafe extern "C" {
     pub safe fn jgv_mark_code(side: f64, code: u64) -> MarkAnswer;
     pub safe fn jgv_frame_first(side: f64, code: u64) -> FrameAnswer;
     pub safe fn jgv_frame_grow(side: f64, frame: Frame, code: u64) -> FrameAnswer;
+    pub safe fn jgv_settings_fresh(n: u64, s: u64, resolution: u64, eccentricity: u64) -> HistoryAnswer;
+    pub safe fn jgv_settings_change(
+        history: History, revision: u64, n: u64, s: u64, resolution: u64, eccentricity: u64,
+    ) -> HistoryAnswer;
+    pub safe fn jgv_settings_back(history: History, revision: u64, wanted: u64) -> HistoryAnswer;
+    pub safe fn jgv_settings_read(history: History, revision: u64) -> SettingsAnswer;
     pub fn jgv_coverage_compare(
         first: *const u8, first_length: usize, second: *const u8, second_length: usize,
         firsts: *mut u64, first_room: usize, seconds: *mut u64, second_room: usize, boths: *mut u64, both_room: usize,
@@ -311,6 +337,28 @@ pub fn frame_grow(side: f64, before: Frame, code: u64) -> Answer<Frame> {
 pub fn coverage_add(text: &mut [u8], length: usize, code: u64) -> Answer<&[u8]> {
     let added = lent::coverage_add(text, length as u64, code).read()?;
     Ok(&text[..added.length as usize])
+}
+
+/// A history whose revision 0 is these settings.
+pub fn settings_fresh(settings: Settings) -> Answer<History> {
+    let Settings { n, s, resolution, eccentricity } = settings;
+    Ok(jgv_settings_fresh(n, s, resolution, eccentricity).read()?.history)
+}
+
+/// The history with these settings as a new revision, made from `revision`, which must be the newest.
+pub fn settings_change(history: &History, revision: u64, settings: Settings) -> Answer<History> {
+    let Settings { n, s, resolution, eccentricity } = settings;
+    Ok(jgv_settings_change(*history, revision, n, s, resolution, eccentricity).read()?.history)
+}
+
+/// The same with the settings of a kept revision.
+pub fn settings_back(history: &History, revision: u64, wanted: u64) -> Answer<History> {
+    Ok(jgv_settings_back(*history, revision, wanted).read()?.history)
+}
+
+/// What was accepted under a kept revision.
+pub fn settings_read(history: &History, revision: u64) -> Answer<Settings> {
+    Ok(jgv_settings_read(*history, revision).read()?.settings)
 }
 
 /// What two texts cover, each as the fewest cells: only the first, only the second, and both, with the sums of their sizes.

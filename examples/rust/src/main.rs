@@ -297,6 +297,30 @@ fn plotter() -> Answer<()> {
     Ok(())
 }
 
+fn settings(n: u64, s: u64, resolution: u64, eccentricity: u64) -> Settings {
+    Settings { n, s, resolution, eccentricity }
+}
+
+/// A history is a value, handed from call to call: each change answers the next one, and a refused change leaves the one at hand.
+fn office() -> Answer<()> {
+    let wgs84 = 6_694_379_990;
+    let first = settings_fresh(settings(0, 0, 9, wgs84))?;
+    println!("settings_fresh: 0 0 9 {wgs84} -> newest {}", first.newest);
+    let second = settings_change(&first, 0, settings(1, 0, 10, wgs84))?;
+    println!("settings_change: from 0, 1 0 10 {wgs84} -> newest {}", second.newest);
+    // Two people changed revision 0: the second of them has to look at revision 1 first.
+    println!("settings_change: from 0, 0 0 11 {wgs84} -> {}", refusal(settings_change(&second, 0, settings(0, 0, 11, wgs84))));
+    let third = settings_back(&second, 1, 0)?;
+    println!("settings_back: from 1, to 0 -> newest {}", third.newest);
+    for revision in 0..=3 {
+        match settings_read(&third, revision) {
+            Ok(Settings { n, s, resolution, eccentricity }) => println!("settings_read: {revision} -> {n} {s} {resolution} {eccentricity}"),
+            Err(refused) => println!("settings_read: {revision} -> refused with {}", refused.number),
+        }
+    }
+    Ok(())
+}
+
 /// What you flew and I did not: two texts of one arrangement, which may be of two versions. Each listing is the fewest cells of its ground.
 fn crews() -> Answer<()> {
     let (first, second) = (b"CVR\0\x0100P(34(1))", b"CVR\0\x0200bP(4)");
@@ -329,5 +353,6 @@ fn main() -> Answer<()> {
     two_arrangements()?;
     handhelds()?;
     plotter()?;
-    crews()
+    crews()?;
+    office()
 }

@@ -3,8 +3,9 @@
 //! with the proved library, entry by entry. They prove nothing; the library's contracts do that.
 //!
 //! RATTLE_LIBS names the folder of libjeguarivo.a: `cargo test --release --offline`. Without it
-//! the tests `grid`, `straight`, `ground`, `ellipsoid`, `coverage`, `plotter` and `crews` fail, and without RATTLE_BIN,
-//! the folder of the proved programs, the tests `programs` and `frame_program`; the others try this program alone.
+//! the tests `grid`, `straight`, `ground`, `ellipsoid`, `coverage`, `plotter`, `crews` and `settings` fail, and without
+//! RATTLE_BIN, the folder of the proved programs, the tests `programs`, `frame_program` and `office`; the others try
+//! this program alone.
 //! SECOND_SEED sets another seed for the inputs.
 //!
 //! - `grid`: names, codes, the plane, shapes, neighbours, cells that meet at a corner
@@ -15,6 +16,7 @@
 //! - `crews`: what two coverage texts cover (request W-205)
 //! - `proved`: the proved library's entries, as examples/rust declares them
 //! - `straight`: straight lines through cells (request W-212)
+//! - `settings`: settings with a past, and a history as bytes (request W-209)
 //! - `flights`: the programs `record` and `name_fixes` (`second_record` is a program of its own)
 //! - `random`: inputs, good, at borders, and bad; `fixes` for fixes, `texts` for coverage texts,
 //!   `frames` for face sides and frames
@@ -34,5 +36,6 @@ pub mod plotter;
 #[cfg(proved)]
 pub mod proved;
 pub mod random;
+pub mod settings;
 pub mod straight;
 pub mod texts;

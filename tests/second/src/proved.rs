@@ -35,6 +35,14 @@ pub fn frame_grow(side: f64, frame: Edges, code: u64) -> FrameAnswer {
     jeguarivo::jgv_frame_grow(side, frame, code)
 }
 
+/// The entries of the settings.
+pub mod settings {
+    pub use jeguarivo::{
+        jgv_settings_back as back, jgv_settings_change as change, jgv_settings_fresh as fresh,
+        jgv_settings_read as read, History, HistoryAnswer, SettingsAnswer,
+    };
+}
+
 /// The coverage entries.
 pub mod coverage {
     pub use jeguarivo::lent::{

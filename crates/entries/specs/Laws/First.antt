@@ -71,11 +71,11 @@ use Rattle.entries.specs.Refusals.{geodeticTests}
 -- ---- what the tests decide
 
 -- two tests that both pass, or not
-not-and : (s t : Bool) {A B : Type 0} → Decides (not s) A → Decides (not t) B → Decides (not (s && t)) (A ⊎ B)
+pub not-and : (s t : Bool) {A B : Type 0} → Decides (not s) A → Decides (not t) B → Decides (not (s && t)) (A ⊎ B)
 not-and true t d e = record { holds = λ h. inr (e .holds h); fails = λ h. ⊎-elim (d .fails refl) (e .fails h) }
 not-and false t d e = record { holds = λ h. inl (d .holds refl); fails = λ h. clash h }
 
-above : (a b : ℕ) → Decides (not (leb a b)) (b < a)
+pub above : (a b : ℕ) → Decides (not (leb a b)) (b < a)
 above a b =
     let d = le-decides a b in
     record { holds = λ e. ⊎-elim (λ h. h) (λ h. absurd (d .fails (not-true _ e) h)) (lt-or b a); fails = λ e h. let k = d .holds (not-false _ e) in omega arith }
@@ -140,7 +140,7 @@ text-first t = then (last 12 (lt-decides 65536 (length t))) refl (λ _. then (la
 
 -- ---- the refusal in an answer
 
-code-refusal : (r code : ℕ) → codeAnswer r code .refusal ≡ r
+pub code-refusal : (r code : ℕ) → codeAnswer r code .refusal ≡ r
 unfolding codeAnswer coded
 code-refusal zero code = refl
 code-refusal (suc r) code = refl

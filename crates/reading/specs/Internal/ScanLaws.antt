@@ -11,13 +11,13 @@ use lib.Seq.{length-take-le}
 use lib.Dec.{leb, ltb, eqb}
 use borrow.Author.Tests.{ltb-false, leb-false, eqb-true, eqb-false, le-ltb, lt-leb, ne-eqb}
 use Rattle.logic.specs.Laws.Bools.{by-cond, clash}
+use Rattle.logic.specs.Longest.{BeginsOne, LongestOf}
 use Rattle.reading.specs.declared.Level.{Level}
 use Rattle.reading.specs.declared.Level.the-variants.{Digits}
 use Rattle.reading.specs.Reading.{Nodes, end, whole, listed, first, many, room, wholes, render, Some, Good}
 use Rattle.reading.specs.Text.{Reads, Body}
 use Rattle.reading.specs.Laws.Reading.{eq-or, first-big, many-most, room-all, wholes-most}
 use Rattle.reading.specs.Internal.JoinLaws.{join, next, ends, render-join, next-join, ends-join, wholes-join, some-join, good-join, good-split, next-from, next-some, some-next, last-whole}
-use Rattle.reading.specs.Place.{BeginsOne, LongestOf}
 use Rattle.reading.specs.Scan.{Frame, frame, State, at, Next, stop, on, level, openList, shutList, standNode, step, goOn, scan, start}
 
 -- ---- where the scan stands in a reading

@@ -11,6 +11,7 @@ use lib.Dec.{ltb}
 use borrow.Author.Tests.{ltb-true, ltb-false, eq-eqb}
 use Rattle.logic.specs.Laws.Bools.{by-cond}
 use Rattle.logic.specs.Laws.Order.{lt-or}
+use Rattle.logic.specs.Longest.{BeginsOne, LongestOf}
 use Rattle.reading.specs.declared.Profile.{Profile}
 use Rattle.reading.specs.declared.Profile.the-variants.{Full, Handheld}
 use Rattle.reading.specs.Reading.{Nodes, end, render}
@@ -21,21 +22,7 @@ use Rattle.reading.specs.Internal.ScanLaws.{scan-longest}
 use Rattle.reading.specs.Heading.{least, greatest, lead, profileIn}
 use Rattle.reading.specs.Laws.Heading.{lead-most, lead-length, lead-alike, take-head, drop-head, heading-least, Heads, filled, filled-head, lead-head, head-of, same-length, same-profile}
 use Rattle.reading.specs.Laws.Fits.{faces-of}
-use Rattle.reading.specs.Place.{BeginsOne, LongestOf, Begins, Longest, placeBy, placeOf}
-
--- ---- any strings
-
--- a string begins with any part of what it begins with
-pub shorter : (P : List ℕ → Type 0) (t : List ℕ) (i j : ℕ) → i ≤ j → BeginsOne P (take j t) → BeginsOne P (take i t)
-shorter P t i j h z =
-    let e : take i t ++ (drop i (take j t) ++ z .0) ≡ take j t ++ z .0 =
-    sym (append-assoc (take i t) (drop i (take j t)) (z .0))
-    ∙ ap (λ (x : List ℕ). x ++ z .0) (ap (λ (x : List ℕ). x ++ drop i (take j t)) (sym (take-take i j t h)) ∙ take-append-drop i (take j t)) in
-    (drop i (take j t) ++ z .0, subst P (sym e) (z .1))
-
--- there is only one longest part
-pub longest-one : {P : List ℕ → Type 0} {t : List ℕ} {j k : ℕ} → LongestOf P t j → LongestOf P t k → j ≡ k
-longest-one {j = j} {k} a b = let p = b .longest j (a .within) (a .begun) in let q = a .longest k (b .within) (b .begun) in omega arith
+use Rattle.reading.specs.Place.{Begins, Longest, placeBy, placeOf}
 
 -- ---- the place
 

@@ -14,7 +14,7 @@ slice-aggregate-keep : tie.Need-slice-aggregate-keep
 slice-aggregate-keep c = search needs
 
 slice-aggregate-keep-2 : tie.Need-slice-aggregate-keep-2
-slice-aggregate-keep-2 c = sym (length-take-le _ _ (c .before .before .before .before .before .before .before .pre))
+slice-aggregate-keep-2 c = sym (length-take-le _ _ (c .before .before .before .before .before .before .pre .1))
 
 keep-requires : tie.Need-keep-requires
 keep-requires c κs = search needs

@@ -1,7 +1,7 @@
--- `main` is safe: the paths lie within their rooms, and the setting can be used. Assumes nothing.
+-- `main` is safe: the path lies within its room, and the setting can be used. Assumes nothing.
 use mathlib.Core.Path.{sym}
 use lib.Seq.{length-take-le}
-use Rattle.record.proofs.Laws.{path-given, setting-used}
+use Rattle.record.proofs.Laws.{path-given, path-short, setting-used}
 use native.Mathlib.Omega.{arith}
 use borrow.Author.Needs.{needs}
 use Rattle.record.proofs.main.Statement.{statement}
@@ -34,9 +34,6 @@ returns c = search needs
 slice-aggregate-file-given : tie.Need-slice-aggregate-file-given
 slice-aggregate-file-given c = search needs
 
-slice-aggregate-file-given-2 : tie.Need-slice-aggregate-file-given-2
-slice-aggregate-file-given-2 c = search needs
-
 file-given-requires : tie.Need-file-given-requires
 file-given-requires c κs = search needs
 
@@ -44,21 +41,18 @@ enum-known-length : tie.Need-enum-known-length
 enum-known-length c = search needs
 
 array-share-prefix-path : tie.Need-array-share-prefix-path
-array-share-prefix-path c = path-given _ _ _ _ (c .before .before .before .before .before .file-given .ensures) (c .before .length .given .1) .0
+array-share-prefix-path c = path-given _ _ (c .before .before .before .before .file-given .ensures) (c .before .length .given .1)
 
 slice-aggregate-record-flight : tie.Need-slice-aggregate-record-flight
-slice-aggregate-record-flight c = sym (length-take-le _ _ (path-given _ _ _ _ (c .before .before .before .before .before .before .file-given .ensures) (c .before .before .length .given .1) .0))
-
-array-share-prefix-beside : tie.Need-array-share-prefix-beside
-array-share-prefix-beside c = path-given _ _ _ _ (c .before .before .before .before .before .before .file-given .ensures) (c .before .before .length .given .1) .1
-
-slice-aggregate-record-flight-2 : tie.Need-slice-aggregate-record-flight-2
-slice-aggregate-record-flight-2 c = sym (length-take-le _ _ (path-given _ _ _ _ (c .before .before .before .before .before .before .before .file-given .ensures)
-    (c .before .before .before .length .given .1) .1))
+slice-aggregate-record-flight c =
+    sym (length-take-le _ _ (path-given _ _ (c .before .before .before .before .before .file-given .ensures) (c .before .before .length .given .1)))
 
 record-flight-requires : tie.Need-record-flight-requires
-record-flight-requires c κs = setting-used _ (c .before .before .before .before .before .before .before .before .before .before .before .before .before .setting-in .ensures)
-    (c .before .before .before .before .before .before .before .before .before .before .before .setting .given .1)
+record-flight-requires c κs =
+    let f = c .before .before .before .before .before .file-given in (
+      setting-used _ (c .before .before .before .before .before .before .before .before .before .before .setting-in .ensures) (c .before .before .before .before .before .before .before .before .setting .given .1),
+      path-short _ _ (f .ensures) (c .before .before .length .given .1) (search needs),
+    )
 
 enum-told-2 : tie.Need-enum-told-2
 enum-told-2 c = search needs
@@ -66,18 +60,14 @@ enum-told-2 c = search needs
 array-share-prefix-path-2 : tie.Need-array-share-prefix-path-2
 array-share-prefix-path-2 c = search needs
 
-slice-aggregate-record-flight-3 : tie.Need-slice-aggregate-record-flight-3
-slice-aggregate-record-flight-3 c = search needs
-
-array-share-prefix-beside-2 : tie.Need-array-share-prefix-beside-2
-array-share-prefix-beside-2 c = search needs
-
-slice-aggregate-record-flight-4 : tie.Need-slice-aggregate-record-flight-4
-slice-aggregate-record-flight-4 c = search needs
+slice-aggregate-record-flight-2 : tie.Need-slice-aggregate-record-flight-2
+slice-aggregate-record-flight-2 c = search needs
 
 record-flight-requires-2 : tie.Need-record-flight-requires-2
-record-flight-requires-2 c κs = setting-used _ (c .before .before .before .before .before .before .before .before .before .before .before .before .setting-in .ensures)
-    (c .before .before .before .before .before .before .before .before .before .before .setting .given .1)
+record-flight-requires-2 c κs = (
+  setting-used _ (c .before .before .before .before .before .before .before .before .before .setting-in .ensures) (c .before .before .before .before .before .before .before .setting .given .1),
+  search needs,
+)
 
 enum-told-3 : tie.Need-enum-told-3
 enum-told-3 c = search needs
@@ -107,19 +97,14 @@ main-spec =
     say-usage-requires
     returns
     slice-aggregate-file-given
-    slice-aggregate-file-given-2
     file-given-requires
     enum-known-length
     array-share-prefix-path
     slice-aggregate-record-flight
-    array-share-prefix-beside
-    slice-aggregate-record-flight-2
     record-flight-requires
     enum-told-2
     array-share-prefix-path-2
-    slice-aggregate-record-flight-3
-    array-share-prefix-beside-2
-    slice-aggregate-record-flight-4
+    slice-aggregate-record-flight-2
     record-flight-requires-2
     enum-told-3
     say-usage-requires-2

@@ -32,7 +32,7 @@ record-all-requires : tie.Need-record-all-requires
 record-all-requires c κs =
     let b = c .before .before .before .before .before .before .begin in
     let k = c .before .before .before .keep-text .ensures in
-    (omega arith, subst (Records (b .last .1 .0)) (sym (kept-recording k)) (b .ensures .1 .0), kept-flown k (b .last .1 .0) ∙ b .ensures .0)
+    (omega arith, subst (Records (b .last .1 .0)) (sym (kept-recording k)) (b .ensures .1 .0), kept-flown k (b .last .1 .0) ∙ b .ensures .0, search needs)
 
 slice-aggregate-keep-text-2 : tie.Need-slice-aggregate-keep-text-2
 slice-aggregate-keep-text-2 c = search needs

@@ -1,0 +1,4 @@
+pub mod Form
+pub mod Laws
+pub mod Number
+pub mod Read

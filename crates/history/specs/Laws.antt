@@ -1,0 +1,4 @@
+pub mod History
+pub mod Settings
+pub mod Valid
+pub mod WrongKeepers

@@ -1,0 +1,5 @@
+pub mod History
+pub mod Laws
+pub mod Log
+pub mod Settings
+pub mod Valid
