@@ -46,18 +46,18 @@ enum-known-length c = search needs
 array-share-prefix-path : tie.Need-array-share-prefix-path
 array-share-prefix-path c = path-given _ _ _ _ (c .before .before .before .before .before .file-given .ensures) (c .before .length .given .1) .0
 
-slice-aggregate-record-flight : tie.Need-slice-aggregate-record-flight
-slice-aggregate-record-flight c = sym (length-take-le _ _ (path-given _ _ _ _ (c .before .before .before .before .before .before .file-given .ensures) (c .before .before .length .given .1) .0))
+slice-aggregate-record-to : tie.Need-slice-aggregate-record-to
+slice-aggregate-record-to c = sym (length-take-le _ _ (path-given _ _ _ _ (c .before .before .before .before .before .before .file-given .ensures) (c .before .before .length .given .1) .0))
 
 array-share-prefix-beside : tie.Need-array-share-prefix-beside
 array-share-prefix-beside c = path-given _ _ _ _ (c .before .before .before .before .before .before .file-given .ensures) (c .before .before .length .given .1) .1
 
-slice-aggregate-record-flight-2 : tie.Need-slice-aggregate-record-flight-2
-slice-aggregate-record-flight-2 c = sym (length-take-le _ _ (path-given _ _ _ _ (c .before .before .before .before .before .before .before .file-given .ensures)
+slice-aggregate-record-to-2 : tie.Need-slice-aggregate-record-to-2
+slice-aggregate-record-to-2 c = sym (length-take-le _ _ (path-given _ _ _ _ (c .before .before .before .before .before .before .before .file-given .ensures)
     (c .before .before .before .length .given .1) .1))
 
-record-flight-requires : tie.Need-record-flight-requires
-record-flight-requires c κs = setting-used _ (c .before .before .before .before .before .before .before .before .before .before .before .before .before .setting-in .ensures)
+record-to-requires : tie.Need-record-to-requires
+record-to-requires c κs = setting-used _ (c .before .before .before .before .before .before .before .before .before .before .before .before .before .setting-in .ensures)
     (c .before .before .before .before .before .before .before .before .before .before .before .setting .given .1)
 
 enum-told-2 : tie.Need-enum-told-2
@@ -66,17 +66,17 @@ enum-told-2 c = search needs
 array-share-prefix-path-2 : tie.Need-array-share-prefix-path-2
 array-share-prefix-path-2 c = search needs
 
-slice-aggregate-record-flight-3 : tie.Need-slice-aggregate-record-flight-3
-slice-aggregate-record-flight-3 c = search needs
+slice-aggregate-record-to-3 : tie.Need-slice-aggregate-record-to-3
+slice-aggregate-record-to-3 c = search needs
 
 array-share-prefix-beside-2 : tie.Need-array-share-prefix-beside-2
 array-share-prefix-beside-2 c = search needs
 
-slice-aggregate-record-flight-4 : tie.Need-slice-aggregate-record-flight-4
-slice-aggregate-record-flight-4 c = search needs
+slice-aggregate-record-to-4 : tie.Need-slice-aggregate-record-to-4
+slice-aggregate-record-to-4 c = search needs
 
-record-flight-requires-2 : tie.Need-record-flight-requires-2
-record-flight-requires-2 c κs = setting-used _ (c .before .before .before .before .before .before .before .before .before .before .before .before .setting-in .ensures)
+record-to-requires-2 : tie.Need-record-to-requires-2
+record-to-requires-2 c κs = setting-used _ (c .before .before .before .before .before .before .before .before .before .before .before .before .setting-in .ensures)
     (c .before .before .before .before .before .before .before .before .before .before .setting .given .1)
 
 enum-told-3 : tie.Need-enum-told-3
@@ -111,16 +111,16 @@ main-spec =
     file-given-requires
     enum-known-length
     array-share-prefix-path
-    slice-aggregate-record-flight
+    slice-aggregate-record-to
     array-share-prefix-beside
-    slice-aggregate-record-flight-2
-    record-flight-requires
+    slice-aggregate-record-to-2
+    record-to-requires
     enum-told-2
     array-share-prefix-path-2
-    slice-aggregate-record-flight-3
+    slice-aggregate-record-to-3
     array-share-prefix-beside-2
-    slice-aggregate-record-flight-4
-    record-flight-requires-2
+    slice-aggregate-record-to-4
+    record-to-requires-2
     enum-told-3
     say-usage-requires-2
     returns-2
