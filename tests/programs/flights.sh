@@ -98,13 +98,41 @@ python3 -c "if True:
 try "each in a cell of its own" 'name_fixes 0 0 4 <all | sort -u | wc -l' '26244\n' ''
 try "as many cells as there are" 'record 0 0 4 <all' "${H}OPQR" 104976+0+0
 
-# a text that is full: each fix that does not fit is refused with 13, and the flight goes on
+# a text that is full: each fix that does not fit is refused with 13, and the flight goes on. What is to come of it is worked out here: along the equator of
+# face Q, in cells that share no list of nine, a fix whose first p letters are there makes the text 46 - 3p bytes longer
 lines 10000 'i * 90000' 0 >far
-record 0 0 15 <far >far.cvr 2>far.said
-try "a full text is written, and is accepted" 'coverage check far.cvr | cut -d " " -f 1-6' '0 0 1 15 0 0\n' ''
-try "a full text is full" 'stat -c %s far.cvr | grep -c "^655[0-3][0-9]$"' '1\n' ''
-last=$(tail -n 1 far.said) # how many were taken, and how many refused
-try "the refused lines are said, and counted" "grep -c ': refusal 13: ' far.said; echo $last" "$(grep -c ': refusal 13: ' far.said)\n$(sed 's/[^0-9]/ /g; s/  */ /g' <<<"$last" | awk '{ print "record: " $1 " fixes taken, 0 lines refused with 6, " 10000 - $1 " with 13" }')\n" ''
-first=$(sed -n 's/^record: line \([0-9]*\): refusal 13: .*/\1/p' far.said | head -n 1)
-try "the first fixes are in it" "head -n $((first - 1)) far | record 0 0 15 | cmp - <(head -n $((first - 1)) far | record 0 0 15 2>/dev/null)" '' "$((first - 1))+0+0"
-try "ground that is there is taken after that" "(cat far; head -n 5 far; echo 0 0; echo x) | record 0 0 15 2>&1 >again.cvr | tail -n 1 | cut -d ' ' -f 2; cmp far.cvr again.cvr" "$(($(awk '{ print $2 }' <<<"$last") + 6))\n" ''
+python3 - <<'END'
+def name(longitude): # in the middle row, whose digits are all 1: each digit of the name is 3 and the column's
+    column = longitude * 3**15 // 900000000
+    return 'Q' + ''.join(str(3 + column // 3**i % 3) for i in range(14, -1, -1))
+def text(names, p=0): # of names that begin alike, from their letter p on
+    if len(names[0]) == p: return ''
+    heads = sorted({name[p] for name in names})
+    inner = ''.join(head + text([name for name in names if name[p] == head], p + 1) for head in heads)
+    return '(' * (p > 0) + inner + ')' * (p > 0)
+there, names, refused, length = {''}, [], [], 7
+for line in range(1, 10001):
+    new = name((line - 1) * 90000)
+    p = max(p for p in range(17) if new[:p] in there)
+    more = 46 - 3 * p if p < 16 else 0
+    if length + more > 65536:
+        refused.append(line)
+        continue
+    length += more
+    there.update(new[:q] for q in range(17))
+    names.append(new)
+def put(file, body): open(file, 'wb').write(b'CVR\0\x0100' + body.encode())
+put('far.wanted', text(names))
+put('first.wanted', text(names[:refused[0] - 1]))
+open('far.refused', 'w').write(''.join(f'{line}\n' for line in refused))
+open('far.counts', 'w').write(f'{len(names)} {len(refused)} {refused[0] - 1}\n')
+assert length == len(text(names)) + 7
+END
+read -r taken full before <far.counts
+try "a full text: the fixes that fit, as they come" 'record 0 0 15 <far 2>far.said' @far.wanted ''
+try "a full text is accepted" 'coverage check far.wanted | cut -d " " -f 1-7' "0 0 1 15 0 0 $taken\n" ''
+try "each refused line is said" "sed -n 's/^record: line \([0-9]*\): refusal 13: .*/\1/p' far.said" @far.refused ''
+try "and counted" 'tail -n 1 far.said' "record: $taken fixes taken, 0 lines refused with 6, $full with 13\n" ''
+try "the fixes before the first of them" "head -n $before far | record 0 0 15" @first.wanted "$before+0+0"
+try "ground that is there is taken after that" "(cat far; head -n 5 far; echo 0 0; echo x) | record 0 0 15 2>again.said" @far.wanted ''
+try "and counted" 'tail -n 1 again.said' "record: $((taken + 6)) fixes taken, 1 line refused with 6, $full with 13\n" ''

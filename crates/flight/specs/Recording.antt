@@ -88,6 +88,15 @@ withLine s room f line = withCode room (lineCode s line) f
 abbrev pub counted : Flown → ℕ
 counted f = f .fixes + f .full + f .bad
 
+-- how many lines are no fix, or one out of range
+abbrev pub badIn : Coded → ℕ
+badIn (coded-as.Code code) = 0
+badIn (coded-as.Refused r) = 1
+
+abbrev pub badLines : Setting → List (List ℕ) → ℕ
+badLines s [] = 0
+badLines s (line ∷ lines) = badIn (lineCode s line) + badLines s lines
+
 -- the text of some cells, of version 1, in the setting's arrangement
 abbrev pub textFor : Setting → List Cell → List ℕ
 textFor s cells = writtenText profile-as.Full (s .arrangement .north) (s .arrangement .south) cells

@@ -1,17 +1,20 @@
 -- One line more is recorded. Assumes nothing.
 use mathlib.Core.Path.{_≡_, refl, sym, ap, ap₂, _∙_, subst}
-use mathlib.Core.Logic.{_⊎_, ⊎-elim}
-use mathlib.Core.Bool.{Bool, cond}
+use mathlib.Core.Logic.{_⊎_, inl, inr, ⊎-elim}
+use mathlib.Core.Bool.{Bool, true, false, cond}
 use mathlib.Core.List.{List, _++_}
-use Prim.Native.Nat.{ℕ, suc, _+_, _≤_}
+use Prim.Native.Nat.{ℕ, suc, _+_, _≤_, _<_}
 use native.Mathlib.Numerals.{add-one}
 use native.Mathlib.Omega.{arith}
 use lib.Dec.{eqb}
-use lib.ListN.{length, take}
+use lib.ListN.{length, take, getD, set}
 use lib.Seq.{length-take-le}
+use borrow.Author.Tests.{eqb-true, le-ltb, lt-ltb}
+use Rattle.logic.specs.Laws.Bools.{clash}
 use Rattle.lines.specs.Fold.{OfBytes, OfEnded}
 use Rattle.lines.specs.Laws.Fold.{then-line, then-last}
 use Rattle.code.specs.declared.Coded.{Coded}
+use Rattle.code.specs.Laws.Code.{code-is-cell}
 use Rattle.flight.specs.declared.Recording.{Recording}
 use Rattle.flight.specs.declared.Setting.{Setting}
 use Rattle.flight.specs.declared.Taken.{Taken}
@@ -19,7 +22,8 @@ use Rattle.flight.specs.declared.Taken.the-variants.{Fix, Refused}
 use Rattle.flight.specs.Flight.{lineCode}
 use Rattle.flight.specs.Setting.{settingRefusal}
 use Rattle.flight.specs.Recording.{taken, takenText, Records, Flown, withCode, withLine}
-use Rattle.flight.specs.Laws.Recording.{flownAs, taken-flown, refused-bytes}
+use Rattle.flight.specs.Laws.Code.{line-is-code}
+use Rattle.flight.specs.Laws.Recording.{flownAs, taken-flown, refused-bytes, same-text}
 use Rattle.flight.specs.Laws.Cut.{cut-line}
 use Rattle.console.specs.declared.LineRead.the-variants.{Line, Last}
 use Rattle.console.specs.Input.{Given}
@@ -29,7 +33,7 @@ use Rattle.console.specs.Arguments.{Usable}
 use Rattle.record.specs.declared.Flight.{Flight}
 use Rattle.record.specs.declared.File.{File}
 use Rattle.record.specs.declared.File.the-variants.{Path}
-use Rattle.record.specs.Recorded.{flownOf, lineCount, fixAdded, refusedAdded, kept, FileFits}
+use Rattle.record.specs.Recorded.{flownOf, lineCount, fixAdded, refusedAdded, Noted, kept, Checkpointed, waitsWith, FileFits}
 
 -- ---- what `flight::take_line` answered
 
@@ -55,6 +59,25 @@ module _ (s : Setting) (line bytes later : List ℕ) (f r : Flight) where
       (λ i. record { text = take (d .0 i .length) (same i); fixes = d .1 i; full = full i; bad = bad i })
       ∙ ap₂ (λ (x : Taken) (l : List ℕ). flownAs x l (flownOf bytes f)) e g
       ∙ taken-flown (lineCode s line) bytes (flownOf bytes f)
+
+  -- ---- no change goes unnoted
+
+  pub fix-noted :
+      (m : Recording) → Records bytes (f .recording) → Fix m ≡ taken (lineCode s line) (length bytes) t → later ≡ takenText (lineCode s line) bytes t → fixAdded f m r →
+      Noted bytes f later r
+  fix-noted m h e g d z = go (eqb (m .length) (f .recording .length)) refl
+    where
+      go : (b : Bool) → eqb (m .length) (f .recording .length) ≡ b → (f .changed ≡ false) × (take (r .recording .length) later ≡ t)
+      go true q = (
+        sym (d .4 ∙ ap (λ (x : Bool). cond x (f .changed) true) q) ∙ z,
+        ap₂ take (ap (λ (x : Recording). x .length) (d .0)) g
+            ∙ same-text (lineCode s line) bytes t m (h .holds .text) (λ code k. code-is-cell code (line-is-code s line code k)) e
+            (eqb-true _ _ q ∙ sym (length-take-le _ _ (h .holds .fits))),
+      )
+      go false q = clash (sym (d .4 ∙ ap (λ (x : Bool). cond x (f .changed) true) q) ∙ z)
+
+  pub refused-noted : (q : ℕ) → Refused q ≡ taken (lineCode s line) (length bytes) t → later ≡ takenText (lineCode s line) bytes t → refusedAdded f q r → Noted bytes f later r
+  refused-noted q e g d z = (sym (d .4) ∙ z, ap₂ take (ap (λ (x : Recording). x .length) (d .0)) (g ∙ refused-bytes (lineCode s line) bytes t e))
 
 -- ---- a line of the input
 
@@ -83,6 +106,25 @@ module _ {f r : Flight} (h : (r ≡ f) ⊎ (r ≡ kept f)) where
 
   pub kept-count : lineCount r ≡ lineCount f
   kept-count = ⊎-elim (λ e. ap lineCount e) (λ e. ap lineCount e) h
+
+-- which it is only where it has to be
+pub checkpointed : (n : ℕ) {f r : Flight} → Checkpointed n f r → (r ≡ f) ⊎ (r ≡ kept f)
+checkpointed n (inl e) = inl e
+checkpointed n (inr (i, j, e)) = inr e
+
+-- ---- a refused line that waits, or has no room to wait in
+
+module _ (number refusal : ℕ) (waits : List ℕ) where
+  abbrev behind : List ℕ
+  behind = set (set (set waits (getD waits 0 0 + 1) number) (getD waits 0 0 + 2) refusal) 0 (getD waits 0 0 + 2)
+
+  pub waits-full : length waits ≤ getD waits 0 0 + 2 → waits ≡ waitsWith number refusal waits
+  unfolding waitsWith
+  waits-full h = sym (ap (λ (b : Bool). cond b behind waits) (le-ltb (getD waits 0 0 + 2) (length waits) h))
+
+  pub waits-more : getD waits 0 0 + 2 < length waits → behind ≡ waitsWith number refusal waits
+  unfolding waitsWith
+  waits-more h = sym (ap (λ (b : Bool). cond b behind waits) (lt-ltb (getD waits 0 0 + 2) (length waits) h))
 
 -- ---- what is given
 

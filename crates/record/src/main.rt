@@ -8,12 +8,14 @@ ghost use lib.ListN.{length};
 ghost use Rattle.lines.specs.Fold.{OfBytes};
 ghost use Rattle.flight.specs.Setting.{settingRefusal};
 ghost use Rattle.flight.specs.Recording.{Records, withLine, started};
-ghost use Rattle.record.specs.Recorded.{fixAdded, refusedAdded, flownOf, lineCount, kept, FileFits};
+ghost use Rattle.record.specs.Recorded.{changedBy, fixAdded, refusedAdded, Noted, waitsWith, flownOf, lineCount, kept, Checkpointed, FileFits};
 use console::Arguments;
 use console::LineRead;
 use flight::Recording;
 use flight::Setting;
 use flight::Taken;
+use libc::SEEK_CUR;
+use libc::STDERR_FILENO;
 
 // So many lines are a minute of a flight, at twenty fixes a second.
 const MINUTE: u64 = 1_200;
@@ -51,22 +53,29 @@ fn begin(setting: Setting, text: &mut [u8]) -> Flight
     }
 }
 
-// The flight with a fix. One cell more changes the text exactly where it changes its length.
+// Whether the text has changed since it was kept, with this recording. One cell more changes the text exactly where it changes its length.
+fn changed_by(flight: Flight, recording: Recording) -> bool
+    ensures { λ r. ⌜ r ≡ changedBy flight recording ⌝ }
+{
+    let before = flight.recording;
+    if recording.length == before.length {
+        return flight.changed;
+    }
+    true
+}
+
+// The flight with a fix.
 fn with_fix(flight: Flight, recording: Recording) -> Flight
     requires { ⌜ lineCount flight < 18446744073709551615 ⌝ }
     ensures { λ r. ⌜ fixAdded flight recording r ⌝ }
 {
-    let before = flight.recording;
-    let mut changed = flight.changed;
-    if recording.length != before.length {
-        changed = true;
-    }
+    let changed = changed_by(flight, recording);
     Flight {
-        recording, // with the fix
+        recording,
         fixes: flight.fixes + 1,
         full: flight.full,
         bad: flight.bad,
-        changed,
+        changed, // by the fix
     }
 }
 
@@ -94,22 +103,41 @@ fn with_refused(flight: Flight, refusal: u64) -> Flight
     }
 }
 
-// One line, with its number. A line that is refused is said, and the flight goes on.
+// A refused line is said at once where there is no room for it to wait in. Where that room is full, it is only counted.
+fn say_refused(number: u64, refusal: u64, waits: &mut [u64])
+    ensures { λ _. ⌜ now (waits .exit) ≡ waitsWith number refusal (now (waits .entry)) ⌝ }
+{
+    if waits.len() < 3 {
+        console::say_line(b"record", number, refusal);
+        return;
+    }
+    let taken = waits[0] as usize;
+    if taken > waits.len() - 3 {
+        return;
+    }
+    waits[taken + 1] = number;
+    waits[taken + 2] = refusal;
+    waits[0] = (taken + 2) as u64;
+}
+
+// One line, with its number. A line that is refused is said, or will be, and the flight goes on.
 fn record_line(
     setting: Setting,
     line: &[u8],
     number: u64,
     text: &mut [u8],
     flight: Flight,
+    waits: &mut [u64],
 ) -> Flight
     requires { ⌜ Records (now text) (flight .recording) × (lineCount flight < number) ⌝ }
     ensures { λ r. ⌜ flownOf (now (text .exit)) r ≡ withLine setting (length (now (text .entry))) (flownOf (now (text .entry)) flight) (now (line .entry)) ⌝ }
     ensures { λ r. ⌜ Records (now (text .exit)) (r .recording) ⌝ }
+    ensures { λ r. ⌜ Noted (now (text .entry)) flight (now (text .exit)) r ⌝ }
 {
     match flight::take_line(setting, line, text, flight.recording) {
         Taken::Fix(recording) => with_fix(flight, recording),
         Taken::Refused(refusal) => {
-            console::say_line(b"record", number, refusal);
+            say_refused(number, refusal, waits);
             with_refused(flight, refusal)
         }
     }
@@ -139,7 +167,7 @@ fn keep_text(path: &[u8], text: &[u8], flight: Flight) -> Flight
 // The same after each minute's worth of lines in which the text has changed.
 fn checkpoint(path: &[u8], text: &[u8], number: u64, flight: Flight) -> Flight
     requires { ⌜ (length (now path) ≤ 4096) × (flight .recording .length ≤ length (now text)) ⌝ }
-    ensures { λ r. ⌜ (r ≡ flight) ⊎ (r ≡ kept flight) ⌝ }
+    ensures { λ r. ⌜ Checkpointed number flight r ⌝ }
 {
     if number % MINUTE != 0 {
         return flight;
@@ -158,6 +186,7 @@ fn record_all(
     room: &mut [u8],
     text: &mut [u8],
     first: Flight,
+    waits: &mut [u64],
 ) -> Flight
     requires { ⌜ (43 ≤ length (now room)) × Records (now text) (first .recording) × (flownOf (now text) first ≡ started setting) × (length (now path) ≤ 4096) ⌝ }
     ensures { λ r. ⌜ OfBytes (withLine setting (length (now (text .entry)))) (started setting) (flownOf (now (text .exit)) r) ⌝ }
@@ -175,13 +204,13 @@ fn record_all(
                 from: next,
                 end: stop,
             } => {
-                let with_line = record_line(setting, &room[..length], number, text, flight);
+                let with_line = record_line(setting, &room[..length], number, text, flight, waits);
                 flight = checkpoint(path, text, number, with_line);
                 from = next;
                 end = stop;
             }
             LineRead::Last { length } => {
-                return record_line(setting, &room[..length], number, text, flight);
+                return record_line(setting, &room[..length], number, text, flight, waits);
             }
             LineRead::End => return flight,
             LineRead::Failed => return flight,
@@ -190,13 +219,58 @@ fn record_all(
     flight
 }
 
+// Whether words cannot end the program, as they do where standard error is a pipe that nobody reads any more: it is a terminal, or has a place to write at.
+fn says_at_once() -> bool {
+    if libc::isatty(STDERR_FILENO) == 1 {
+        return true;
+    }
+    libc::lseek(STDERR_FILENO, 0, SEEK_CUR) >= 0
+}
+
+// Room for 256 refused lines to wait in until the text is written, or none.
+fn room_to_wait() -> usize
+    ensures { λ r. ⌜ r ≤ 513 ⌝ }
+{
+    if says_at_once() {
+        return 0;
+    }
+    513
+}
+
+// The refused lines that waited.
+fn say_waiting(waits: &[u64]) {
+    let mut i: usize = 1;
+    while i + 1 < waits.len() {
+        if waits[0] as usize <= i {
+            return;
+        }
+        console::say_line(b"record", waits[i], waits[i + 1]);
+        i += 2;
+    }
+    if waits.len() > 0 {
+        console::say(b"record: any further refused lines are only counted\n");
+    }
+}
+
+// So many, in words for one and for more.
+fn say_count(count: u64, one: &[u8], more: &[u8]) {
+    console::say_whole(count);
+    if count == 1 {
+        console::say(one);
+        return;
+    }
+    console::say(more);
+}
+
 // How many fixes were taken, and how many lines refused, by number.
 fn say_counts(flight: Flight) {
     console::say(b"record: ");
-    console::say_whole(flight.fixes);
-    console::say(b" fixes taken, ");
-    console::say_whole(flight.bad);
-    console::say(b" lines refused with 6, ");
+    say_count(flight.fixes, b" fix taken, ", b" fixes taken, ");
+    say_count(
+        flight.bad,
+        b" line refused with 6, ",
+        b" lines refused with 6, ",
+    );
     console::say_whole(flight.full);
     console::say(b" with 13\n");
 }
@@ -244,18 +318,35 @@ fn say_usage() {
 }
 
 // The flight from its first line to its last, and what it came to.
-fn record_flight(setting: Setting, path: &[u8])
+fn record_flight(setting: Setting, path: &[u8], waits: &mut [u64])
     requires { ⌜ (settingRefusal setting ≡ 0) × (length (now path) ≤ 4096) ⌝ }
 {
     let mut bytes = [0u8; 4096];
     let mut room = [0u8; 64];
     let mut text = [0u8; 65536];
-    let begun = begin(setting, &mut text);
-    let first = keep_text(path, &text, begun);
-    let flight = record_all(setting, path, &mut bytes, &mut room, &mut text, first);
+    let first = begin(setting, &mut text);
+    let flight = record_all(
+        setting,
+        path,
+        &mut bytes,
+        &mut room,
+        &mut text,
+        first,
+        waits,
+    );
     keep_text(path, &text, flight);
     console::print_first(&text, flight.recording.length);
+    say_waiting(waits);
     say_counts(flight);
+}
+
+// The same, with room for refused lines to wait in.
+fn record_to(setting: Setting, path: &[u8])
+    requires { ⌜ (settingRefusal setting ≡ 0) × (length (now path) ≤ 4096) ⌝ }
+{
+    let mut waits = [0u64; 513];
+    let many = room_to_wait();
+    record_flight(setting, path, &mut waits[..many]);
 }
 
 fn main() {
@@ -267,8 +358,8 @@ fn main() {
     };
     let mut path = [0u8; 4080];
     match file_given(words, count, &mut path) {
-        File::Path(length) => record_flight(setting, &path[..length]),
-        File::None => record_flight(setting, &path[..0]),
+        File::Path(length) => record_to(setting, &path[..length]),
+        File::None => record_to(setting, &path[..0]),
         File::Wrong => say_usage(),
     }
 }

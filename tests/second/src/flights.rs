@@ -129,6 +129,13 @@ pub fn recorded_anew(n: u64, s: u64, input: &[u8], code: impl Fn(&[u8]) -> Answe
     Flown { text, ..flown }
 }
 
+/// What is said of a flight at its end.
+pub fn counts(taken: u64, bad: usize, full: usize) -> String {
+    let fixes = if taken == 1 { "fix" } else { "fixes" };
+    let lines = if bad == 1 { "line" } else { "lines" };
+    format!("{taken} {fixes} taken, {bad} {lines} refused with 6, {full} with 13")
+}
+
 /// How many lines are taken, and the number and the refusal of the others.
 fn each_line(input: &[u8], mut take: impl FnMut(&[u8]) -> Answer<()>) -> Flown {
     let mut flown = Flown {

@@ -4,7 +4,7 @@
 use second::compare::say;
 use second::coverage::HEADING;
 use second::flights::{
-    fix, geodetic_line_code, line_code, lines, named, named_by, number, recorded, recorded_by,
+    counts, fix, geodetic_line_code, line_code, lines, named, named_by, number, recorded, recorded_by,
     Flown,
 };
 use second::grid::Answer;
@@ -123,19 +123,23 @@ fn runs(random: &mut Random, on_ellipsoids: bool) -> Vec<Run> {
     runs
 }
 
-/// Runs a program of RATTLE_BIN with the input from a file, as a person would. Each test has a
-/// file of its own, as tests run side by side.
+/// Runs a program of RATTLE_BIN with the input from a file and what it says in another, as a person
+/// would. Each test has files of its own, as tests run side by side.
 fn output(program: &str, run: &Run) -> Output {
     let folder = std::env::var("RATTLE_BIN").expect("RATTLE_BIN, so nothing was compared");
     let test = std::thread::current();
     let file = PathBuf::from(env!("CARGO_TARGET_TMPDIR")).join(test.name().unwrap_or(program));
+    let said = file.with_extension("said");
     std::fs::write(&file, &run.input).expect("a scratch file");
-    Command::new(PathBuf::from(folder).join(program))
+    let mut output = Command::new(PathBuf::from(folder).join(program))
         .args(run.setting.map(|number| number.to_string()))
         .args(run.eccentricity.map(|number| number.to_string()))
         .stdin(File::open(&file).expect("a scratch file"))
+        .stderr(File::create(&said).expect("a scratch file"))
         .output()
-        .expect("a program of RATTLE_BIN")
+        .expect("a program of RATTLE_BIN");
+    output.stderr = std::fs::read(said).expect("a scratch file");
+    output
 }
 
 /// What standard error is to say: it begins so, line by line.
@@ -182,9 +186,7 @@ fn said_of(flown: &Flown) -> Vec<String> {
     let refusal = |(line, refusal): &(u64, u64)| format!("record: line {line}: refusal {refusal}:");
     let mut said: Vec<String> = flown.left_out.iter().map(refusal).collect();
     let (taken, bad, full) = (flown.taken, flown.refused(6), flown.refused(13));
-    said.push(format!(
-        "record: {taken} fixes taken, {bad} lines refused with 6, {full} with 13"
-    ));
+    said.push(format!("record: {}", counts(taken, bad, full)));
     said
 }
 
@@ -358,7 +360,7 @@ fn printed_flights() {
     let late = [&b"0 0\n".repeat(204)[..], b"x\n"].concat();
     let said = [
         "record: line 205: refusal 6:",
-        "record: 204 fixes taken, 1 lines refused with 6, 0 with 13",
+        "record: 204 fixes taken, 1 line refused with 6, 0 with 13",
     ];
     records(setting, &late, b"Q", &said);
 }

@@ -5,7 +5,7 @@ use mathlib.Core.Bool.{Bool, true, false, cond}
 use mathlib.Core.List.{List, [], _∷_, _++_, append-assoc, append-nil}
 use Prim.Native.Nat.{ℕ, zero, suc, _+_, _-_, _*_, _≤_, _<_}
 use native.Mathlib.Omega.{arith}
-use lib.ListN.{length, take, drop, length-append, length-drop, drop-of-length-le}
+use lib.ListN.{length, take, drop, length-append, length-drop, drop-of-length-le, take-append-drop}
 use lib.Seq.{drop-at, take-at, drop-drop, length-take-le}
 use lib.Dec.{eqb, ltb}
 use borrow.Author.Tests.{ltb-true, ltb-false, eqb-true, eqb-false, eq-eqb, ne-eqb}
@@ -262,3 +262,26 @@ edited-length name t (Put i k) f h =
     )
 edited-length name t (Cut i j) f h = omega (arith, length-append (take i t) (drop j t), length-take-le i t (omega (arith, f .0, f .1)), length-drop j t, f .0, f .1)
 edited-length name t (Full e) f h = omega arith
+
+nested-some : (bs : List ℕ) → 0 < length bs → 0 < length (nested bs)
+nested-some [] h = absurd (omega arith)
+nested-some (b ∷ bs) h = omega (arith, nested-count b bs)
+
+-- an edit that leaves the length leaves the text
+pub edited-same : (name t : List ℕ) (e : Edit) → EditFits (length t) (length name) e → length (edited name t e) ≡ length t → edited name t e ≡ t
+unfolding edited
+edited-same name t Covered f h = refl
+edited-same name t (Put i k) f h =
+    absurd
+    (omega (
+      arith,
+      nested-some (drop k name) (omega (arith, length-drop k name, f .1)),
+      length-append (take i t) (nested (drop k name) ++ drop i t),
+      length-append (nested (drop k name)) (drop i t),
+      length-take-le i t (f .0),
+      length-drop i t,
+    ))
+edited-same name t (Cut i j) f h =
+    let k : j ≡ i = omega (arith, length-append (take i t) (drop j t), length-take-le i t (omega (arith, f .0, f .1)), length-drop j t, f .0, f .1) in
+    ap (λ (n : ℕ). take i t ++ drop n t) k ∙ take-append-drop i t
+edited-same name t (Full e) f h = refl

@@ -1,18 +1,22 @@
 -- The text with a cell is accepted, keeps its heading, and its ground is the old one and the cell's; cells added one by one give the text of all of
--- them, in whatever order they come. 15 is given exactly where no accepted text of that heading has that ground. Assumes nothing.
+-- them, in whatever order they come. 15 is given exactly where no accepted text of that heading has that ground. What the lent bytes are then. Assumes
+-- nothing.
 use mathlib.Core.Path.{_≡_, refl, sym, ap, ap₂, _∙_, subst}
 use mathlib.Core.Logic.{_↔_, _⊎_, inl, inr, ⊎-elim}
 use mathlib.Core.Bool.{Bool, true, false, not}
 use mathlib.Core.List.{List, [], _∷_, _++_}
-use Prim.Native.Nat.{ℕ, suc, _+_, _≤_, _<_}
+use Prim.Native.Nat.{ℕ, zero, suc, _+_, _≤_, _<_}
 use native.Mathlib.Omega.{arith}
 use lib.Dec.{ltb}
-use lib.ListN.{length}
+use lib.ListN.{length, drop}
+use lib.Seq.{drop-append-seam}
 use borrow.Author.Tests.{le-ltb, ltb-false, not-true}
+use Rattle.logic.specs.Refusal.{given}
 use Rattle.logic.specs.Laws.Bools.{clash}
 use Rattle.logic.specs.Laws.Order.{lt-or}
 use Rattle.cell.specs.declared.Cell.{Cell}
 use Rattle.cell.specs.Cell.{IsCell}
+use Rattle.code.specs.Code.{cellOf}
 use Rattle.code.specs.Inside.{Inside}
 use Rattle.reading.specs.declared.Profile.{Profile}
 use Rattle.reading.specs.declared.Profile.the-variants.{Full, Handheld}
@@ -28,14 +32,15 @@ use Rattle.reading.specs.Laws.TextReading.{reads-own, reads-body, read-text, re
 use Rattle.reading.specs.Laws.Written.{written-reads, written-ground, listed-written, one-nodes, one-text, TextOf, keeps-exactly}
 use Rattle.reading.specs.Laws.FewestOf.{text-fewest}
 use Rattle.reading.specs.Laws.Allowed.{allows-room}
+use Rattle.reader.specs.Check.{placeWith}
 use Rattle.asking.specs.Ask.{AllCovered}
 use Rattle.adding.specs.declared.Edit.{Edit}
 use Rattle.adding.specs.declared.Edit.the-variants as edit-as
 use Rattle.adding.specs.Internal.Edit.{edited}
-use Rattle.adding.specs.Internal.EditLaws.{edited-length}
+use Rattle.adding.specs.Internal.EditLaws.{edited-length, edited-same}
 use Rattle.adding.specs.Internal.Fit.{breaks}
 use Rattle.adding.specs.Internal.WithLaws.{cellBytes, textEdit, edited-with, edit-fits, keeps-edit, bytes-length}
-use Rattle.adding.specs.Add.{cellsWith, textWith, keepsWith}
+use Rattle.adding.specs.Add.{cellsWith, textWith, keepsWith, added, placed, placeIn, lengthIn}
 
 module _ (t : List ℕ) (e : isText t ≡ true) (c : Cell) (v : IsCell c) where
   pub with-cells : Cells (cellsWith t c)
@@ -137,6 +142,12 @@ module _ (t : List ℕ) (e : isText t ≡ true) (c : Cell) (v : IsCell c) where
         edited-length (cellBytes c) t (textEdit t e c v) (edit-fits t e c v) (omega (arith, v .fine)),
       )
 
+  -- a text that keeps its length is the same text
+  pub length-same : length (textWith t c) ≡ length t → textWith t c ≡ t
+  length-same h =
+      sym (edited-with t e c v)
+      ∙ edited-same (cellBytes c) t (textEdit t e c v) (edit-fits t e c v) (ap length (edited-with t e c v) ∙ h)
+
 -- a cell that was added is covered, so adding it again changes nothing
 pub with-again : (t : List ℕ) → isText t ≡ true → (c : Cell) → IsCell c → keepsWith t c ≡ true → textWith (textWith t c) c ≡ textWith t c
 with-again t e c v k = covered-same (textWith t c) (with-text t e c v k) c v (λ y f i. with-ground t e c v k y f .0 (inl i))
@@ -194,3 +205,27 @@ module _ (t : List ℕ) (e : isText t ≡ true) (c d : Cell) (v : IsCell c) (w :
 -- in version 1 nothing is outside the profile
 pub full-keeps : (t : List ℕ) → isText t ≡ true → (c : Cell) → IsCell c → profileOf t ≡ Full → keepsWith t c ≡ true
 full-keeps t e c v f = keeps-allowed t e c v .1 (inl (rw f tt))
+
+-- ---- what the lent bytes are then: "A refusal changes no lent byte; an answer changes only its own length"
+
+module _ (t : List ℕ) (code : ℕ) (bytes : List ℕ) where
+  abbrev lent : ℕ → List ℕ
+  lent r = placed r (textWith t (cellOf code)) bytes
+
+  -- behind the answer they are what they were
+  pub placed-rest : (r : ℕ) → drop (lengthIn (added r t code)) (lent r) ≡ drop (lengthIn (added r t code)) bytes
+  unfolding added placed given
+  placed-rest zero = drop-append-seam (textWith t (cellOf code)) (drop (length (textWith t (cellOf code))) bytes)
+  placed-rest (suc r) = refl
+
+  -- beside a refusal no length is answered, and all of them are what they were
+  pub placed-none : (r : ℕ) → (r ≡ 0 → ⊥) → (lengthIn (added r t code) ≡ 0) × (lent r ≡ bytes)
+  unfolding added placed given
+  placed-none zero h = absurd (h refl)
+  placed-none (suc r) h = (refl, refl)
+
+  -- the place stands beside 9 alone
+  pub placed-place : (r : ℕ) → placeIn (added r t code) ≡ placeWith r t
+  unfolding added
+  placed-place zero = refl
+  placed-place (suc r) = refl

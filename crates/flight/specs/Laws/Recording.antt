@@ -1,5 +1,5 @@
 -- The text after a flight is that of the cells of the fixes taken; a line is refused exactly where it is no fix or the text with its cell would be
--- too long; and where none was refused with 13, the order of the fixes makes no difference. Assumes nothing.
+-- too long; each line is counted once, as what it is; and where none was refused with 13, the order of the fixes makes no difference. Assumes nothing.
 use mathlib.Core.Path.{_≡_, refl, sym, ap, ap₂, _∙_, subst}
 use mathlib.Core.Logic.{_↔_, _⊎_, inl, inr, ⊎-elim}
 use mathlib.Core.Bool.{Bool, true, false, not, cond}
@@ -25,21 +25,27 @@ use Rattle.reading.specs.declared.Profile.the-variants as profile-as
 use Rattle.reading.specs.Ground.{Covers, SameGround, Cells}
 use Rattle.reading.specs.Written.{writtenText, keeps}
 use Rattle.reading.specs.Laws.Fits.{good-fits}
-use Rattle.reading.specs.Laws.Written.{nodes-good, one-text}
+use Rattle.reading.specs.TextReading.{isText}
+use Rattle.reading.specs.Laws.Written.{nodes-good, written-reads, one-text}
 use Rattle.adding.specs.Add.{textWith, keepsWith, sizeRefusal, withRefusal, placed}
-use Rattle.adding.specs.Laws.Add.{with-written, keeps-written}
+use Rattle.adding.specs.Laws.Add.{length-same, with-written, keeps-written}
 use Rattle.lines.specs.Fold.{after}
+use Rattle.flight.specs.declared.Recording.{Recording}
 use Rattle.flight.specs.declared.Setting.{Setting}
 use Rattle.flight.specs.declared.Taken.{Taken}
 use Rattle.flight.specs.declared.Taken.the-variants as taken-as
 use Rattle.flight.specs.Setting.{UsableSetting}
 use Rattle.flight.specs.Flight.{lineCode}
 use Rattle.flight.specs.Recording.{fixTaken, taken, takenText, refusalIn, Flown, withFix, withRefused, decided, withCode, withLine}
-use Rattle.flight.specs.Recording.{textFor, started, tooLong, withCell, cellsWith, FlownFrom, HasFix, counted}
+use Rattle.flight.specs.Recording.{badIn, badLines, textFor, started, tooLong, withCell, cellsWith, FlownFrom, HasFix, counted}
 use Rattle.flight.specs.Laws.Code.{line-is-code}
 use Rattle.flight.specs.Laws.Setting.{line-six}
 
 -- ---- what an answer of `flight::take_line` stands for
+
+abbrev lengthIn : Taken → ℕ
+lengthIn (taken-as.Fix m) = m .length
+lengthIn (taken-as.Refused r) = 0
 
 abbrev pub flownAs : Taken → (later : List ℕ) → Flown → Flown
 flownAs (taken-as.Fix n) later f = withFix (take (n .length) later) f
@@ -70,6 +76,23 @@ refused-bytes (coded-as.Code code) bytes t {r} e = go (withRefusal t (cellOf cod
     go zero f = let z : _≡_ {A = ℕ} 0 1 = cc in absurd (omega arith)
     go (suc q) f = refl
 refused-bytes (coded-as.Refused q) bytes t e = refl
+
+-- a fix after which the text has its length of before left the text as it was
+pub same-text :
+    (a : Coded) (bytes t : List ℕ) (m : Recording) → isText t ≡ true → ((code : ℕ) → a ≡ coded-as.Code code → IsCell (cellOf code)) →
+    taken-as.Fix m ≡ taken a (length bytes) t → m .length ≡ length t → take (m .length) (takenText a bytes t) ≡ t
+unfolding taken takenText fixTaken placed given
+same-text (coded-as.Code code) bytes t m e v q h = go (withRefusal t (cellOf code) (length bytes)) q
+  where
+    u : List ℕ
+    u = textWith t (cellOf code)
+
+    go : (r : ℕ) → taken-as.Fix m ≡ fixTaken r (length u) code → take (m .length) (placed r u bytes) ≡ t
+    go zero f =
+        let k : m .length ≡ length u = ap lengthIn f in
+        take-at u (drop (length u) bytes) (m .length) (sym k) ∙ length-same t e (cellOf code) (v code refl) (sym k ∙ h)
+    go (suc r) f = let z : _≡_ {A = ℕ} 0 1 = cc in absurd (omega arith)
+same-text (coded-as.Refused r) bytes t m e v q h = let z : _≡_ {A = ℕ} 0 1 = cc in absurd (omega arith)
 
 -- ---- the text of the cells taken
 
@@ -196,6 +219,37 @@ module _ (s : Setting) (u : UsableSetting s) (room : ℕ) (big : 65536 ≤ room)
   pub flown-text : (lines : List (List ℕ)) → FlownFrom s (after (withLine s room) (started s) lines) (after (cellsWith s) [] lines)
   flown-text lines = flown-from lines started-from
 
+  -- its heading is that of version 1, with the setting's n and s
+  pub flown-heading :
+      (lines : List (List ℕ)) →
+      take 7 (after (withLine s room) (started s) lines .text) ≡ 67 ∷ 86 ∷ 82 ∷ 0 ∷ 1 ∷ (48 + s .arrangement .north) ∷ (48 + s .arrangement .south) ∷ []
+  flown-heading lines =
+      let h = flown-text lines in
+      let r = written-reads (after (cellsWith s) [] lines) (h .cells) profile-as.Full (s .arrangement .north) (s .arrangement .south) tt
+      (full-fits (after (cellsWith s) [] lines) (h .cells)) (u .arrangement .northern) (u .arrangement .southern) in
+      ap (take 7) (h .text ∙ r .body .all)
+
+  -- ---- how many lines are refused with another number than 13: those that are no fix, or one out of range
+
+  bad-code :
+      {f : Flown} {cells : List Cell} → FlownFrom s f cells → (a : Coded) → ((code : ℕ) → a ≡ coded-as.Code code → IsCell (cellOf code)) →
+      ((r : ℕ) → a ≡ coded-as.Refused r → r ≡ 6) → withCode room a f .bad ≡ badIn a + f .bad
+  bad-code {f} {cells} h (coded-as.Code code) v z =
+      ap (λ (x : Flown). x .bad) (with-fix h (cellOf code) (v code refl) code refl) ∙ go (tooLong s (cellOf code ∷ cells))
+    where
+      go : (t : Bool) → cond t (withRefused 13 f) (withFix (textFor s (cellOf code ∷ cells)) f) .bad ≡ 0 + f .bad
+      go true = omega arith
+      go false = omega arith
+  bad-code {f} h (coded-as.Refused r) v z = ap (λ (q : ℕ). withRefused q f .bad) (z r refl) ∙ omega arith
+
+  bad-after :
+      (lines : List (List ℕ)) {f : Flown} {cells : List Cell} → FlownFrom s f cells → after (withLine s room) f lines .bad ≡ badLines s lines + f .bad
+  bad-after [] h = omega arith
+  bad-after (line ∷ lines) h = bad-after lines (line-from h line) ∙ omega (arith, bad-code h (lineCode s line) (line-cell line) (line-six s u line))
+
+  pub bad-exactly : (lines : List (List ℕ)) → after (withLine s room) (started s) lines .bad ≡ badLines s lines
+  bad-exactly lines = bad-after lines started-from ∙ omega arith
+
   -- ---- the cells of the fixes taken: of the flight's fixes, and all of them where none was refused with 13
 
   -- one line's
@@ -307,3 +361,7 @@ module _ (s : Setting) (room : ℕ) where
   pub lines-once : (lines : List (List ℕ)) (f : Flown) → counted (after (withLine s room) f lines) ≡ counted f + length lines
   lines-once [] f = omega arith
   lines-once (line ∷ lines) f = lines-once lines (withLine s room f line) ∙ omega (arith, line-once f line)
+
+  -- no other line is
+  pub flown-counted : (lines : List (List ℕ)) → counted (after (withLine s room) (started s) lines) ≡ length lines
+  flown-counted lines = lines-once lines (started s) ∙ omega arith

@@ -1,7 +1,4 @@
 -- `record_flight` is safe: the text lies within its room. Assumes nothing.
-use mathlib.Core.Path.{sym, _∙_, subst}
-use Rattle.flight.specs.Recording.{Records}
-use Rattle.record.proofs.Laws.{kept-flown, kept-recording}
 use native.Mathlib.Omega.{arith}
 use borrow.Author.Needs.{needs}
 use Rattle.record.proofs.record_flight.Statement.{statement}
@@ -13,12 +10,6 @@ slice-aggregate-begin c = search needs
 begin-requires : tie.Need-begin-requires
 begin-requires c κs = search needs
 
-slice-aggregate-keep-text : tie.Need-slice-aggregate-keep-text
-slice-aggregate-keep-text c = search needs
-
-keep-text-requires : tie.Need-keep-text-requires
-keep-text-requires c κs = search needs
-
 slice-aggregate-record-all : tie.Need-slice-aggregate-record-all
 slice-aggregate-record-all c = search needs
 
@@ -29,16 +20,13 @@ slice-aggregate-record-all-3 : tie.Need-slice-aggregate-record-all-3
 slice-aggregate-record-all-3 c = search needs
 
 record-all-requires : tie.Need-record-all-requires
-record-all-requires c κs =
-    let b = c .before .before .before .before .before .before .begin in
-    let k = c .before .before .before .keep-text .ensures in
-    (omega arith, subst (Records (b .last .1 .0)) (sym (kept-recording k)) (b .ensures .1 .0), kept-flown k (b .last .1 .0) ∙ b .ensures .0, search needs)
+record-all-requires c κs = let b = c .before .before .before .before .before .begin in (omega arith, b .ensures .1 .0, b .ensures .0)
 
-slice-aggregate-keep-text-2 : tie.Need-slice-aggregate-keep-text-2
-slice-aggregate-keep-text-2 c = search needs
+slice-aggregate-keep-text : tie.Need-slice-aggregate-keep-text
+slice-aggregate-keep-text c = search needs
 
-keep-text-requires-2 : tie.Need-keep-text-requires-2
-keep-text-requires-2 c κs = search needs
+keep-text-requires : tie.Need-keep-text-requires
+keep-text-requires c κs = search needs
 
 slice-aggregate-print-first : tie.Need-slice-aggregate-print-first
 slice-aggregate-print-first c = search needs
@@ -46,8 +34,14 @@ slice-aggregate-print-first c = search needs
 print-first-requires : tie.Need-print-first-requires
 print-first-requires c κs = search needs
 
+say-waiting-requires : tie.Need-say-waiting-requires
+say-waiting-requires c κs = search needs
+
 say-counts-requires : tie.Need-say-counts-requires
 say-counts-requires c κs = search needs
+
+same-length : tie.Need-same-length
+same-length c = search needs
 
 returns : tie.Need-returns
 returns c = search needs
@@ -58,15 +52,15 @@ record-flight-spec =
     (tie.spec
     slice-aggregate-begin
     begin-requires
-    slice-aggregate-keep-text
-    keep-text-requires
     slice-aggregate-record-all
     slice-aggregate-record-all-2
     slice-aggregate-record-all-3
     record-all-requires
-    slice-aggregate-keep-text-2
-    keep-text-requires-2
+    slice-aggregate-keep-text
+    keep-text-requires
     slice-aggregate-print-first
     print-first-requires
+    say-waiting-requires
     say-counts-requires
+    same-length
     returns)

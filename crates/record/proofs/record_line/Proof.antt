@@ -2,7 +2,7 @@
 use mathlib.Core.Path.{sym, _∙_, subst}
 use Rattle.flight.specs.declared.Taken.{Taken}
 use Rattle.flight.specs.Recording.{Records, recordingAfter}
-use Rattle.record.proofs.Laws.{fix-recorded, refused-recorded}
+use Rattle.record.proofs.Laws.{fix-recorded, refused-recorded, fix-noted, refused-noted}
 use native.Mathlib.Omega.{arith}
 use borrow.Author.Needs.{needs}
 use Rattle.record.proofs.record_line.Statement.{statement}
@@ -20,11 +20,8 @@ with-fix-requires c κs = search needs
 enum-known-refusal : tie.Need-enum-known-refusal
 enum-known-refusal c = search needs
 
-slice-aggregate-say-line : tie.Need-slice-aggregate-say-line
-slice-aggregate-say-line c = search needs
-
-say-line-requires : tie.Need-say-line-requires
-say-line-requires c κs = search needs
+say-refused-requires : tie.Need-say-refused-requires
+say-refused-requires c κs = search needs
 
 with-refused-requires : tie.Need-with-refused-requires
 with-refused-requires c κs = search needs
@@ -34,25 +31,35 @@ same-length c = search needs
 
 returns : tie.Need-returns
 returns c =
-    let a = c .before .before .before .before .before .before .before .before .before .before .args in
+    let a = c .before .before .before .before .before .before .before .before .before .before .before .args in
     let t = c .before .before .before .before .before .before .take-line in
     let e = c .before .before .recording .given .1 in
     let d = c .with-fix .ensures in (
       fix-recorded (a .setting) (a .line .now) (a .text .now) (t .last .1 .1 .0) (a .flight) (c .with-fix .result) _ (sym e ∙ t .ensures .0) (t .ensures .1 .0) d,
-      subst (Records (t .last .1 .1 .0)) (sym (d .0)) (subst (λ (x : Taken). Records (t .last .1 .1 .0) (recordingAfter x (a .flight .recording))) e (t .ensures .1 .1)),
+      (
+        subst (Records (t .last .1 .1 .0)) (sym (d .0)) (subst (λ (x : Taken). Records (t .last .1 .1 .0) (recordingAfter x (a .flight .recording))) e (t .ensures .1 .1)),
+        fix-noted (a .setting) (a .line .now) (a .text .now) (t .last .1 .1 .0) (a .flight) (c .with-fix .result) _ (c .before .before .before .before .before .before .before .before .before .before .before .pre .0)
+            (sym e ∙ t .ensures .0) (t .ensures .1 .0) d,
+      ),
     )
 
 same-length-2 : tie.Need-same-length-2
 same-length-2 c = search needs
 
+same-length-3 : tie.Need-same-length-3
+same-length-3 c = search needs
+
 returns-2 : tie.Need-returns-2
 returns-2 c =
-    let a = c .before .before .before .before .before .before .before .before .before .before .before .before .args in
-    let t = c .before .before .before .before .before .before .before .before .take-line in
-    let e = c .before .before .before .before .refusal .given .1 in
+    let a = c .before .before .before .before .before .before .before .before .before .before .before .before .before .before .before .args in
+    let t = c .before .before .before .before .before .before .before .before .before .before .take-line in
+    let e = c .before .before .before .before .before .before .refusal .given .1 in
     let d = c .with-refused .ensures in (
       refused-recorded (a .setting) (a .line .now) (a .text .now) (t .last .1 .1 .0) (a .flight) (c .with-refused .result) _ (sym e ∙ t .ensures .0) (t .ensures .1 .0) d,
-      subst (Records (t .last .1 .1 .0)) (sym (d .0)) (subst (λ (x : Taken). Records (t .last .1 .1 .0) (recordingAfter x (a .flight .recording))) e (t .ensures .1 .1)),
+      (
+        subst (Records (t .last .1 .1 .0)) (sym (d .0)) (subst (λ (x : Taken). Records (t .last .1 .1 .0) (recordingAfter x (a .flight .recording))) e (t .ensures .1 .1)),
+        refused-noted (a .setting) (a .line .now) (a .text .now) (t .last .1 .1 .0) (a .flight) (c .with-refused .result) _ (sym e ∙ t .ensures .0) (t .ensures .1 .0) d,
+      ),
     )
 
 pub record-line-spec : {M : Type 1} → statement M
@@ -63,10 +70,10 @@ record-line-spec =
     enum-known-recording
     with-fix-requires
     enum-known-refusal
-    slice-aggregate-say-line
-    say-line-requires
+    say-refused-requires
     with-refused-requires
     same-length
     returns
     same-length-2
+    same-length-3
     returns-2)

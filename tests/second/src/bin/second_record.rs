@@ -1,7 +1,7 @@
 //! `second_record n s resolution < flight > text`: the coverage text of a flight by the second
 //! program. It wrote examples/flight/flight.cvr.
 
-use second::flights::recorded;
+use second::flights::{counts, recorded};
 use std::io::{Read, Write};
 
 fn main() {
@@ -20,10 +20,9 @@ fn main() {
     for (line, refusal) in &flown.left_out {
         eprintln!("line {line}: refusal {refusal}");
     }
-    let (taken, full) = (flown.taken, flown.refused(13));
     eprintln!(
-        "{taken} fixes taken, {} lines refused with 6, {full} with 13",
-        flown.refused(6)
+        "{}",
+        counts(flown.taken, flown.refused(6), flown.refused(13))
     );
     std::io::stdout()
         .write_all(&flown.text)
