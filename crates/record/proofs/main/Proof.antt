@@ -43,12 +43,12 @@ enum-known-length c = search needs
 array-share-prefix-path : tie.Need-array-share-prefix-path
 array-share-prefix-path c = path-given _ _ (c .before .before .before .before .file-given .ensures) (c .before .length .given .1)
 
-slice-aggregate-record-flight : tie.Need-slice-aggregate-record-flight
-slice-aggregate-record-flight c =
+slice-aggregate-record-to : tie.Need-slice-aggregate-record-to
+slice-aggregate-record-to c =
     sym (length-take-le _ _ (path-given _ _ (c .before .before .before .before .before .file-given .ensures) (c .before .before .length .given .1)))
 
-record-flight-requires : tie.Need-record-flight-requires
-record-flight-requires c κs =
+record-to-requires : tie.Need-record-to-requires
+record-to-requires c κs =
     let f = c .before .before .before .before .before .file-given in (
       setting-used _ (c .before .before .before .before .before .before .before .before .before .before .setting-in .ensures) (c .before .before .before .before .before .before .before .before .setting .given .1),
       path-short _ _ (f .ensures) (c .before .before .length .given .1) (search needs),
@@ -60,11 +60,11 @@ enum-told-2 c = search needs
 array-share-prefix-path-2 : tie.Need-array-share-prefix-path-2
 array-share-prefix-path-2 c = search needs
 
-slice-aggregate-record-flight-2 : tie.Need-slice-aggregate-record-flight-2
-slice-aggregate-record-flight-2 c = search needs
+slice-aggregate-record-to-2 : tie.Need-slice-aggregate-record-to-2
+slice-aggregate-record-to-2 c = search needs
 
-record-flight-requires-2 : tie.Need-record-flight-requires-2
-record-flight-requires-2 c κs = (
+record-to-requires-2 : tie.Need-record-to-requires-2
+record-to-requires-2 c κs = (
   setting-used _ (c .before .before .before .before .before .before .before .before .before .setting-in .ensures) (c .before .before .before .before .before .before .before .setting .given .1),
   search needs,
 )
@@ -100,12 +100,12 @@ main-spec =
     file-given-requires
     enum-known-length
     array-share-prefix-path
-    slice-aggregate-record-flight
-    record-flight-requires
+    slice-aggregate-record-to
+    record-to-requires
     enum-told-2
     array-share-prefix-path-2
-    slice-aggregate-record-flight-2
-    record-flight-requires-2
+    slice-aggregate-record-to-2
+    record-to-requires-2
     enum-told-3
     say-usage-requires-2
     returns-2

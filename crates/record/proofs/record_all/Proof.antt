@@ -30,12 +30,12 @@ roomy c = omega (
   arith,
   c .next-line .kept .1 .1 .1 .1 .0,
   c .before .before .before .before .before .loop .inv .4,
-  c .before .before .before .before .before .before .before .before .before .before .before .before .pre .0,
+  c .before .before .before .before .before .before .before .before .before .before .before .pre .0,
 )
 
 loop-holds : tie.Need-loop-holds Inv-loop μ-loop
 loop-holds c =
-    let s = c .before .before .before .before .before .before in
+    let s = c .before .before .before .before .before in
     let e = s .pre .2 in (
       omega arith,
       omega arith,
@@ -72,7 +72,9 @@ record-line-requires : tie.Need-record-line-requires Inv-loop μ-loop
 record-line-requires c κs = let l = c .before .before .before .before .before .before .before .before .before .before .before .before .before .before .before .loop in (l .inv .2, omega (arith, l .inv .6))
 
 checkpoint-requires : tie.Need-checkpoint-requires Inv-loop μ-loop
-checkpoint-requires c κs = c .before .before .before .before .before .record-line .ensures .1 .0 .holds .fits
+checkpoint-requires c κs =
+    let n = c .before .before .before .before .before .before .before .before .before .before .before .before .before .before .before .before in
+    (n .before .before .before .before .before .before .before .before .before .before .before .pre .3, c .before .before .before .before .before .record-line .ensures .1 .0 .holds .fits)
 
 loop-less : tie.Need-loop-less Inv-loop μ-loop
 loop-less c = omega (arith, c .before .before .before .before .before .before .before .before .before .before .before .before .before .before .before .before .before .before .before .before .before .loop-test .taken)
@@ -81,7 +83,7 @@ loop-again : tie.Need-loop-again Inv-loop μ-loop
 loop-again c =
     let n = c .before .before .before .before .before .before .before .before .before .before .before .before .before .before .before .before .before in
     let l = n .before .before .before .before .before .loop in
-    let a = n .before .before .before .before .before .before .before .before .before .before .before .before .args in
+    let a = n .before .before .before .before .before .before .before .before .before .before .before .args in
     let line = c .before .before .before .before .before .before .before .before .before .before .before .length .given in
     let g = line-given _ _ _ (n .next-line .ensures) _ _ _ (line .1) in
     let d = c .before .before .before .before .before .before .record-line in
@@ -129,7 +131,7 @@ returns : tie.Need-returns Inv-loop μ-loop
 returns c =
     let n = c .before .before .before .before .before .before .before .before .before .before .before .before .before .before .before in
     let l = n .before .before .before .before .before .loop in
-    let a = n .before .before .before .before .before .before .before .before .before .before .before .before .args in
+    let a = n .before .before .before .before .before .before .before .before .before .before .before .args in
     let line = c .before .before .before .before .before .before .before .before .before .length2 .given in
     let g = last-given _ _ _ (n .next-line .ensures) _ (line .1) in
     let q = c .before .before .before .before .record-line2 .ensures in

@@ -20,7 +20,7 @@ slice-aggregate-record-all-3 : tie.Need-slice-aggregate-record-all-3
 slice-aggregate-record-all-3 c = search needs
 
 record-all-requires : tie.Need-record-all-requires
-record-all-requires c κs = let b = c .before .before .before .before .before .begin in (omega arith, b .ensures .1 .0, b .ensures .0)
+record-all-requires c κs = let b = c .before .before .before .before .before .begin in (omega arith, b .ensures .1 .0, b .ensures .0, search needs)
 
 slice-aggregate-keep-text : tie.Need-slice-aggregate-keep-text
 slice-aggregate-keep-text c = search needs
