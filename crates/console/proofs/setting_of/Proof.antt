@@ -37,7 +37,8 @@ say-refusal-requires c κs = search needs
 returns-2 : tie.Need-returns-2
 returns-2 c =
     let a = c .before .before .before .before .before .before .before .before .before .before .before .before .args in
-    is-wanted (a .history) (a .wanted) _ (c .before .before .before .before .before .before .before .before .wanted .given .1) (c .before .before .before .before .before .before .setting-at .ensures) (c .before .before .before .enum-told2 .given .1)
+    is-wanted (a .history) (a .wanted) _ (c .before .before .before .before .before .before .before .before .wanted .given .1)
+    (c .before .before .before .before .before .before .setting-at .ensures) (c .before .before .before .enum-told2 .given .1)
 
 slice-aggregate-say-2 : tie.Need-slice-aggregate-say-2
 slice-aggregate-say-2 c = search needs
@@ -66,7 +67,9 @@ say-requires-6 c κs = search needs
 returns-3 : tie.Need-returns-3
 returns-3 c =
     let a = c .before .before .before .before .before .before .before .before .before .before .before .before .before .before .before .before .before .before .args in
-    is-wanted (a .history) (a .wanted) _ (c .before .before .before .before .before .before .before .before .before .before .before .before .before .before .wanted .given .1) (c .before .before .before .before .before .before .before .before .before .before .before .before .setting-at .ensures) (c .before .before .before .before .before .before .before .before .before .given .given .1)
+    is-wanted (a .history) (a .wanted) _ (c .before .before .before .before .before .before .before .before .before .before .before .before .before .before .wanted .given .1)
+    (c .before .before .before .before .before .before .before .before .before .before .before .before .setting-at .ensures)
+    (c .before .before .before .before .before .before .before .before .before .given .given .1)
 
 pub setting-of-spec : {M : Type 1} → statement M
 setting-of-spec =

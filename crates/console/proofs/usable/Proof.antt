@@ -29,7 +29,9 @@ say-refusal-requires : tie.Need-say-refusal-requires
 say-refusal-requires c κs = search needs
 
 returns-2 : tie.Need-returns-2
-returns-2 c = is-refused _ (c .before .before .before .before .before .refusal .result) (c .before .before .before .before .before .before .before .given .given .1) (c .before .before .before .before .before .refusal .ensures) (c .before .before .before .before .if1 .taken)
+returns-2 c =
+    is-refused _ (c .before .before .before .before .before .refusal .result) (c .before .before .before .before .before .before .before .given .given .1)
+    (c .before .before .before .before .before .refusal .ensures) (c .before .before .before .before .if1 .taken)
 
 returns-3 : tie.Need-returns-3
 returns-3 c = is-accepted _ (c .before .refusal .result) (c .before .before .before .given .given .1) (c .before .refusal .ensures) (c .if1 .left)

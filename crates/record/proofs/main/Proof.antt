@@ -50,7 +50,8 @@ slice-aggregate-record-to c =
 record-to-requires : tie.Need-record-to-requires
 record-to-requires c κs =
     let f = c .before .before .before .before .before .file-given in (
-      setting-used _ (c .before .before .before .before .before .before .before .before .before .before .setting-in .ensures) (c .before .before .before .before .before .before .before .before .setting .given .1),
+      setting-used _ (c .before .before .before .before .before .before .before .before .before .before .setting-in .ensures)
+      (c .before .before .before .before .before .before .before .before .setting .given .1),
       path-short _ _ (f .ensures) (c .before .before .length .given .1) (search needs),
     )
 

@@ -69,7 +69,9 @@ slice-aggregate-record-line c = sym (length-take-le _ _ (line-length _ _ _ (c .b
     (c .before .before .length .given .1)))
 
 record-line-requires : tie.Need-record-line-requires Inv-loop μ-loop
-record-line-requires c κs = let l = c .before .before .before .before .before .before .before .before .before .before .before .before .before .before .before .loop in (l .inv .2, omega (arith, l .inv .6))
+record-line-requires c κs =
+    let l = c .before .before .before .before .before .before .before .before .before .before .before .before .before .before .before .loop in
+    (l .inv .2, omega (arith, l .inv .6))
 
 checkpoint-requires : tie.Need-checkpoint-requires Inv-loop μ-loop
 checkpoint-requires c κs =
@@ -77,7 +79,9 @@ checkpoint-requires c κs =
     (n .before .before .before .before .before .before .before .before .before .before .before .pre .3, c .before .before .before .before .before .record-line .ensures .1 .0 .holds .fits)
 
 loop-less : tie.Need-loop-less Inv-loop μ-loop
-loop-less c = omega (arith, c .before .before .before .before .before .before .before .before .before .before .before .before .before .before .before .before .before .before .before .before .before .loop-test .taken)
+loop-less c =
+    let n = c .before .before .before .before .before .before .before .before .before .before .before .before .before .before .before .before in
+    omega (arith, n .before .before .before .before .before .loop-test .taken)
 
 loop-again : tie.Need-loop-again Inv-loop μ-loop
 loop-again c =
@@ -113,7 +117,9 @@ slice-aggregate-record-line-2 c = sym (length-take-le _ _ (last-length _ _ _ (c 
     (c .before .before .length2 .given .1)))
 
 record-line-requires-2 : tie.Need-record-line-requires-2 Inv-loop μ-loop
-record-line-requires-2 c κs = let l = c .before .before .before .before .before .before .before .before .before .before .before .before .before .before .before .loop in (l .inv .2, omega (arith, l .inv .6))
+record-line-requires-2 c κs =
+    let l = c .before .before .before .before .before .before .before .before .before .before .before .before .before .before .before .loop in
+    (l .inv .2, omega (arith, l .inv .6))
 
 same-length : tie.Need-same-length Inv-loop μ-loop
 same-length c = search needs

@@ -38,7 +38,8 @@ loop-again c =
     let l = c .before .before .before .before .before .loop in
     let p = c .before .before .put-revision in
     let a = c .before .before .before .before .before .before .before .before .args in
-    listing-more (a .history) (a .out .now) (l .out) (p .last .1 .1 .0) (l .left) (l .end) (p .result) (l .inv) (c .before .before .before .before .loop-test .taken) (p .ensures .0) (p .ensures .1) (p .kept .1 .1 .0)
+    listing-more (a .history) (a .out .now) (l .out) (p .last .1 .1 .0) (l .left) (l .end) (p .result) (l .inv)
+    (c .before .before .before .before .loop-test .taken) (p .ensures .0) (p .ensures .1) (p .kept .1 .1 .0)
 
 same-length : tie.Need-same-length Inv-loop μ-loop
 same-length c = search needs

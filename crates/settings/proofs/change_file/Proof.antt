@@ -32,7 +32,10 @@ slice-aggregate-put-in-place : tie.Need-slice-aggregate-put-in-place
 slice-aggregate-put-in-place c = search needs
 
 put-in-place-requires : tie.Need-put-in-place-requires
-put-in-place-requires c κs = (c .before .before .before .before .before .before .before .before .before .before .before .pre .0, c .before .before .before .before .changed-bytes .ensures .1 (not-false _ (c .before .if2 .left)))
+put-in-place-requires c κs = (
+  c .before .before .before .before .before .before .before .before .before .before .before .pre .0,
+  c .before .before .before .before .changed-bytes .ensures .1 (not-false _ (c .before .if2 .left)),
+)
 
 returns-3 : tie.Need-returns-3
 returns-3 c = search needs
