@@ -258,7 +258,7 @@ def crews():
 
 if __name__ == "__main__":
     for part in (
-        codes_and_names, families, shapes, plane, ground, neighbours, corners, coverage, additions, two_arrangements, handhelds, plotter, crews,
-        office,
+        codes_and_names, families, shapes, plane, ground, neighbours, corners, coverage, additions, two_arrangements, handhelds, plotter, office,
+        crews,
     ):
         part()

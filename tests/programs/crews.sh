@@ -16,7 +16,7 @@ try "a text and nothing" 'compare one.cvr heading.cvr' 'O\nP3\nP41\n\n\n\n' ''
 try "nothing and a text" 'compare heading.cvr one.cvr' '\nO\nP3\nP41\n\n\n' ''
 try "nothing and nothing" 'compare heading.cvr heading.cvr' '\n\n\n' ''
 printf '%b' "${H}NOPQRS" >all.cvr
-try "all and a part" 'compare all.cvr two.cvr | tail -n 6' 'O1\nO2\nP4\n\n' ''
+try "all and a part" 'compare all.cvr two.cvr | tail -n 6' '\n\nO1\nO2\nP4\n\n' ''
 try "all and a part, the first lines" 'compare all.cvr two.cvr | head -n 3' 'N\nO0\nO3\n' ''
 printf '%b' "${H}P(012345678(01234567))" >eight.cvr
 printf '%b' "${H}P(8(8))" >ninth.cvr
@@ -80,7 +80,7 @@ try "the second text's 9 comes before 14" 'compare two.cvr worse.cvr' '9\n' '9 a
 # 65,536 bytes, and 65,536 codes a listing: its text covers far more cells of the face than that in part
 try "65,536 bytes and itself" 'compare full.cvr full.cvr | wc -l' '46089\n' ''
 try "65,536 bytes and its cells" "compare full.cvr heading.cvr | head -n 46086" @full.names ''
-try "65,536 bytes and a face" 'compare full.cvr all.cvr | sed -n 46085p' "$(sed -n 46085p full.names)\n" ''
+try "65,536 bytes and all faces" 'compare full.cvr all.cvr | tail -n 46087 | head -n 46086' @full.names ''
 digits=$(times 13 '(0') closed=$(times 13 ')')
 deep=
 for first in 0 1 2 3 4 5 6 7 8; do for second in 0 1 2 3 4 5 6 7 8; do deep+="$second$digits$closed"; done; rows+="$first($deep)" deep=; done

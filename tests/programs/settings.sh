@@ -87,12 +87,12 @@ rm -rf office && mkdir office
 for program in record name_fixes; do
     eval "used() { (cd office && echo -900000000 880000000000000000 | $program settings office.set \${1-}); }"
     case $program in
-    record) answer='CVR\x00\x0110N(6)' older='CVR\x00\x0100N(8)' counts='; 1+0+0' ;;
-    *) answer='N6\n' older='N8\n' counts= ;;
+    record) answer='CVR\x00\x0110N(6)' older='CVR\x00\x0100N(8)' taken='; 1+0+0' ;;
+    *) answer='N6\n' older='N8\n' taken= ;;
     esac
-    try "$program with the newest revision" "used" "$answer" "$program: revision 1 of office.set$counts"
-    try "$program with a revision" "used 1" "$answer" "$program: revision 1 of office.set$counts"
-    try "$program with an older one" "used 0" "$older" "$program: revision 0 of office.set$counts"
+    try "$program with the newest revision" "used" "$answer" "$program: revision 1 of office.set$taken"
+    try "$program with a revision" "used 1" "$answer" "$program: revision 1 of office.set$taken"
+    try "$program with an older one" "used 0" "$older" "$program: revision 0 of office.set$taken"
     try "$program with what is to come" "used 2" '' "18; usage $program"
     try "$program with no revision" "used x" '' "usage $program"
     try "$program with too many words" "used '0 0'" '' "usage $program"

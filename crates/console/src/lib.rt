@@ -271,23 +271,6 @@ fn on_disk(program: &[u8], path: &[u8], fd: i32, bytes: &[u8]) -> bool {
     true
 }
 
-// Whether a file has these bytes, and no other, on the disk, and is closed.
-fn written(program: &[u8], path: &[u8], bytes: &[u8]) -> bool {
-    let fd = os::open_overwrite(path);
-    if fd < 0 {
-        say_failure(program, path);
-        return false;
-    }
-    let whole = on_disk(program, path, fd, bytes);
-    if libc::close(fd) != 0 {
-        if whole {
-            say_failure(program, path);
-        }
-        return false;
-    }
-    whole
-}
-
 // Removes a file, if it is there.
 pub fn remove(program: &[u8], path: &[u8]) {
     if os::unlink(path) != 0 {
@@ -295,6 +278,25 @@ pub fn remove(program: &[u8], path: &[u8]) {
             say_failure(program, path);
         }
     }
+}
+
+// Whether a file has these bytes, and no other, on the disk, and is closed. Where that fails it is not left behind.
+fn written(program: &[u8], path: &[u8], bytes: &[u8]) -> bool {
+    let fd = os::open_overwrite(path);
+    if fd < 0 {
+        say_failure(program, path);
+        return false;
+    }
+    let whole = on_disk(program, path, fd, bytes);
+    let closed = libc::close(fd) == 0;
+    if whole && closed {
+        return true;
+    }
+    if whole {
+        say_failure(program, path);
+    }
+    remove(program, path);
+    false
 }
 
 // How much of a path is its folder, with the slash: nothing where there is none.
@@ -356,8 +358,8 @@ fn keep_by(program: &[u8], path: &[u8], beside: &[u8], bytes: &[u8]) -> bool
         if take_place(program, path, beside, whole) {
             return true;
         }
+        remove(program, beside);
     }
-    remove(program, beside);
     false
 }
 

@@ -353,6 +353,6 @@ fn main() -> Answer<()> {
     two_arrangements()?;
     handhelds()?;
     plotter()?;
-    crews()?;
-    office()
+    office()?;
+    crews()
 }

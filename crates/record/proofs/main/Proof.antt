@@ -51,7 +51,7 @@ record-to-requires : tie.Need-record-to-requires
 record-to-requires c κs =
     let f = c .before .before .before .before .before .file-given in (
       setting-used _ (c .before .before .before .before .before .before .before .before .before .before .setting-in .ensures)
-      (c .before .before .before .before .before .before .before .before .setting .given .1),
+          (c .before .before .before .before .before .before .before .before .setting .given .1),
       path-short _ _ (f .ensures) (c .before .before .length .given .1) (search needs),
     )
 

@@ -39,7 +39,7 @@ returns c =
       (
         subst (Records (t .last .1 .1 .0)) (sym (d .0)) (subst (λ (x : Taken). Records (t .last .1 .1 .0) (recordingAfter x (a .flight .recording))) e (t .ensures .1 .1)),
         fix-noted (a .setting) (a .line .now) (a .text .now) (t .last .1 .1 .0) (a .flight) (c .with-fix .result) _
-        (c .before .before .before .before .before .before .before .before .before .before .before .pre .0)
+            (c .before .before .before .before .before .before .before .before .before .before .before .pre .0)
             (sym e ∙ t .ensures .0) (t .ensures .1 .0) d,
       ),
     )

@@ -30,9 +30,11 @@ returns-2 : tie.Need-returns-2
 returns-2 c =
     let a = c .before .before .before .before .before .before .before .before .args in
     let r = c .before .before .before .before .before .before .read in
-    let p = c .before .before .put-settings in
-    (subst (λ (t : List ℕ). Put 0 t (a .out .now) (p .last .1 .0) (p .result))
-        (the-line (a .history) (a .revision) (r .result) (r .ensures) (c .before .before .before .before .if1 .left)) (p .ensures .0), omega (arith, p .ensures .1))
+    let p = c .before .before .put-settings in (
+      subst (λ (t : List ℕ). Put 0 t (a .out .now) (p .last .1 .0) (p .result))
+          (the-line (a .history) (a .revision) (r .result) (r .ensures) (c .before .before .before .before .if1 .left)) (p .ensures .0),
+      omega (arith, p .ensures .1),
+    )
 
 pub put-read-spec : {M : Type 1} → statement M
 put-read-spec =
