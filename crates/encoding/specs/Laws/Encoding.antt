@@ -1,10 +1,11 @@
 -- Encoding and decoding undo each other; bytes that are no encoding get 9, with the longest leading part that some encoding begins with. Assumes nothing.
 use mathlib.Core.Path.{_≡_, refl, sym, ap, subst, _∙_}
 use mathlib.Core.Logic.{_↔_, _⊎_, inl, inr, ⊎-elim}
-use mathlib.Core.List.{List, [], _∷_, _++_}
-use Prim.Native.Nat.{ℕ, zero, suc, _+_, _*_}
+use mathlib.Core.List.{List, [], _∷_, _++_, append-assoc}
+use Prim.Native.Nat.{ℕ, zero, suc, _+_, _*_, _<_}
 use native.Mathlib.Omega.{arith}
-use lib.ListN.{length, getD, set, replicate, take, length-append}
+use lib.ListN.{length, getD, set, replicate, take, drop, length-append}
+use lib.Seq.{take-at, drop-at, drop-drop}
 use Rattle.logic.specs.Longest.{BeginsOne, LongestOf}
 use Rattle.ternary.specs.Digits.{digits, Below}
 use Rattle.ternary.specs.Laws.Digits.{length-digits, digits-below}
@@ -86,6 +87,37 @@ encoding-bytes h =
     let d = digits 256 2 (h .newest) in
     let b = placesBytes 32 0 (h .kept) in
     below-append 256 mark (d ++ b) (omega arith, (omega arith, (omega arith, (omega arith, (omega arith, tt))))) (below-append 256 d b (number-bytes 2 (h .newest)) (places-below 32 0 (h .kept)))
+
+-- ---- where each place stands
+
+places-at : (k p q : ℕ) (kept : List Settings) → q < k → take 8 (drop (8 * q) (placesBytes k p kept)) ≡ settingsBytes (getD kept (p + q) none)
+unfolding placesBytes
+places-at zero p q kept l = absurd (omega arith)
+places-at (suc k) p zero kept l =
+    let x = getD kept p none in
+    let a : p ≡ p + 0 = omega arith in
+    take-at (settingsBytes x) (placesBytes k (suc p) kept) 8 (settings-length x) ∙ ap (λ (i : ℕ). settingsBytes (getD kept i none)) a
+places-at (suc k) p (suc q) kept l =
+    let x = getD kept p none in
+    let a : suc p + q ≡ p + suc q = omega arith in
+    let b : 8 * suc q ≡ 8 + 8 * q = omega arith in
+    ap (take 8)
+    (ap (λ (i : ℕ). drop i (settingsBytes x ++ placesBytes k (suc p) kept)) b
+    ∙ sym (drop-drop (8 * q) 8 (settingsBytes x ++ placesBytes k (suc p) kept))
+    ∙ ap (drop (8 * q)) (drop-at (settingsBytes x) (placesBytes k (suc p) kept) 8 (settings-length x)))
+    ∙ places-at k (suc p) q kept (omega arith) ∙ ap (λ (i : ℕ). settingsBytes (getD kept i none)) a
+
+-- behind the mark, the version and the newest revision, place q has the 8 bytes from 7 + 8 q on
+pub encoding-place : (h : History) (q : ℕ) → q < 32 → take 8 (drop (7 + 8 * q) (encodingOf h)) ≡ settingsBytes (getD (h .kept) q none)
+unfolding encodingOf
+encoding-place h q l =
+    let front = mark ++ digits 256 2 (h .newest) in
+    let places = placesBytes 32 0 (h .kept) in
+    let n : length front ≡ 7 = omega (arith, length-append mark (digits 256 2 (h .newest)), length-digits 256 2 (h .newest)) in
+    ap (take 8)
+    (ap (drop (7 + 8 * q)) (sym (append-assoc mark (digits 256 2 (h .newest)) places))
+    ∙ sym (drop-drop (8 * q) 7 (front ++ places)) ∙ ap (drop (8 * q)) (drop-at front places 7 n))
+    ∙ places-at 32 0 q (h .kept) l ∙ ap (λ (i : ℕ). settingsBytes (getD (h .kept) i none)) (let z : 0 + q ≡ q = omega arith in z)
 
 -- ---- decoding undoes encoding
 
