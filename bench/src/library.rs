@@ -1,7 +1,7 @@
 //! The entries, of the library and of the plain Rust beside it, and a sum over their answers.
 
 use jeguarivo::{
-    Ask, Cell, Check, Code, Fix, Frame, FrameAnswer, Length, List, MarkAnswer, Name, Z,
+    Add, Ask, Cell, Check, Code, Fix, Frame, FrameAnswer, Length, List, MarkAnswer, Name, Z,
 };
 
 pub type CellCode = extern "C" fn(u64, u64, u64, u64, u64, u64) -> Code;
@@ -20,6 +20,7 @@ pub type CoverageList = unsafe extern "C" fn(*const u8, usize, *mut u64, usize) 
 pub type CoverageWrite =
     unsafe extern "C" fn(u64, u64, u64, u64, *const u64, usize, *mut u8, usize) -> Length;
 pub type CoverageAsk = unsafe extern "C" fn(*const u8, usize, u64) -> Ask;
+pub type CoverageAdd = unsafe extern "C" fn(*mut u8, usize, u64, u64) -> Add;
 
 /// A sum that depends on every field and on the order of answers.
 pub trait Fold {
@@ -50,6 +51,7 @@ folds! {
     Check { place, version, depth, n, s, cells, size }
     List { place, count }
     Ask { place, covered, settled }
+    Add { place, length }
 }
 
 /// Doubles by their bits.
