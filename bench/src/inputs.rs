@@ -120,12 +120,12 @@ fn next(code: u64, direction: u64) -> u64 {
     neighbour::neighbour(code, direction).code
 }
 
-/// A survey: legs to and fro over a field, each a little north of the last, with some drift; lines `longitude z`.
-pub fn flight(random: &mut Random, count: usize) -> String {
+/// The fixes of a survey: legs to and fro over a field, each a little north of the last, with some drift.
+pub fn survey(random: &mut Random, count: usize) -> Vec<(i64, i64)> {
     let (mut longitude, mut z, mut east) = (-1_000_000_000_i64, 600_000_000_000_000_000_i64, true);
-    let mut lines = String::new();
+    let mut fixes = Vec::new();
     for _ in 0..count {
-        lines.push_str(&format!("{longitude} {z}\n"));
+        fixes.push((longitude, z));
         longitude += if east { 9_000 } else { -9_000 } + random.between(-500, 500);
         z += random.between(-4_000_000_000_000, 4_000_000_000_000);
         if (east && longitude > -980_000_000) || (!east && longitude < -1_020_000_000) {
@@ -133,5 +133,11 @@ pub fn flight(random: &mut Random, count: usize) -> String {
             z += 120_000_000_000_000;
         }
     }
-    lines
+    fixes
+}
+
+/// The same as lines `longitude z`.
+pub fn flight(random: &mut Random, count: usize) -> String {
+    let line = |(longitude, z)| format!("{longitude} {z}\n");
+    survey(random, count).into_iter().map(line).collect()
 }

@@ -1,7 +1,7 @@
 //! The entries, of the library and of the plain Rust beside it, and a sum over their answers.
 
 use jeguarivo::{
-    Ask, Cell, Check, Code, Compare, Fix, Frame, FrameAnswer, Length, List, MarkAnswer, Name, Z,
+    Add, Ask, Cell, Check, Code, Compare, Fix, Frame, FrameAnswer, Length, List, MarkAnswer, Name, Z,
 };
 
 pub type CellCode = extern "C" fn(u64, u64, u64, u64, u64, u64) -> Code;
@@ -20,6 +20,7 @@ pub type CoverageList = unsafe extern "C" fn(*const u8, usize, *mut u64, usize) 
 pub type CoverageWrite =
     unsafe extern "C" fn(u64, u64, u64, u64, *const u64, usize, *mut u8, usize) -> Length;
 pub type CoverageAsk = unsafe extern "C" fn(*const u8, usize, u64) -> Ask;
+pub type CoverageAdd = unsafe extern "C" fn(*mut u8, usize, u64, u64) -> Add;
 pub type CoverageCompare = unsafe extern "C" fn(
     *const u8,
     usize,
@@ -62,6 +63,7 @@ folds! {
     Check { place, version, depth, n, s, cells, size }
     List { place, count }
     Ask { place, covered, settled }
+    Add { place, length }
     Compare { place, first_cells, second_cells, both_cells, first_size, second_size, both_size }
 }
 

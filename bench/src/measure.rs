@@ -7,6 +7,8 @@ use std::time::{Duration, Instant};
 #[derive(Clone, Copy)]
 pub struct Plan {
     pub rounds: usize,
+    /// Slices of each side in a round.
+    pub slices: usize,
     pub least: Duration,
     pub check: bool,
 }
@@ -89,9 +91,6 @@ pub fn median(numbers: &[f64]) -> f64 {
     }
 }
 
-/// Slices of each side in a round.
-const SLICES: usize = 10;
-
 /// Nanoseconds for an item, over as many passes as take `least`.
 fn slice(side: &mut Side, work: &Work, turn: &mut usize, least: Duration) -> f64 {
     let (start, first) = (Instant::now(), *turn);
@@ -109,9 +108,9 @@ fn slice(side: &mut Side, work: &Work, turn: &mut usize, least: Duration) -> f64
 /// did something else too.
 fn round(plan: Plan, work: &Work, sides: &mut [Side], turns: &mut [usize]) -> Vec<f64> {
     let mut best = vec![f64::MAX; sides.len()];
-    for _ in 0..SLICES {
+    for _ in 0..plan.slices {
         for (i, side) in sides.iter_mut().enumerate() {
-            let time = slice(side, work, &mut turns[i], plan.least / SLICES as u32);
+            let time = slice(side, work, &mut turns[i], plan.least / plan.slices as u32);
             best[i] = best[i].min(time);
         }
     }

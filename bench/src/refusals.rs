@@ -1,6 +1,7 @@
 //! The answers of both sides to inputs good and bad, one by one. No times.
 
 use crate::inputs::{code, swath, Random};
+use crate::plain::adding::coverage_add;
 use crate::plain::codes::{cell_code, code_cell, code_name, name_code};
 use crate::plain::comparing::coverage_compare;
 use crate::plain::coverage::{coverage_ask, coverage_check, coverage_list};
@@ -12,9 +13,9 @@ use crate::plain::plotter::{frame_first, frame_grow, mark_code, mark_point};
 use crate::plain::writing::{coverage_write, write, Profile, FULL};
 use crate::plain::NINE;
 use jeguarivo::{
-    jgv_cell_code, jgv_code_cell, jgv_fix_code, jgv_frame_first, jgv_frame_grow, jgv_geodetic_code,
-    jgv_geodetic_z, jgv_ground_nucleus, jgv_mark_code, jgv_mark_point, jgv_neighbour, lent, Frame,
-    FrameAnswer, MarkAnswer,
+    jgv_cell_code, jgv_child, jgv_code_cell, jgv_fix_code, jgv_frame_first, jgv_frame_grow,
+    jgv_geodetic_code, jgv_geodetic_z, jgv_ground_nucleus, jgv_mark_code, jgv_mark_point,
+    jgv_neighbour, jgv_parent, lent, Frame, FrameAnswer, MarkAnswer,
 };
 use std::fmt::Debug;
 
@@ -252,6 +253,40 @@ fn texts(random: &mut Random) {
         coverage_list(at, length, plain.as_mut_ptr(), room),
     );
     same("list", (counts.0, library), (counts.1, plain));
+    add(random, &codes, &text);
+}
+
+/// A cell added to a text, good or bad: a cell of the text's flight, a coarser or a finer one beside it, or any; with room for it or not, and now and then
+/// a length that is not the text's.
+fn add(random: &mut Random, codes: &[u64], text: &[u8]) {
+    let near = codes[random.below(codes.len() as u64) as usize];
+    let code = match random.below(6) {
+        0 => any_code(random),
+        1 => jgv_child(near, random.below(9)).code,
+        2 => jgv_neighbour(near, random.below(4)).code,
+        3 => jgv_neighbour(jgv_parent(near).code, random.below(4)).code,
+        _ => jgv_parent(near).code,
+    };
+    let turned = match text.get(5..7) {
+        Some(&[n @ b'0'..=b'3', s @ b'0'..=b'3']) if random.below(4) > 0 => {
+            u64::from((n - b'0') << 2 | (s - b'0'))
+        }
+        _ => random.below(16),
+    };
+    let length = match random.below(8) {
+        0 => random.below(400),
+        _ => text.len() as u64,
+    };
+    let room = text.len() + random.below(60) as usize;
+    let mut library = [7; 500];
+    library[..text.len()].copy_from_slice(text);
+    let mut plain = library;
+    let code = code & !15 | turned;
+    let answers = (
+        lent::coverage_add(&mut library[..room], length, code),
+        coverage_add(plain.as_mut_ptr(), room, length, code),
+    );
+    same("add", (answers.0, library), (answers.1, plain));
     compared(random, &text);
 }
 

@@ -162,9 +162,26 @@ fn numbers(inputs: &Inputs) -> Vec<(&'static str, usize)> {
     }
 }
 
+/// Texts in a room, each with cells to add: the first and the last finest cell of each face, and cells in lists fifteen deep.
+fn added(texts: &[Vec<u8>]) -> Vec<(Vec<u8>, u64, u64)> {
+    let mut added = Vec::new();
+    for text in texts {
+        for face in 0..6 {
+            for path in [0, NINE[15] - 1, NINE[15] - 2, NINE[15] - 10] {
+                let mut room = text.clone();
+                room.resize(65_536.max(text.len()), 0);
+                let code = ((face * NINE[15] + path) << 8) | 15 << 4;
+                added.push((room, text.len() as u64, code));
+            }
+        }
+    }
+    added
+}
+
 fn texts(inputs: &Inputs) -> Vec<(&'static str, usize)> {
     let (texts, lists) = (&inputs.texts, &inputs.lists);
     let (mut codes, mut room) = (vec![0; 65_536], vec![0; 65_536]);
+    let mut added = added(texts);
     let [mut firsts, mut seconds, mut boths] = [(); 3].map(|_| vec![0; 65_536]);
     let whole = b"CVR\0\x0100NOPQRS";
     depths! {
@@ -172,6 +189,7 @@ fn texts(inputs: &Inputs) -> Vec<(&'static str, usize)> {
         jgv_coverage_list: texts, text => (text.as_ptr(), text.len(), codes.as_mut_ptr(), codes.len());
         jgv_coverage_write: lists, list => (1, 15, 0, 0, list.as_ptr(), list.len(), room.as_mut_ptr(), room.len());
         jgv_coverage_ask: texts, text => (text.as_ptr(), text.len(), 15 << 4);
+        jgv_coverage_add: &mut added, (text, length, code) => (text.as_mut_ptr(), text.len(), *length, *code);
         jgv_coverage_compare: texts, text => (text.as_ptr(), text.len(), whole.as_ptr(), whole.len(), firsts.as_mut_ptr(), firsts.len(), seconds.as_mut_ptr(), seconds.len(), boths.as_mut_ptr(), boths.len());
     }
 }

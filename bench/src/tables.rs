@@ -1,5 +1,6 @@
 //! What is printed: Markdown, as docs/BENCHMARKS.md has it.
 
+use crate::adding;
 use crate::measure::{median, Row};
 
 /// The greatest depth wanted, in bytes.
@@ -12,6 +13,7 @@ pub fn print(rows: &[Row], depths: &[(&str, usize)]) {
     println!("|---|---|---:|---:|---:|---:|---:|---|");
     rows.iter().for_each(print_row);
     print_growth(rows);
+    print_share(rows);
     println!("\n| entry | greatest stack depth, bytes | goal | |");
     println!("|---|---:|---:|---|");
     for (entry, depth) in depths {
@@ -41,6 +43,19 @@ fn said(value: f64, goal: f64) -> String {
     } else {
         format!("**missed**, {:.2} times the goal", value / goal)
     }
+}
+
+/// What one fix at a full text takes of the time between two fixes, at twenty a second, where the processor is a hundred times slower.
+fn print_share(rows: &[Row]) {
+    let Some(row) = rows.iter().find(|row| row.work == adding::FULL) else {
+        return;
+    };
+    let slow = row.library * 100.0 / 1e6;
+    println!(
+        "\nOne fix at a full text: {:.0} µs. A processor a hundred times slower needs {slow:.1} ms, {:.0} % of the 50 ms between two fixes.",
+        row.library / 1e3,
+        slow / 50.0 * 100.0
+    );
 }
 
 /// How the time for a byte of a text changes from 1 KiB to 64 KiB: about 1 where the whole time is linear.

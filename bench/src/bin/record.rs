@@ -1,15 +1,15 @@
-//! The program `record` in plain Rust: `record n s resolution` reads lines `longitude z` and writes the coverage text of the cells
-//! flown. A line that is no fix and a fix that is refused are said on standard error and skipped.
+//! The program `record` in plain Rust: `record n s resolution` reads lines `longitude z` and writes the coverage text of the cells flown. It holds
+//! the text and adds each cell in place. A line that is no fix and a fix that is refused are said on standard error and skipped.
 
 #[path = "../plain/mod.rs"]
 #[allow(dead_code)]
 mod plain;
 
+use plain::adding::add_to;
 use plain::coverage::LONGEST;
 use plain::fixes::fix_code;
 use plain::writing::{write, FULL};
-use std::collections::BTreeSet;
-use std::io::{Read, Write};
+use std::io::{BufRead, Write};
 
 fn main() {
     let numbers: Vec<u64> = std::env::args()
@@ -20,35 +20,35 @@ fn main() {
         eprintln!("usage: record n s resolution");
         std::process::exit(2);
     };
-    let mut flight = Vec::new();
-    std::io::stdin()
-        .read_to_end(&mut flight)
-        .expect("standard input");
-    let mut cells = BTreeSet::new();
-    for (i, line) in flight
-        .strip_suffix(b"\n")
-        .unwrap_or(&flight)
-        .split(|&byte| byte == b'\n')
-        .enumerate()
-    {
-        let Some((longitude, z)) = fix(line) else {
-            eprintln!("line {}: no fix", i + 1);
-            continue;
-        };
-        match fix_code(n, s, resolution, longitude, z) {
-            jeguarivo::Code { refusal: 0, code } => {
-                cells.insert(code);
-            }
-            refused => eprintln!("line {}: refusal {}", i + 1, refused.refusal),
+    let mut text = write(FULL, n, s, &[]);
+    let (mut length, mut last) = (text.len(), None);
+    text.resize(LONGEST, 0);
+    let mut input = std::io::stdin().lock();
+    let (mut line, mut number) = (Vec::new(), 0);
+    while input.read_until(b'\n', &mut line).expect("standard input") > 0 {
+        number += 1;
+        match code(n, s, resolution, line.strip_suffix(b"\n").unwrap_or(&line)) {
+            Ok(code) if last == Some(code) => {}
+            Ok(code) => match add_to(&mut text, length, code) {
+                Ok(longer) => (length, last) = (longer, Some(code)),
+                Err(refusal) => eprintln!("record: line {number}: refusal {refusal}"),
+            },
+            Err(refusal) => eprintln!("record: line {number}: refusal {refusal}"),
         }
+        line.clear();
     }
-    let cells: Vec<u64> = cells.into_iter().collect();
-    let text = write(FULL, n, s, &cells);
-    if text.len() > LONGEST {
-        eprintln!("refusal 13");
-        std::process::exit(1);
+    std::io::stdout()
+        .write_all(&text[..length])
+        .expect("standard output");
+}
+
+/// The code of the cell of a line's fix, or the refusal.
+fn code(n: u64, s: u64, resolution: u64, line: &[u8]) -> Result<u64, u64> {
+    let (longitude, z) = fix(line).ok_or(6_u64)?;
+    match fix_code(n, s, resolution, longitude, z) {
+        jeguarivo::Code { refusal: 0, code } => Ok(code),
+        refused => Err(refused.refusal),
     }
-    std::io::stdout().write_all(&text).expect("standard output");
 }
 
 /// Two whole numbers in decimal with one space between.

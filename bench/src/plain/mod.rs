@@ -1,6 +1,7 @@
 //! The baselines: the same answers in plain Rust, written from the scope paper's rules. Each is called as the library is,
 //! through a C entry that is not inlined.
 
+pub mod adding;
 pub mod codes;
 pub mod comparing;
 pub mod coverage;

@@ -15,10 +15,6 @@ order = 19 ∷ 5 ∷ 2 ∷ 1 ∷ 3 ∷ 4 ∷ 6 ∷ 7 ∷ 12 ∷ 13 ∷ 10 ∷ 9 
 abbrev pub orderInWriting : List ℕ
 orderInWriting = 5 ∷ 2 ∷ 1 ∷ 3 ∷ 4 ∷ 6 ∷ 7 ∷ 12 ∷ 10 ∷ 9 ∷ 14 ∷ 11 ∷ 15 ∷ 13 ∷ 8 ∷ []
 
--- in adding, 13 and 8 are judged of the bytes that are said to be the text before it is read, and at the end of the text with the cell
-abbrev pub orderInAdding : List ℕ
-orderInAdding = 4 ∷ 13 ∷ 8 ∷ 10 ∷ 9 ∷ 14 ∷ 15 ∷ 13 ∷ 8 ∷ []
-
 -- an entry's refusal numbers, each with the condition under which 01 gives it
 abbrev pub Chain : Type 1
 Chain = List (ℕ × Type 0)

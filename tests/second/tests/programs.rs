@@ -4,8 +4,8 @@
 use second::compare::say;
 use second::coverage::HEADING;
 use second::flights::{
-    counts, fix, geodetic_line_code, line_code, lines, named, named_by, number, recorded, recorded_by,
-    Flown,
+    counts, fix, geodetic_line_code, line_code, lines, named, named_by, number, recorded,
+    recorded_by, Flown,
 };
 use second::grid::Answer;
 use second::random::{Kind, Random, KINDS};
