@@ -254,6 +254,7 @@ fn texts(random: &mut Random) {
     );
     same("list", (counts.0, library), (counts.1, plain));
     add(random, &codes, &text);
+    compared(random, &text);
 }
 
 /// A cell added to a text, good or bad: a cell of the text's flight, a coarser or a finer one beside it, or any; with room for it or not, and now and then
@@ -287,7 +288,6 @@ fn add(random: &mut Random, codes: &[u64], text: &[u8]) {
         coverage_add(plain.as_mut_ptr(), room, length, code),
     );
     same("add", (answers.0, library), (answers.1, plain));
-    compared(random, &text);
 }
 
 /// A text and another one, with some of its cells and some others, spoilt now and then.
