@@ -53,7 +53,11 @@ fn text(random: &mut Random, size: usize) -> Text {
     let mut mixed = [&codes[..codes.len() / 2], &others].concat();
     mixed.sort_unstable();
     mixed.dedup();
-    let other = written(FULL, 0, 0, &mixed);
+    let mut other = written(FULL, 0, 0, &mixed);
+    while other.len() > 65_536 {
+        mixed.truncate(mixed.len() - mixed.len() / 50); // cells at the end, so that it is a text
+        other = written(FULL, 0, 0, &mixed);
+    }
     eprintln!(
         "bench: {size} KiB: {} bytes from {} cells of resolution 12, compared with {} bytes",
         text.len(),
