@@ -1,0 +1,4 @@
+pub mod Counters
+pub mod District
+pub mod Gain
+pub mod Summary
