@@ -172,6 +172,8 @@ fn texts(inputs: &Inputs) -> Vec<(&'static str, usize)> {
         jgv_coverage_list: texts, text => (text.as_ptr(), text.len(), codes.as_mut_ptr(), codes.len());
         jgv_coverage_write: lists, list => (1, 15, 0, 0, list.as_ptr(), list.len(), room.as_mut_ptr(), room.len());
         jgv_coverage_ask: texts, text => (text.as_ptr(), text.len(), 15 << 4);
+        jgv_summary: texts, text => (text.as_ptr(), text.len());
+        jgv_summary_ask: &inputs.codes, &code => (code & 3, code >> 2 & 3, &[0; 486], code);
         jgv_coverage_compare: texts, text => (text.as_ptr(), text.len(), whole.as_ptr(), whole.len(), firsts.as_mut_ptr(), firsts.len(), seconds.as_mut_ptr(), seconds.len(), boths.as_mut_ptr(), boths.len());
     }
 }
