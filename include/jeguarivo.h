@@ -68,6 +68,8 @@ typedef struct { uint64_t refusal, kind; double numbers[4]; } jgv_mark_answer;
 typedef struct { double left, bottom, right, top; } jgv_frame;
 typedef struct { uint64_t refusal; double left, bottom, right, top; } jgv_frame_answer;
 typedef struct { uint64_t refusal, place, first_cells, second_cells, both_cells, first_size, second_size, both_size; } jgv_compare;
+typedef struct { uint64_t refusal, place, n, s, counters[486]; } jgv_summary_answer;
+typedef struct { uint64_t refusal, covered; } jgv_summary_ask_answer;
 
 /* Settings: an arrangement, the working resolution, and the squared eccentricity, from 0 to 10,000,000,000 in units of 10^-12. */
 typedef struct { uint64_t n, s, resolution, eccentricity; } jgv_settings;
@@ -202,6 +204,14 @@ jgv_settings_answer jgv_settings_read(jgv_history history, uint64_t revision);
  * second, 14 where n or s differ, 8 where any room is short. */
 jgv_compare jgv_coverage_compare(const uint8_t *first, size_t first_length, const uint8_t *second, size_t second_length, uint64_t *firsts,
                                  size_t first_room, uint64_t *seconds, size_t second_room, uint64_t *boths, size_t both_room);
+
+/* A summary to be kept beside a text: the heading's n and s, and for each cell of resolution 2, in code order, the number of covered finest
+ * cells inside it, 9^13 where all are. The counters add up to the size of jgv_coverage_check. Refusals 13, 10, 9. */
+jgv_summary_answer jgv_summary(const uint8_t *text, size_t length);
+
+/* Whether all finest cells of a cell of resolution 0 to 2 are covered, by a summary that is kept: 1 where each of the 486 counters inside the
+ * cell is 9^13, else 0. Of a text's own summary the answer is that of jgv_coverage_ask. Refusals 5, 4, 2 where the cell is finer, 14. */
+jgv_summary_ask_answer jgv_summary_ask(uint64_t n, uint64_t s, const uint64_t counters[486], uint64_t code);
 
 #ifdef __cplusplus
 }

@@ -1,16 +1,18 @@
-//! Coverage texts of 1, 4, 16 and 64 KiB: check, list, ask and write; and two of them compared.
+//! Coverage texts of 1, 4, 16 and 64 KiB: check, list, ask and write; two of them compared; and their summaries.
 
 use crate::inputs::{code, swath, Random};
 use crate::library::{
-    CoverageAsk, CoverageCheck, CoverageCompare, CoverageList, CoverageWrite, Fold,
+    AskSummary, CoverageAsk, CoverageCheck, CoverageCompare, CoverageList, CoverageWrite, Fold,
+    TextSummary,
 };
 use crate::measure::{compare, pair, Plan, Row, Work};
 use crate::plain::comparing::coverage_compare;
 use crate::plain::coverage::{coverage_ask, coverage_check, coverage_list};
+use crate::plain::summary::{summary, summary_ask};
 use crate::plain::writing::{coverage_write, write as written, FULL};
 use jeguarivo::{
     jgv_coverage_ask, jgv_coverage_check, jgv_coverage_compare, jgv_coverage_list,
-    jgv_coverage_write,
+    jgv_coverage_write, jgv_summary, jgv_summary_ask,
 };
 use std::cell::RefCell;
 
@@ -32,9 +34,10 @@ struct Text {
 pub fn run(plan: Plan, random: &mut Random) -> Vec<Row> {
     let texts: Vec<Text> = [1, 4, 16, 64].map(|size| text(random, size)).into();
     let mut rows = Vec::new();
-    for work in [check, list, ask, write, compare_two] {
+    for work in [check, list, ask, write, compare_two, summarize] {
         texts.iter().for_each(|text| rows.extend(work(plan, text)));
     }
+    rows.extend(ask_summary(plan, random, &texts[3]));
     rows
 }
 
@@ -175,4 +178,29 @@ fn compare_two(plan: Plan, at: &Text) -> Vec<Row> {
     let sides = pair::<CoverageCompare>(COMPARE_GOAL, jgv_coverage_compare, coverage_compare, pass);
     let name = format!("compare two of {} KiB, a byte", at.size);
     compare(plan, Work::new(&name, both), sides)
+}
+
+fn summarize(plan: Plan, at: &Text) -> Vec<Row> {
+    let sides = pair::<TextSummary>(GOAL, jgv_summary, summary, |summary, _| {
+        unsafe { summary(at.text.as_ptr(), at.text.len()) }.fold(0)
+    });
+    let name = format!("summary {} KiB, a byte", at.size);
+    compare(plan, Work::new(&name, at.text.len()), sides)
+}
+
+/// Cells of resolution 0 to 2 asked of a summary in which every other face is done.
+fn ask_summary(plan: Plan, random: &mut Random, at: &Text) -> Vec<Row> {
+    let mut kept = unsafe { jgv_summary(at.text.as_ptr(), at.text.len()) }.counters;
+    for (nth, counter) in kept.iter_mut().enumerate() {
+        if nth / 81 % 2 == 0 {
+            *counter = 9u64.pow(13);
+        }
+    }
+    let asked: Vec<u64> = (0..4096).map(|i| code(random, i % 3)).collect();
+    let sides = pair::<AskSummary>(GOAL, jgv_summary_ask, summary_ask, |ask, _| {
+        asked
+            .iter()
+            .fold(0, |sum, &code| ask(0, 0, &kept, code).fold(sum))
+    });
+    compare(plan, Work::new("ask a summary", asked.len()), sides)
 }

@@ -10,12 +10,13 @@ use crate::plain::fixes::{
 };
 use crate::plain::neighbour::neighbour;
 use crate::plain::plotter::{frame_first, frame_grow, mark_code, mark_point};
+use crate::plain::summary::{summary, summary_ask};
 use crate::plain::writing::{coverage_write, write, Profile, FULL};
 use crate::plain::NINE;
 use jeguarivo::{
     jgv_cell_code, jgv_child, jgv_code_cell, jgv_fix_code, jgv_frame_first, jgv_frame_grow,
     jgv_geodetic_code, jgv_geodetic_z, jgv_ground_nucleus, jgv_mark_code, jgv_mark_point,
-    jgv_neighbour, jgv_parent, lent, Frame, FrameAnswer, MarkAnswer,
+    jgv_neighbour, jgv_parent, jgv_summary_ask, lent, Frame, FrameAnswer, MarkAnswer,
 };
 use std::fmt::Debug;
 
@@ -253,6 +254,14 @@ fn texts(random: &mut Random) {
         coverage_list(at, length, plain.as_mut_ptr(), room),
     );
     same("list", (counts.0, library), (counts.1, plain));
+    let kept = lent::summary(&text);
+    same("summary", kept, summary(at, length));
+    let (n, s) = (random.below(9) / 2, kept.s);
+    same(
+        "ask a summary",
+        jgv_summary_ask(n, s, &kept.counters, code & !0xff),
+        summary_ask(n, s, &kept.counters, code & !0xff),
+    );
     add(random, &codes, &text);
     compared(random, &text);
 }

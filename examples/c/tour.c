@@ -450,6 +450,28 @@ static void crews(void) {
     printf("coverage_compare: P(34(1)), n 0, and P(4), n 1 -> refused with %" PRIu64 "\n", found.refusal);
 }
 
+/* A summary kept beside the text: dispatch asks whether a cell of resolution 0 to 2 is done, and the counters answer as the text would. */
+static void dispatch(void) {
+    static const uint8_t text[] = {'C', 'V', 'R', 0, 1, '0', '0', 'P', '(', '3', '4', '(', '1', ')', ')'};
+    static const char *const asked[] = {"P3", "P41", "P4", "P418"};
+    jgv_summary_answer kept = jgv_summary(text, sizeof text);
+    expect_answer(kept.refusal);
+    uint64_t done = 0, sum = 0;
+    for (size_t i = 0; i < 486; i++) {
+        done += kept.counters[i] == UINT64_C(2541865828329); /* 9^13 */
+        sum += kept.counters[i];
+    }
+    printf("summary: P(34(1)) -> n %" PRIu64 ", s %" PRIu64 ", %" PRIu64 " districts done, sum %" PRIu64 "\n", kept.n, kept.s, done, sum);
+    for (size_t i = 0; i < 4; i++) {
+        jgv_summary_ask_answer answer = jgv_summary_ask(kept.n, kept.s, kept.counters, code_of(asked[i]));
+        printf("summary_ask: P(34(1)), %s -> ", asked[i]);
+        if (answer.refusal)
+            printf("refused with %" PRIu64 "\n", answer.refusal);
+        else
+            puts(answer.covered ? "yes" : "no");
+    }
+}
+
 int main(void) {
     codes_and_names();
     families();
@@ -465,5 +487,6 @@ int main(void) {
     plotter();
     office();
     crews();
+    dispatch();
     return 0;
 }

@@ -256,9 +256,19 @@ def crews():
     print(f"coverage_compare: P(34(1)), n 0, and P(4), n 1 -> {another}")
 
 
+def dispatch():
+    """A summary kept beside the text: dispatch asks whether a cell of resolution 0 to 2 is done, and the counters answer as the text would."""
+    kept = jgv.summary(b"CVR\0\x0100P(34(1))")
+    done = kept.counters.count(9**13)
+    print(f"summary: P(34(1)) -> n {kept.n}, s {kept.s}, {done} districts done, sum {sum(kept.counters)}")
+    for name in ("P3", "P41", "P4"):
+        print(f"summary_ask: P(34(1)), {name} -> {'yes' if jgv.summary_ask(kept, code_of(name)) else 'no'}")
+    print(f"summary_ask: P(34(1)), P418 -> {refusal(jgv.summary_ask, kept, code_of('P418'))}")
+
+
 if __name__ == "__main__":
     for part in (
         codes_and_names, families, shapes, plane, ground, neighbours, corners, coverage, additions, two_arrangements, handhelds, plotter, office,
-        crews,
+        crews, dispatch,
     ):
         part()

@@ -48,6 +48,9 @@ DOUBLE(jgv_frame_answer, top, 32);
 ANSWER(jgv_compare, 64); UNSIGNED(jgv_compare, place, 8); UNSIGNED(jgv_compare, first_cells, 16); UNSIGNED(jgv_compare, second_cells, 24);
 UNSIGNED(jgv_compare, both_cells, 32); UNSIGNED(jgv_compare, first_size, 40); UNSIGNED(jgv_compare, second_size, 48);
 UNSIGNED(jgv_compare, both_size, 56);
+ANSWER(jgv_summary_answer, 32 + 486 * 8); UNSIGNED(jgv_summary_answer, place, 8); UNSIGNED(jgv_summary_answer, n, 16); UNSIGNED(jgv_summary_answer, s, 24);
+UNSIGNED(jgv_summary_answer, counters[0], 32); UNSIGNED(jgv_summary_answer, counters[485], 32 + 485 * 8);
+ANSWER(jgv_summary_ask_answer, 16); UNSIGNED(jgv_summary_ask_answer, covered, 8);
 
 /* Counting checks. */
 static unsigned long passed, failed;
@@ -1227,6 +1230,86 @@ static void frame_grow(void) {
     }
 }
 
+/* 02 W-207: "486 counters, one for each resolution-2 cell, .. in code order". The number of one: its face and two digits read in base nine. */
+static size_t district(const char *name) {
+    return (size_t)((name[0] - 'N') * 81 + (name[1] - '0') * 9 + (name[2] - '0'));
+}
+
+static void sums_up_nothing(const uint8_t *text, size_t length, uint64_t refusal, uint64_t place) {
+    jgv_summary_answer got = jgv_summary(text, length);
+    uint64_t any = got.n | got.s;
+    for (size_t i = 0; i < 486; i++)
+        any |= got.counters[i];
+    CHECK(got.refusal, refusal, "jgv_summary refused: refusal");
+    CHECK(got.place, place, "jgv_summary refused: place");
+    CHECK(any, 0, "jgv_summary refused: n, s and counters");
+}
+
+#define SUMMARY_ASK(call, want_refusal, want) CHECK_ONE(jgv_summary_ask_answer, covered, call, want_refusal, want)
+
+static void summary(void) {
+    jgv_summary_answer kept = jgv_summary(TEXT("CVR\0\1" "21" "OP(34(1))S(00(0(8))8(8))"));
+    CHECK(kept.refusal, 9, "jgv_summary of a list that does not rise: refusal");
+    kept = jgv_summary(TEXT("CVR\0\1" "21" "OP(34(1))S(0(0(8))8(8))"));
+    CHECK(kept.refusal, 0, "jgv_summary: refusal");
+    CHECK(kept.place, 0, "jgv_summary: place");
+    CHECK(kept.n, 2, "jgv_summary: n");
+    CHECK(kept.s, 1, "jgv_summary: s");
+    for (size_t i = 0; i < 486; i++) {
+        uint64_t want = 0;
+        if (i >= district("O00") && i <= district("O88"))
+            want = NINE_13; /* all of O */
+        if (i >= district("P30") && i <= district("P38"))
+            want = NINE_13; /* all of P3 */
+        if (i == district("P41") || i == district("S88"))
+            want = NINE_13;
+        if (i == district("S00"))
+            want = NINE_13 / 9; /* S008 alone */
+        CHECK(kept.counters[i], want, "jgv_summary: a counter");
+    }
+    /* "yes exactly when each one inside the cell is 9^13" */
+    SUMMARY_ASK(jgv_summary_ask(2, 1, kept.counters, code_at(2, 1, "O")), 0, 1);
+    SUMMARY_ASK(jgv_summary_ask(2, 1, kept.counters, code_at(2, 1, "O5")), 0, 1);
+    SUMMARY_ASK(jgv_summary_ask(2, 1, kept.counters, code_at(2, 1, "P")), 0, 0);
+    SUMMARY_ASK(jgv_summary_ask(2, 1, kept.counters, code_at(2, 1, "P3")), 0, 1);
+    SUMMARY_ASK(jgv_summary_ask(2, 1, kept.counters, code_at(2, 1, "P4")), 0, 0);
+    SUMMARY_ASK(jgv_summary_ask(2, 1, kept.counters, code_at(2, 1, "P41")), 0, 1);
+    SUMMARY_ASK(jgv_summary_ask(2, 1, kept.counters, code_at(2, 1, "S00")), 0, 0);
+    SUMMARY_ASK(jgv_summary_ask(2, 1, kept.counters, code_at(2, 1, "S88")), 0, 1);
+    /* a counter that no text has */
+    kept.counters[district("P35")] = NINE_13 + 1;
+    SUMMARY_ASK(jgv_summary_ask(2, 1, kept.counters, code_at(2, 1, "P3")), 0, 0);
+    kept.counters[district("P35")] = NINE_13 + WIDE;
+    SUMMARY_ASK(jgv_summary_ask(2, 1, kept.counters, code_at(2, 1, "P35")), 0, 0);
+    SUMMARY_ASK(jgv_summary_ask(2, 1, kept.counters, code_at(2, 1, "P34")), 0, 1);
+    /* 5, 4, "2 for a finer cell asked, after 4", 14 */
+    SUMMARY_ASK(jgv_summary_ask(4, 1, kept.counters, code_at(2, 1, "O")), 5, 0);
+    SUMMARY_ASK(jgv_summary_ask(2, 4, kept.counters, code_at(2, 1, "O")), 5, 0);
+    SUMMARY_ASK(jgv_summary_ask(2 + WIDE, 1, kept.counters, code_at(2, 1, "O")), 5, 0);
+    SUMMARY_ASK(jgv_summary_ask(2, 1 + WIDE, kept.counters, code_at(2, 1, "O")), 5, 0);
+    SUMMARY_ASK(jgv_summary_ask(4, 4, kept.counters, no_code), 5, 0);
+    SUMMARY_ASK(jgv_summary_ask(2, 1, kept.counters, no_code), 4, 0);
+    SUMMARY_ASK(jgv_summary_ask(2, 1, kept.counters, code_at(2, 1, "O") + WIDE), 4, 0);
+    SUMMARY_ASK(jgv_summary_ask(2, 1, kept.counters, code_at(2, 1, "O00") + 256), 4, 0); /* a digit below the resolution */
+    SUMMARY_ASK(jgv_summary_ask(2, 1, kept.counters, code_at(2, 1, "O000")), 2, 0);
+    SUMMARY_ASK(jgv_summary_ask(2, 1, kept.counters, code_at(1, 2, "O000")), 2, 0); /* before 14 */
+    SUMMARY_ASK(jgv_summary_ask(2, 1, kept.counters, GREATEST), 2, 0);
+    SUMMARY_ASK(jgv_summary_ask(2, 1, kept.counters, code_at(1, 2, "O")), 14, 0);
+    SUMMARY_ASK(jgv_summary_ask(2, 1, kept.counters, code_at(2, 0, "O00")), 14, 0);
+    /* version 2, and texts that are none */
+    kept = jgv_summary(TEXT("CVR\0\2" "30b" "NQ(8)"));
+    CHECK(kept.refusal, 0, "jgv_summary of version 2: refusal");
+    CHECK(kept.n, 3, "jgv_summary of version 2: n");
+    CHECK(kept.s, 0, "jgv_summary of version 2: s");
+    CHECK(kept.counters[district("N00")], NINE_13, "jgv_summary of version 2: N00");
+    CHECK(kept.counters[district("Q88")], NINE_13, "jgv_summary of version 2: Q88");
+    CHECK(kept.counters[district("Q78")] | kept.counters[district("R00")], 0, "jgv_summary of version 2: others");
+    sums_up_nothing(TEXT(HEAD "O()"), 9, 9);
+    sums_up_nothing(NULL, 0, 9, 0);
+    sums_up_nothing(TEXT("CVR\0\3" "00"), 10, 0);
+    sums_up_nothing(long_text, LONGEST + 1, 13, 0);
+}
+
 /* What a change answers: the refusal, and the newest revision of the history that it hands back. */
 static jgv_history changed(jgv_history_answer got, uint64_t refusal, uint64_t newest, const char *call) {
     CHECK(got.refusal, refusal, call);
@@ -1336,6 +1419,7 @@ int main(void) {
     frame_grow();
     settings();
     coverage_compare();
+    summary();
     long_lists(); /* last, since it fills `long_text` and `many` */
     if (failed)
         printf("%lu checks failed\n", failed);

@@ -8,6 +8,7 @@ pub mod coverage;
 pub mod fixes;
 pub mod neighbour;
 pub mod plotter;
+pub mod summary;
 pub mod writing;
 
 /// Powers of three and of nine.

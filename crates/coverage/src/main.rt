@@ -1,5 +1,5 @@
-// coverage check FILE, coverage list FILE, coverage ask FILE NAME, coverage frame FILE SIDE, coverage write n s [depth]: reads and writes
-// coverage texts.
+// coverage check FILE, coverage list FILE, coverage ask FILE NAME, coverage frame FILE SIDE, coverage summary FILE [NAME], coverage write n s [depth]:
+// reads and writes coverage texts.
 ghost use mathlib.Core.Path.{_≡_};
 ghost use Prim.Native.Nat.{_≤_};
 ghost use lib.ListN.{length, take};
@@ -27,6 +27,8 @@ enum Command {
     List,
     Ask,
     Frame,
+    Summary,
+    Question,
     Write,
     Unknown,
 }
@@ -67,6 +69,7 @@ struct Shown {
 
 fn usage() {
     console::say(b"usage: coverage check FILE | list FILE | ask FILE NAME | frame FILE SIDE\n");
+    console::say(b"       coverage summary FILE [NAME]\n");
     console::say(b"       coverage write n s [depth] < names > text\n");
     console::say(b"  n and s are 0 to 3; names stand one a line, rising, none inside another;\n");
     console::say(
@@ -376,6 +379,40 @@ fn frame_file(text: &[u8]) {
     );
 }
 
+// coverage summary FILE.
+fn summary_file(text: &[u8]) {
+    let mut out = [0u8; 29160];
+    let put = districts::put_summary(text, &mut out);
+    show(
+        Shown {
+            end: put.end,
+            refusal: put.refusal,
+            place: put.place,
+        },
+        &out,
+    );
+}
+
+// coverage summary FILE NAME. A name that the room is too short for is over 16 bytes.
+fn question_file(text: &[u8]) {
+    let mut word = [0u8; 64];
+    let n = os::arg(3, &mut word);
+    if os::errno() != 0 {
+        refuse(2, 0);
+        return;
+    }
+    let mut out = [0u8; 21];
+    let put = districts::put_question(text, &word[..n], &mut out);
+    show(
+        Shown {
+            end: put.end,
+            refusal: put.refusal,
+            place: put.place,
+        },
+        &out,
+    );
+}
+
 fn list_file(text: &[u8]) {
     let mut codes = [0u64; 65536];
     let mut out = [0u8; 65536];
@@ -389,12 +426,14 @@ fn check_file(text: &[u8]) {
     show(shown, &out);
 }
 
-// The four commands that read a file.
+// The commands that read a file.
 fn answer(command: Command, text: &[u8]) {
     match command {
         Command::Check => check_file(text),
         Command::List => list_file(text),
         Command::Frame => frame_file(text),
+        Command::Summary => summary_file(text),
+        Command::Question => question_file(text),
         _ => ask_file(text),
     }
 }
@@ -421,6 +460,12 @@ fn command_of(word: &[u8], arguments: usize) -> Command {
     }
     if check::same(word, b"frame") && arguments == 4 {
         return Command::Frame;
+    }
+    if check::same(word, b"summary") && arguments == 3 {
+        return Command::Summary;
+    }
+    if check::same(word, b"summary") && arguments == 4 {
+        return Command::Question;
     }
     if check::same(word, b"write") && (arguments == 4 || arguments == 5) {
         return Command::Write;

@@ -19,6 +19,7 @@ ghost use Rattle.entries.specs.Entries.{arrangement, codedAnswer, codeAnswer, c
 ghost use Rattle.entries.specs.Entries.{cellSize, cellShape, cornerCount, cellSquare, cellNucleus, cellVertices, pointCode, neighbourCode, fixCode, groundFix};
 ghost use Rattle.entries.specs.Entries.{geodeticZ, geodeticCode, cornerCells};
 ghost use Rattle.entries.specs.Plotter.{markNumbers, frameNumbers, pointMarked, codeMarked, frameBegun, frameGrown};
+ghost use Rattle.entries.specs.Summary.{summaryOf, summaryAsked};
 ghost use Rattle.entries.specs.Settings.{freshHistory, changedHistory, backHistory, readSettings};
 use adding::Added;
 use asking::Asked;
@@ -45,6 +46,8 @@ use entries::PointAnswer;
 use entries::ShapeAnswer;
 use entries::SizeAnswer;
 use entries::SquareAnswer;
+use entries::SummaryAnswer;
+use entries::SummaryAskAnswer;
 use entries::VerticesAnswer;
 use entries::ZAnswer;
 use history::History;
@@ -57,6 +60,8 @@ use plotter::Frame;
 use plotter::Framed;
 use plotter::Mark;
 use reader::Checked;
+use summary::Questioned;
+use summary::Summarized;
 use writing::Written;
 
 // A code, or its refusal, as numbers.
@@ -765,6 +770,54 @@ pub extern "C" fn jgv_coverage_compare(
             first_size: 0,
             second_size: 0,
             both_size: 0,
+        },
+    }
+}
+
+// 13, 10 and 9 as in checking.
+#[no_mangle]
+pub extern "C" fn jgv_summary(text: &[u8]) -> SummaryAnswer
+    ensures { λ r. ⌜ r ≡ summaryOf (now (text .entry)) ⌝ }
+{
+    let mut counters = [0u64; 486];
+    match summary::summarize(text, &mut counters) {
+        Summarized::Kept { north, south } => SummaryAnswer {
+            refusal: 0,
+            place: 0, // of a summary
+            n: north,
+            s: south,
+            counters,
+        },
+        Summarized::Refused { refusal, place } => SummaryAnswer {
+            refusal,
+            place,
+            n: 0, // of a text that is not summed up
+            s: 0,
+            counters,
+        },
+    }
+}
+
+// 5 where the kept n or s is above 3, 4 where the code is no cell's, 2 where its cell is finer than resolution 2, 14 where its arrangement is not the
+// kept one.
+#[no_mangle]
+pub extern "C" fn jgv_summary_ask(
+    n: u64,
+    s: u64,
+    counters: &[u64; 486],
+    code: u64,
+) -> SummaryAskAnswer
+    ensures { λ r. ⌜ r ≡ summaryAsked n s (now (counters .entry)) code ⌝ }
+{
+    let kept = Arrangement { north: n, south: s }; // `question` tests it
+    match summary::question(kept, counters, code) {
+        Questioned::Answer(covered) => SummaryAskAnswer {
+            refusal: 0,
+            covered: as_number(covered),
+        },
+        Questioned::Refused(refusal) => SummaryAskAnswer {
+            refusal,
+            covered: 0, // by counters that are not looked at
         },
     }
 }

@@ -57,6 +57,8 @@ answers! {
     Compare at place { first_cells: u64, second_cells: u64, both_cells: u64, first_size: u64, second_size: u64, both_size: u64 }
     MarkAnswer { kind: u64, numbers: [f64; 4] }
     FrameAnswer { left: f64, bottom: f64, right: f64, top: f64 }
+    Compare at place { first_cells: u64, second_cells: u64, both_cells: u64, first_size: u64, second_size: u64, both_size: u64 }
+    SummaryAsk { covered: u64 }
     HistoryAnswer { history: History }
     SettingsAnswer { settings: Settings }
 }
@@ -69,6 +71,32 @@ pub struct Frame {
     pub bottom: f64,
     pub right: f64,
     pub top: f64,
+}
+
+/// The summary of a text as the library gives it; its first field is the refusal.
+#[repr(C)]
+#[derive(Clone, Copy, Debug, PartialEq)]
+pub struct Summary {
+    pub refusal: u64,
+    pub place: u64,
+    pub n: u64,
+    pub s: u64,
+    /// How many finest cells of each cell of resolution 2 are covered, in code order; all of them are 9^13.
+    pub counters: [u64; 486],
+}
+
+impl Summary {
+    /// A refusal, with 0 in every other field.
+    pub fn refused(refusal: u64) -> Summary {
+        Summary { refusal, place: 0, n: 0, s: 0, counters: [0; 486] }
+    }
+    /// This answer, unless it is a refusal.
+    fn read(self) -> Answer<Summary> {
+        match self.refusal {
+            0 => Ok(self),
+            number => Err(Refused { number, place: self.place }),
+        }
+    }
 }
 
 /// What the plotter draws, in metres.
@@ -138,6 +166,8 @@ unsafe extern "C" {
         first: *const u8, first_length: usize, second: *const u8, second_length: usize,
         firsts: *mut u64, first_room: usize, seconds: *mut u64, second_room: usize, boths: *mut u64, both_room: usize,
     ) -> Compare;
+    pub fn jgv_summary(text: *const u8, length: usize) -> Summary;
+    pub safe fn jgv_summary_ask(n: u64, s: u64, counters: &[u64; 486], code: u64) -> SummaryAsk;
 }
 
 /// The entries that take memory, on slices. Each is safe: the library reads and writes lent memory within its length only.
@@ -183,6 +213,10 @@ pub mod lent {
                 firsts.as_mut_ptr(), firsts.len(), seconds.as_mut_ptr(), seconds.len(), boths.as_mut_ptr(), boths.len(),
             )
         }
+    }
+
+    pub fn summary(text: &[u8]) -> Summary {
+        unsafe { jgv_summary(text.as_ptr(), text.len()) }
     }
 }
 
@@ -385,4 +419,14 @@ pub fn coverage_compare<'a>(
         second_size: found.second_size,
         both_size: found.both_size,
     })
+}
+
+/// A text's summary: its n and s, and how many finest cells of each cell of resolution 2 are covered.
+pub fn summary(text: &[u8]) -> Answer<Summary> {
+    lent::summary(text).read()
+}
+
+/// Whether all finest cells of a cell of resolution 0 to 2 are covered, by the counters: as the text answers. Refused with 2 where the cell is finer.
+pub fn summary_ask(kept: &Summary, code: u64) -> Answer<bool> {
+    Ok(jgv_summary_ask(kept.n, kept.s, &kept.counters, code).read()?.covered == 1)
 }

@@ -340,6 +340,21 @@ fn crews() -> Answer<()> {
     Ok(())
 }
 
+/// A summary kept beside the text: dispatch asks whether a cell of resolution 0 to 2 is done, and the counters answer as the text would.
+fn dispatch() -> Answer<()> {
+    let kept = summary(b"CVR\0\x0100P(34(1))")?;
+    let done = kept.counters.iter().filter(|&&count| count == 2_541_865_828_329).count(); // 9^13
+    let sum: u64 = kept.counters.iter().sum();
+    println!("summary: P(34(1)) -> n {}, s {}, {done} districts done, sum {sum}", kept.n, kept.s);
+    for name in ["P3", "P41", "P4", "P418"] {
+        match summary_ask(&kept, code_of(name)?) {
+            Ok(covered) => println!("summary_ask: P(34(1)), {name} -> {}", if covered { "yes" } else { "no" }),
+            refused => println!("summary_ask: P(34(1)), {name} -> {}", refusal(refused)),
+        }
+    }
+    Ok(())
+}
+
 fn main() -> Answer<()> {
     codes_and_names()?;
     families()?;
@@ -354,5 +369,6 @@ fn main() -> Answer<()> {
     handhelds()?;
     plotter()?;
     office()?;
-    crews()
+    crews()?;
+    dispatch()
 }
