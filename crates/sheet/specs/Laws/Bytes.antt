@@ -3,7 +3,8 @@ use mathlib.Core.Path.{_≡_, refl, sym, ap, ap₂, _∙_}
 use mathlib.Core.Logic.{⊎-elim}
 use mathlib.Core.Bool.{Bool, true, false, _&&_, not, cond}
 use mathlib.Core.List.{List, [], _∷_, _++_}
-use Prim.Native.Nat.{ℕ, zero, suc, _+_, _-_, _*_, _/_, _%_, _≤_, _<_}
+use Prim.Native.Nat.{ℕ, zero, suc, _+_, _-_, _*_, _/_, _%_, _^_, _≤_, _<_}
+use native.Mathlib.Nat.{pow-suc}
 use native.Mathlib.Omega.{arith}
 use lib.ListN.{length, drop, length-append, length-drop}
 use lib.Dec.{eqb, ltb, leb}
@@ -22,6 +23,20 @@ pub length-low : (n x : ℕ) → length (low n x) ≡ n
 unfolding low
 length-low zero x = refl
 length-low (suc n) x = ap suc (length-low n (x / 256))
+
+-- the number that bytes tell, the first being the lowest
+abbrev pub fromLow : List ℕ → ℕ
+fromLow [] = 0
+fromLow (b ∷ bs) = b + 256 * fromLow bs
+
+-- "low byte first": the bytes of a number tell it again
+pub low-told : (n x : ℕ) → x < 256 ^ n → fromLow (low n x) ≡ x
+unfolding low
+low-told zero x h = omega arith
+low-told (suc n) x h =
+    let p : 256 ^ suc n ≡ 256 ^ n * 256 = pow-suc 256 n in
+    let i : fromLow (low n (x / 256)) ≡ x / 256 = low-told n (x / 256) (omega arith) in
+    omega arith
 
 -- "five 64-bit numbers"
 pub length-bytes : (r : Record) → length (bytesOf r) ≡ 40
