@@ -4,4 +4,5 @@ pub mod Laws
 pub mod Order
 pub mod Plotter
 pub mod Refusals
+pub mod Sheets
 pub mod Texts
