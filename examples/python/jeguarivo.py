@@ -407,4 +407,5 @@ def sheet_check(text: bytes, sheet: bytes) -> Optional[int]:
 def sheet_write(text: bytes) -> bytes:
     """The neighbour sheet that our rules make of a text: 40 bytes for each whole cell."""
     room = ctypes.create_string_buffer(40 * len(text))  # always enough
-    return room.raw[: _sheet_write(text, len(text), room, len(room)).length]
+    got = _sheet_write(text, len(text), room, len(room))
+    return room.raw[: got.length]
