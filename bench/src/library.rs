@@ -1,7 +1,8 @@
 //! The entries, of the library and of the plain Rust beside it, and a sum over their answers.
 
 use jeguarivo::{
-    Ask, Cell, Check, Code, Compare, Fix, Frame, FrameAnswer, Length, List, MarkAnswer, Name, Z,
+    Ask, Cell, Check, Code, Compare, Fix, Frame, FrameAnswer, Length, List, MarkAnswer, Name,
+    Sheet, SheetLength, Z,
 };
 
 pub type CellCode = extern "C" fn(u64, u64, u64, u64, u64, u64) -> Code;
@@ -32,6 +33,8 @@ pub type CoverageCompare = unsafe extern "C" fn(
     *mut u64,
     usize,
 ) -> Compare;
+pub type SheetCheck = unsafe extern "C" fn(*const u8, usize, *const u8, usize) -> Sheet;
+pub type SheetWrite = unsafe extern "C" fn(*const u8, usize, *mut u8, usize) -> SheetLength;
 
 /// A sum that depends on every field and on the order of answers.
 pub trait Fold {
@@ -63,6 +66,8 @@ folds! {
     List { place, count }
     Ask { place, covered, settled }
     Compare { place, first_cells, second_cells, both_cells, first_size, second_size, both_size }
+    Sheet { place, right, record }
+    SheetLength { place, length }
 }
 
 /// Doubles by their bits.

@@ -166,6 +166,7 @@ fn texts(inputs: &Inputs) -> Vec<(&'static str, usize)> {
     let (texts, lists) = (&inputs.texts, &inputs.lists);
     let (mut codes, mut room) = (vec![0; 65_536], vec![0; 65_536]);
     let [mut firsts, mut seconds, mut boths] = [(); 3].map(|_| vec![0; 65_536]);
+    let mut sheet = vec![0; 40 * 65_536];
     let whole = b"CVR\0\x0100NOPQRS";
     depths! {
         jgv_coverage_check: texts, text => (text.as_ptr(), text.len());
@@ -173,5 +174,7 @@ fn texts(inputs: &Inputs) -> Vec<(&'static str, usize)> {
         jgv_coverage_write: lists, list => (1, 15, 0, 0, list.as_ptr(), list.len(), room.as_mut_ptr(), room.len());
         jgv_coverage_ask: texts, text => (text.as_ptr(), text.len(), 15 << 4);
         jgv_coverage_compare: texts, text => (text.as_ptr(), text.len(), whole.as_ptr(), whole.len(), firsts.as_mut_ptr(), firsts.len(), seconds.as_mut_ptr(), seconds.len(), boths.as_mut_ptr(), boths.len());
+        jgv_sheet_write: texts, text => (text.as_ptr(), text.len(), sheet.as_mut_ptr(), sheet.len());
+        jgv_sheet_check: texts, text => (text.as_ptr(), text.len(), sheet.as_ptr(), sheet.len());
     }
 }

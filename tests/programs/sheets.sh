@@ -94,25 +94,25 @@ open("high", "wb").write(b"".join(ours[at : at + 8][::-1] for at in range(0, 80,
 PYTHON
 told two.cvr high 'no 0'
 
-# long sheets, in parts: of a text that has 7,281 finest cells, and more
+# long sheets, in parts
 { printf '%b' "CVR\x00\x0100"; python3 -c "
 def nodes(depth):
     return '01234567' if depth == 0 else ''.join(f'{d}({nodes(depth - 1)})' for d in range(9))
-print('P(' + nodes(4) + ')', end='')"; } >many.cvr
+print(''.join(f'{face}({nodes(3)})' for face in 'NOPQRS'), end='')"; } >many.cvr
 coverage check many.cvr | cut -d ' ' -f 1,7 >said_of_many
-try "many cells" 'cat said_of_many' '0 52488\n' ''
+try "many cells" 'cat said_of_many' '0 34992\n' ''
 coverage sheet many.cvr >many.sheet
-try "as many records" 'wc -c <many.sheet' '2099520\n' ''
+try "as many records" 'wc -c <many.sheet' '1399680\n' ''
 told many.cvr many.sheet yes
 told many.cvr '<(cat many.sheet)' yes
-for at in 0 65519 65520 65536 131040 2099519; do
+for at in 0 65519 65520 65536 131040 1399679; do
     { head -c $at many.sheet; printf '%b' '\xff'; tail -c +$((at + 2)) many.sheet; } >spoilt
     told many.cvr spoilt "no $((at / 40))"
     head -c $at many.sheet >part
     told many.cvr part "no $((at / 40))"
 done
 cat many.sheet many.sheet >longer
-told many.cvr longer 'no 52488'
+told many.cvr longer 'no 34992'
 told many.cvr /dev/zero 'no 0'
 told heading.cvr /dev/zero 'no 0'
 

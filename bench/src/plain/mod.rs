@@ -7,6 +7,7 @@ pub mod coverage;
 pub mod fixes;
 pub mod neighbour;
 pub mod plotter;
+pub mod sheets;
 pub mod writing;
 
 /// Powers of three and of nine.

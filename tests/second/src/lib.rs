@@ -3,7 +3,7 @@
 //! with the proved library, entry by entry. They prove nothing; the library's contracts do that.
 //!
 //! RATTLE_LIBS names the folder of libjeguarivo.a: `cargo test --release --offline`. Without it
-//! the tests `grid`, `straight`, `ground`, `ellipsoid`, `coverage`, `plotter` and `crews` fail, and without RATTLE_BIN,
+//! the tests `grid`, `straight`, `ground`, `ellipsoid`, `coverage`, `plotter`, `crews` and `sheets` fail, and without RATTLE_BIN,
 //! the folder of the proved programs, the tests `programs` and `frame_program`; the others try this program alone.
 //! SECOND_SEED sets another seed for the inputs.
 //!
@@ -13,6 +13,7 @@
 //! - `coverage`: the coverage text: check, list, write, ask
 //! - `plotter`: metres, marks and frames for the plotter (request W-214), with no doubles computed
 //! - `crews`: what two coverage texts cover (request W-205)
+//! - `sheets`: a partner's neighbour sheets (request W-211)
 //! - `proved`: the proved library's entries, as examples/rust declares them
 //! - `straight`: straight lines through cells (request W-212)
 //! - `flights`: the programs `record` and `name_fixes` (`second_record` is a program of its own)
@@ -34,5 +35,6 @@ pub mod plotter;
 #[cfg(proved)]
 pub mod proved;
 pub mod random;
+pub mod sheets;
 pub mod straight;
 pub mod texts;
