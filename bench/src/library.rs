@@ -2,7 +2,7 @@
 
 use jeguarivo::{
     Add, Ask, Cell, Check, Code, Compare, Fix, Frame, FrameAnswer, Length, List, MarkAnswer, Name,
-    Summary, SummaryAsk, Z,
+    Sheet, SheetLength, Summary, SummaryAsk, Z,
 };
 
 pub type CellCode = extern "C" fn(u64, u64, u64, u64, u64, u64) -> Code;
@@ -34,6 +34,8 @@ pub type CoverageCompare = unsafe extern "C" fn(
     *mut u64,
     usize,
 ) -> Compare;
+pub type SheetCheck = unsafe extern "C" fn(*const u8, usize, *const u8, usize) -> Sheet;
+pub type SheetWrite = unsafe extern "C" fn(*const u8, usize, *mut u8, usize) -> SheetLength;
 pub type TextSummary = unsafe extern "C" fn(*const u8, usize) -> Summary;
 pub type AskSummary = extern "C" fn(u64, u64, &[u64; 486], u64) -> SummaryAsk;
 
@@ -69,6 +71,8 @@ folds! {
     SummaryAsk { covered }
     Add { place, length }
     Compare { place, first_cells, second_cells, both_cells, first_size, second_size, both_size }
+    Sheet { place, right, record }
+    SheetLength { place, length }
 }
 
 impl Fold for Summary {

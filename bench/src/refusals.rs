@@ -10,6 +10,7 @@ use crate::plain::fixes::{
 };
 use crate::plain::neighbour::neighbour;
 use crate::plain::plotter::{frame_first, frame_grow, mark_code, mark_point};
+use crate::plain::sheets::{sheet_check, sheet_write};
 use crate::plain::summary::{summary, summary_ask};
 use crate::plain::writing::{coverage_write, write, Profile, FULL};
 use crate::plain::NINE;
@@ -264,6 +265,34 @@ fn texts(random: &mut Random) {
     );
     add(random, &codes, &text);
     compared(random, &text);
+    sheets(random, &text);
+}
+
+/// The neighbour sheet of a text, whole or short of room; and a sheet that is ours, cut, overlong or wrong in a byte.
+fn sheets(random: &mut Random, text: &[u8]) {
+    let (at, length) = (text.as_ptr(), text.len());
+    let room = random.below(16_000) as usize;
+    let (mut library, mut plain) = ([7; 16_000], [7; 16_000]);
+    let lengths = (
+        lent::sheet_write(text, &mut library[..room]),
+        sheet_write(at, length, plain.as_mut_ptr(), room),
+    );
+    same("write a sheet", (lengths.0, library), (lengths.1, plain));
+    let written = lengths.0.length as usize;
+    let mut sheet = library[..(written + random.below(3) as usize).min(library.len())].to_vec();
+    match random.below(4) {
+        0 => sheet.truncate(random.below(sheet.len() as u64 + 1) as usize),
+        1 if !sheet.is_empty() => {
+            let spoilt = random.below(sheet.len() as u64) as usize;
+            sheet[spoilt] ^= 1 << random.below(8);
+        }
+        _ => {}
+    }
+    same(
+        "check a sheet",
+        lent::sheet_check(text, &sheet),
+        sheet_check(at, length, sheet.as_ptr(), sheet.len()),
+    );
 }
 
 /// A cell added to a text, good or bad: a cell of the text's flight, a coarser or a finer one beside it, or any; with room for it or not, and now and then

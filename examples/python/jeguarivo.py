@@ -165,6 +165,8 @@ class _Summary(ctypes.Structure):
 class _Frame(ctypes.Structure):
     _fields_ = [(edge, c_double) for edge in Frame._fields]
 _Compare = _struct("jgv_compare", c_uint64, "place", "first_cells", "second_cells", "both_cells", "first_size", "second_size", "both_size")
+_Sheet = _struct("jgv_sheet", c_uint64, "place", "right", "record")
+_SheetLength = _struct("jgv_sheet_length", c_uint64, "place", "length")
 _SummaryAsk = _struct("jgv_summary_ask_answer", c_uint64, "covered")
 
 
@@ -257,6 +259,8 @@ _settings_change = _entry("jgv_settings_change", _HistoryAnswer, History, _U64, 
 _settings_back = _entry("jgv_settings_back", _HistoryAnswer, History, _U64, _U64)
 _settings_read = _entry("jgv_settings_read", _SettingsAnswer, History, _U64)
 _coverage_compare = _entry("jgv_coverage_compare", _Compare, _BYTES, c_size_t, _BYTES, c_size_t, _CODES, c_size_t, _CODES, c_size_t, _CODES, c_size_t)
+_sheet_check = _entry("jgv_sheet_check", _Sheet, _BYTES, c_size_t, _BYTES, c_size_t)
+_sheet_write = _entry("jgv_sheet_write", _SheetLength, _BYTES, c_size_t, _ROOM, c_size_t)
 
 
 def cell_code(n: int, s: int, face: int, resolution: int, row: int, column: int) -> int:
@@ -458,6 +462,19 @@ def coverage_compare(first: bytes, second: bytes) -> Tuple[Listing, Listing, Lis
         Listing(seconds[: got.second_cells], got.second_size),
         Listing(boths[: got.both_cells], got.both_size),
     )
+
+
+def sheet_check(text: bytes, sheet: bytes) -> Optional[int]:
+    """Whether a neighbour sheet is the one that our rules make of a text: None on yes, on no the number of the first wrong record."""
+    got = _sheet_check(text, len(text), sheet, len(sheet))
+    return None if got.right else got.record
+
+
+def sheet_write(text: bytes) -> bytes:
+    """The neighbour sheet that our rules make of a text: 40 bytes for each whole cell."""
+    room = ctypes.create_string_buffer(40 * len(text))  # always enough
+    got = _sheet_write(text, len(text), room, len(room))
+    return room.raw[: got.length]
 
 
 def summary(text: bytes) -> Summary:

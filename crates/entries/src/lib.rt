@@ -146,6 +146,21 @@ pub struct CompareAnswer {
 }
 
 #[repr(C)]
+pub struct SheetAnswer {
+    pub refusal: u64,
+    pub place: u64,
+    pub right: u64,
+    pub record: u64,
+}
+
+#[repr(C)]
+pub struct SheetLengthAnswer {
+    pub refusal: u64,
+    pub place: u64,
+    pub length: u64,
+}
+
+#[repr(C)]
 pub struct SummaryAnswer {
     pub refusal: u64,
     pub place: u64,

@@ -13,11 +13,14 @@ ghost use Rattle.listing.specs.List.{listingRefusal, listed, codesIn};
 ghost use Rattle.asking.specs.Ask.{askRefusal, asked};
 ghost use Rattle.adding.specs.Add.{textWith, addRefusal, added, placed};
 ghost use Rattle.comparing.specs.Compare.{lists, sharedCodes, compareRefusal, compared, withCodes};
+ghost use Rattle.sheet.specs.Sheet.{sheetRefusal, sheetIn, written as sheetWritten};
+ghost use Rattle.sheet.specs.Verdict.{judgedOf};
 ghost use Rattle.entries.specs.Texts.{checkNumbers, listNumbers, askNumbers, writtenNumbers, addNumbers, compareNumbers};
 ghost use Rattle.writing.specs.Write.{asksFor, writeRefusal, textOf, textIn, written};
 ghost use Rattle.entries.specs.Entries.{arrangement, codedAnswer, codeAnswer, codeOfCell, codeCell, nameAnswer, writtenName, parentCode, childCode};
 ghost use Rattle.entries.specs.Entries.{cellSize, cellShape, cornerCount, cellSquare, cellNucleus, cellVertices, pointCode, neighbourCode, fixCode, groundFix};
 ghost use Rattle.entries.specs.Entries.{geodeticZ, geodeticCode, cornerCells};
+ghost use Rattle.entries.specs.Sheets.{sheetNumbers, sheetLengthNumbers};
 ghost use Rattle.entries.specs.Plotter.{markNumbers, frameNumbers, pointMarked, codeMarked, frameBegun, frameGrown};
 ghost use Rattle.entries.specs.Summary.{summaryOf, summaryAsked};
 ghost use Rattle.entries.specs.Settings.{freshHistory, changedHistory, backHistory, readSettings};
@@ -44,6 +47,8 @@ use entries::MarkAnswer;
 use entries::NameAnswer;
 use entries::PointAnswer;
 use entries::ShapeAnswer;
+use entries::SheetAnswer;
+use entries::SheetLengthAnswer;
 use entries::SizeAnswer;
 use entries::SquareAnswer;
 use entries::SummaryAnswer;
@@ -60,6 +65,8 @@ use plotter::Frame;
 use plotter::Framed;
 use plotter::Mark;
 use reader::Checked;
+use sheet::Judged;
+use sheet::Written as SheetWritten;
 use summary::Questioned;
 use summary::Summarized;
 use writing::Written;
@@ -770,6 +777,53 @@ pub extern "C" fn jgv_coverage_compare(
             first_size: 0,
             second_size: 0,
             both_size: 0,
+        },
+    }
+}
+
+// Whether a sheet is the one that our rules make of a text, and where not the first record that differs. 13, 10, 9 where the text is none.
+#[no_mangle]
+pub extern "C" fn jgv_sheet_check(text: &[u8], sheet: &[u8]) -> SheetAnswer
+    ensures { λ r. ⌜ r ≡ sheetNumbers (judgedOf (now (text .entry)) (now (sheet .entry))) ⌝ }
+{
+    match sheet::check(text, sheet) {
+        Judged::Right => SheetAnswer {
+            refusal: 0,
+            place: 0,
+            right: 1, // yes
+            record: 0,
+        },
+        Judged::Wrong(record) => SheetAnswer {
+            refusal: 0,
+            place: 0,
+            right: 0, // no
+            record,
+        },
+        Judged::Refused { refusal, place } => SheetAnswer {
+            refusal,
+            place,
+            right: 0, // neither
+            record: 0,
+        },
+    }
+}
+
+// The sheet that our rules make of a text. 13, 10, 9 where the text is none, 8 where the room is shorter than the sheet.
+#[no_mangle]
+pub extern "C" fn jgv_sheet_write(text: &[u8], sheet: &mut [u8]) -> SheetLengthAnswer
+    ensures { λ r. ⌜ r ≡ sheetLengthNumbers (sheetWritten (sheetRefusal (now (text .entry)) (length (now (sheet .entry)))) (now (text .entry))) ⌝ }
+    ensures { λ r. ⌜ now (sheet .exit) ≡ given (sheetRefusal (now (text .entry)) (length (now (sheet .entry)))) (sheetIn (now (text .entry)) (now (sheet .entry))) (now (sheet .entry)) ⌝ }
+{
+    match sheet::write(text, sheet) {
+        SheetWritten::Length(length) => SheetLengthAnswer {
+            refusal: 0,
+            place: 0, // of a sheet
+            length,
+        },
+        SheetWritten::Refused { refusal, place } => SheetLengthAnswer {
+            refusal,
+            place,
+            length: 0, // of a sheet that is refused
         },
     }
 }

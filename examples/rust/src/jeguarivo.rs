@@ -58,6 +58,9 @@ answers! {
     MarkAnswer { kind: u64, numbers: [f64; 4] }
     FrameAnswer { left: f64, bottom: f64, right: f64, top: f64 }
     Compare at place { first_cells: u64, second_cells: u64, both_cells: u64, first_size: u64, second_size: u64, both_size: u64 }
+    Sheet at place { right: u64, record: u64 }
+    SheetLength at place { length: u64 }
+    Compare at place { first_cells: u64, second_cells: u64, both_cells: u64, first_size: u64, second_size: u64, both_size: u64 }
     SummaryAsk { covered: u64 }
     HistoryAnswer { history: History }
     SettingsAnswer { settings: Settings }
@@ -166,6 +169,8 @@ unsafe extern "C" {
         first: *const u8, first_length: usize, second: *const u8, second_length: usize,
         firsts: *mut u64, first_room: usize, seconds: *mut u64, second_room: usize, boths: *mut u64, both_room: usize,
     ) -> Compare;
+    pub fn jgv_sheet_check(text: *const u8, length: usize, sheet: *const u8, sheet_length: usize) -> Sheet;
+    pub fn jgv_sheet_write(text: *const u8, length: usize, sheet: *mut u8, room: usize) -> SheetLength;
     pub fn jgv_summary(text: *const u8, length: usize) -> Summary;
     pub safe fn jgv_summary_ask(n: u64, s: u64, counters: &[u64; 486], code: u64) -> SummaryAsk;
 }
@@ -213,6 +218,14 @@ pub mod lent {
                 firsts.as_mut_ptr(), firsts.len(), seconds.as_mut_ptr(), seconds.len(), boths.as_mut_ptr(), boths.len(),
             )
         }
+    }
+
+    pub fn sheet_check(text: &[u8], sheet: &[u8]) -> Sheet {
+        unsafe { jgv_sheet_check(text.as_ptr(), text.len(), sheet.as_ptr(), sheet.len()) }
+    }
+
+    pub fn sheet_write(text: &[u8], sheet: &mut [u8]) -> SheetLength {
+        unsafe { jgv_sheet_write(text.as_ptr(), text.len(), sheet.as_mut_ptr(), sheet.len()) }
     }
 
     pub fn summary(text: &[u8]) -> Summary {
@@ -419,6 +432,18 @@ pub fn coverage_compare<'a>(
         second_size: found.second_size,
         both_size: found.both_size,
     })
+}
+
+/// Whether a neighbour sheet is the one that our rules make of a text: nothing on yes, on no the number of the first wrong record.
+pub fn sheet_check(text: &[u8], sheet: &[u8]) -> Answer<Option<u64>> {
+    let checked = lent::sheet_check(text, sheet).read()?;
+    Ok((checked.right == 0).then_some(checked.record))
+}
+
+/// The neighbour sheet that our rules make of a text: 40 bytes for each whole cell.
+pub fn sheet_write<'a>(text: &[u8], sheet: &'a mut [u8]) -> Answer<&'a [u8]> {
+    let written = lent::sheet_write(text, sheet).read()?;
+    Ok(&sheet[..written.length as usize])
 }
 
 /// A text's summary: its n and s, and how many finest cells of each cell of resolution 2 are covered.

@@ -10,7 +10,7 @@ use crate::summary::Summary as Kept;
 use jeguarivo::{
     Add, Ask, Cell, Check, Code, Compare, Count, Fix, Length, List, Name, Point, Shape, Size,
 };
-use jeguarivo::{Frame, FrameAnswer, MarkAnswer, Square, Vertices, Z};
+use jeguarivo::{Frame, FrameAnswer, MarkAnswer, Sheet, SheetLength, Square, Vertices, Z};
 use std::fmt::Debug;
 
 pub use jeguarivo::lent::{code_name, corner_cells, name_code, summary};
@@ -51,6 +51,11 @@ pub mod coverage {
         coverage_add as add, coverage_ask as ask, coverage_check as check,
         coverage_compare as compare, coverage_list as list, coverage_write as write,
     };
+}
+
+/// The sheet entries.
+pub mod sheets {
+    pub use jeguarivo::lent::{sheet_check as check, sheet_write as write};
 }
 
 /// An answer of the proved library that is like one of the second program.
@@ -105,6 +110,9 @@ like! {
         first_cells: of.cells[0], second_cells: of.cells[1], both_cells: of.cells[2],
         first_size: of.sizes[0], second_size: of.sizes[1], both_size: of.sizes[2]
     };
+    Sheet at place, TextAnswer<Option<u64>>, record =>
+        { right: u64::from(record.is_none()), record: record.unwrap_or(0) };
+    SheetLength at place, TextAnswer<u64>, length => { length: length };
     Summary at place, TextAnswer<Kept>, of => { n: of.n, s: of.s, counters: of.counters };
     SummaryAsk, Answer<bool>, covered => { covered: u64::from(covered) };
 }
