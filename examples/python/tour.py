@@ -294,6 +294,6 @@ def dispatch():
 if __name__ == "__main__":
     for part in (
         codes_and_names, families, shapes, plane, ground, neighbours, corners, coverage, additions, two_arrangements, handhelds, plotter, office,
-        crews, dispatch, sheets,
+        crews, sheets, dispatch,
     ):
         part()

@@ -397,6 +397,6 @@ fn main() -> Answer<()> {
     plotter()?;
     office()?;
     crews()?;
-    dispatch()?;
-    sheets()
+    sheets()?;
+    dispatch()
 }
