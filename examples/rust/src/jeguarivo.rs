@@ -57,10 +57,8 @@ answers! {
     Compare at place { first_cells: u64, second_cells: u64, both_cells: u64, first_size: u64, second_size: u64, both_size: u64 }
     MarkAnswer { kind: u64, numbers: [f64; 4] }
     FrameAnswer { left: f64, bottom: f64, right: f64, top: f64 }
-    Compare at place { first_cells: u64, second_cells: u64, both_cells: u64, first_size: u64, second_size: u64, both_size: u64 }
     Sheet at place { right: u64, record: u64 }
     SheetLength at place { length: u64 }
-    Compare at place { first_cells: u64, second_cells: u64, both_cells: u64, first_size: u64, second_size: u64, both_size: u64 }
     SummaryAsk { covered: u64 }
     HistoryAnswer { history: History }
     SettingsAnswer { settings: Settings }
