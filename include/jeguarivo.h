@@ -68,6 +68,10 @@ typedef struct { uint64_t refusal, kind; double numbers[4]; } jgv_mark_answer;
 typedef struct { double left, bottom, right, top; } jgv_frame;
 typedef struct { uint64_t refusal; double left, bottom, right, top; } jgv_frame_answer;
 typedef struct { uint64_t refusal, place, first_cells, second_cells, both_cells, first_size, second_size, both_size; } jgv_compare;
+typedef struct { uint64_t refusal, place, right, record; } jgv_sheet;
+typedef struct { uint64_t refusal, place, length; } jgv_sheet_length;
+typedef struct { uint64_t refusal, place, n, s, counters[486]; } jgv_summary_answer;
+typedef struct { uint64_t refusal, covered; } jgv_summary_ask_answer;
 
 /* Settings: an arrangement, the working resolution, and the squared eccentricity, from 0 to 10,000,000,000 in units of 10^-12. */
 typedef struct { uint64_t n, s, resolution, eccentricity; } jgv_settings;
@@ -202,6 +206,25 @@ jgv_settings_answer jgv_settings_read(jgv_history history, uint64_t revision);
  * second, 14 where n or s differ, 8 where any room is short. */
 jgv_compare jgv_coverage_compare(const uint8_t *first, size_t first_length, const uint8_t *second, size_t second_length, uint64_t *firsts,
                                  size_t first_room, uint64_t *seconds, size_t second_room, uint64_t *boths, size_t both_room);
+
+/* Checks a partner's neighbour sheet for a coverage text. A sheet has one record of 40 bytes for each whole cell: its code and the codes of its
+ * neighbours up, right, down, left, each a 64-bit number, low byte first. `right` is 1 exactly where the records stand in rising order, each
+ * whole cell has one, no other has any, and all neighbours are right; `record` is 0 then. Otherwise `right` is 0, and `record` is the number,
+ * from 0, of the first record that is not the one our rules put there: a missing one at the end has the number of records, and one that is
+ * broken off is a wrong one. A sheet may be of any length. Refusals 13, 10, 9, those of the text. */
+jgv_sheet jgv_sheet_check(const uint8_t *text, size_t length, const uint8_t *sheet, size_t sheet_length);
+
+/* The neighbour sheet of a coverage text by our rules, to the first bytes of `sheet`: 40 for each whole cell that jgv_coverage_check counts. It
+ * always passes jgv_sheet_check. Refusals 13, 10, 9, 8. */
+jgv_sheet_length jgv_sheet_write(const uint8_t *text, size_t length, uint8_t *sheet, size_t room);
+
+/* A summary to be kept beside a text: the heading's n and s, and for each cell of resolution 2, in code order, the number of covered finest
+ * cells inside it, 9^13 where all are. The counters add up to the size of jgv_coverage_check. Refusals 13, 10, 9. */
+jgv_summary_answer jgv_summary(const uint8_t *text, size_t length);
+
+/* Whether all finest cells of a cell of resolution 0 to 2 are covered, by a summary that is kept: 1 where each of the 486 counters inside the
+ * cell is 9^13, else 0. Of a text's own summary the answer is that of jgv_coverage_ask. Refusals 5, 4, 2 where the cell is finer, 14. */
+jgv_summary_ask_answer jgv_summary_ask(uint64_t n, uint64_t s, const uint64_t counters[486], uint64_t code);
 
 #ifdef __cplusplus
 }

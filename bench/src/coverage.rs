@@ -1,16 +1,19 @@
-//! Coverage texts of 1, 4, 16 and 64 KiB: check, list, ask and write; and two of them compared.
+//! Coverage texts of 1, 4, 16 and 64 KiB: check, list, ask and write; two of them compared; their summaries and their neighbour sheets.
 
 use crate::inputs::{code, swath, Random};
 use crate::library::{
-    CoverageAsk, CoverageCheck, CoverageCompare, CoverageList, CoverageWrite, Fold,
+    AskSummary, CoverageAsk, CoverageCheck, CoverageCompare, CoverageList, CoverageWrite, Fold,
+    SheetCheck, SheetWrite, TextSummary,
 };
 use crate::measure::{compare, pair, Plan, Row, Work};
 use crate::plain::comparing::coverage_compare;
 use crate::plain::coverage::{coverage_ask, coverage_check, coverage_list};
+use crate::plain::sheets::{sheet_check, sheet_write};
+use crate::plain::summary::{summary, summary_ask};
 use crate::plain::writing::{coverage_write, write as written, FULL};
 use jeguarivo::{
     jgv_coverage_ask, jgv_coverage_check, jgv_coverage_compare, jgv_coverage_list,
-    jgv_coverage_write,
+    jgv_coverage_write, jgv_sheet_check, jgv_sheet_write, jgv_summary, jgv_summary_ask,
 };
 use std::cell::RefCell;
 
@@ -32,9 +35,19 @@ struct Text {
 pub fn run(plan: Plan, random: &mut Random) -> Vec<Row> {
     let texts: Vec<Text> = [1, 4, 16, 64].map(|size| text(random, size)).into();
     let mut rows = Vec::new();
-    for work in [check, list, ask, write, compare_two] {
+    for work in [
+        check,
+        list,
+        ask,
+        write,
+        compare_two,
+        summarize,
+        check_sheet,
+        write_sheet,
+    ] {
         texts.iter().for_each(|text| rows.extend(work(plan, text)));
     }
+    rows.extend(ask_summary(plan, random, &texts[3]));
     rows
 }
 
@@ -175,4 +188,76 @@ fn compare_two(plan: Plan, at: &Text) -> Vec<Row> {
     let sides = pair::<CoverageCompare>(COMPARE_GOAL, jgv_coverage_compare, coverage_compare, pass);
     let name = format!("compare two of {} KiB, a byte", at.size);
     compare(plan, Work::new(&name, both), sides)
+}
+
+/// The sheet of our rules, as both sides write it.
+fn sheet(at: &Text) -> Vec<u8> {
+    let all = [jgv_sheet_write, sheet_write as SheetWrite].map(|entry| {
+        let mut room = vec![0; 40 * at.text.len()];
+        let answer = unsafe {
+            entry(
+                at.text.as_ptr(),
+                at.text.len(),
+                room.as_mut_ptr(),
+                room.len(),
+            )
+        };
+        room.truncate(answer.length as usize);
+        room
+    });
+    assert!(all[0] == all[1], "the sheets differ");
+    all[0].clone()
+}
+
+fn check_sheet(plan: Plan, at: &Text) -> Vec<Row> {
+    let sheet = sheet(at);
+    let sides = pair::<SheetCheck>(GOAL, jgv_sheet_check, sheet_check, |check, _| {
+        unsafe { check(at.text.as_ptr(), at.text.len(), sheet.as_ptr(), sheet.len()) }.fold(0)
+    });
+    let name = format!("check the sheet of {} KiB, a record", at.size);
+    compare(plan, Work::new(&name, sheet.len() / 40), sides)
+}
+
+fn write_sheet(plan: Plan, at: &Text) -> Vec<Row> {
+    let ours = sheet(at);
+    let room = RefCell::new(vec![0; ours.len()]);
+    let sides = pair::<SheetWrite>(GOAL, jgv_sheet_write, sheet_write, |write, _| {
+        let mut room = room.borrow_mut();
+        let answer = unsafe {
+            write(
+                at.text.as_ptr(),
+                at.text.len(),
+                room.as_mut_ptr(),
+                room.len(),
+            )
+        };
+        answer.fold((room[..answer.length as usize] == ours) as u64)
+    });
+    let name = format!("write the sheet of {} KiB, a record", at.size);
+    compare(plan, Work::new(&name, ours.len() / 40), sides)
+}
+
+fn summarize(plan: Plan, at: &Text) -> Vec<Row> {
+    let sides = pair::<TextSummary>(GOAL, jgv_summary, summary, |summary, _| {
+        unsafe { summary(at.text.as_ptr(), at.text.len()) }.fold(0)
+    });
+    let name = format!("summary {} KiB, a byte", at.size);
+    compare(plan, Work::new(&name, at.text.len()), sides)
+}
+
+/// Cells of resolution 0 to 2 asked of a summary in which every other face is done.
+fn ask_summary(plan: Plan, random: &mut Random, at: &Text) -> Vec<Row> {
+    let mut kept = unsafe { jgv_summary(at.text.as_ptr(), at.text.len()) }.counters;
+    for (nth, counter) in kept.iter_mut().enumerate() {
+        if nth / 81 % 2 == 0 {
+            *counter = 9u64.pow(13);
+        }
+    }
+    let asked: Vec<u64> = (0..4096).map(|i| code(random, i % 3)).collect();
+    let sides = pair::<AskSummary>(GOAL, jgv_summary_ask, summary_ask, |ask, _| {
+        asked
+            .iter()
+            .fold(0, |sum, &code| ask(0, 0, &kept, code).fold(sum))
+    });
+    compare(plan, Work::new("ask a summary", asked.len()), sides)
 }

@@ -1,7 +1,8 @@
 //! The entries, of the library and of the plain Rust beside it, and a sum over their answers.
 
 use jeguarivo::{
-    Add, Ask, Cell, Check, Code, Compare, Fix, Frame, FrameAnswer, Length, List, MarkAnswer, Name, Z,
+    Add, Ask, Cell, Check, Code, Compare, Fix, Frame, FrameAnswer, Length, List, MarkAnswer, Name,
+    Sheet, SheetLength, Summary, SummaryAsk, Z,
 };
 
 pub type CellCode = extern "C" fn(u64, u64, u64, u64, u64, u64) -> Code;
@@ -33,6 +34,10 @@ pub type CoverageCompare = unsafe extern "C" fn(
     *mut u64,
     usize,
 ) -> Compare;
+pub type SheetCheck = unsafe extern "C" fn(*const u8, usize, *const u8, usize) -> Sheet;
+pub type SheetWrite = unsafe extern "C" fn(*const u8, usize, *mut u8, usize) -> SheetLength;
+pub type TextSummary = unsafe extern "C" fn(*const u8, usize) -> Summary;
+pub type AskSummary = extern "C" fn(u64, u64, &[u64; 486], u64) -> SummaryAsk;
 
 /// A sum that depends on every field and on the order of answers.
 pub trait Fold {
@@ -63,8 +68,20 @@ folds! {
     Check { place, version, depth, n, s, cells, size }
     List { place, count }
     Ask { place, covered, settled }
+    SummaryAsk { covered }
     Add { place, length }
     Compare { place, first_cells, second_cells, both_cells, first_size, second_size, both_size }
+    Sheet { place, right, record }
+    SheetLength { place, length }
+}
+
+impl Fold for Summary {
+    #[inline(always)]
+    fn fold(&self, sum: u64) -> u64 {
+        let numbers = [self.refusal, self.place, self.n, self.s];
+        let add = |sum: u64, number: &u64| sum.rotate_left(5) ^ number;
+        self.counters.iter().fold(numbers.iter().fold(sum, add), add)
+    }
 }
 
 /// Doubles by their bits.

@@ -10,12 +10,14 @@ use crate::plain::fixes::{
 };
 use crate::plain::neighbour::neighbour;
 use crate::plain::plotter::{frame_first, frame_grow, mark_code, mark_point};
+use crate::plain::sheets::{sheet_check, sheet_write};
+use crate::plain::summary::{summary, summary_ask};
 use crate::plain::writing::{coverage_write, write, Profile, FULL};
 use crate::plain::NINE;
 use jeguarivo::{
     jgv_cell_code, jgv_child, jgv_code_cell, jgv_fix_code, jgv_frame_first, jgv_frame_grow,
     jgv_geodetic_code, jgv_geodetic_z, jgv_ground_nucleus, jgv_mark_code, jgv_mark_point,
-    jgv_neighbour, jgv_parent, lent, Frame, FrameAnswer, MarkAnswer,
+    jgv_neighbour, jgv_parent, jgv_summary_ask, lent, Frame, FrameAnswer, MarkAnswer,
 };
 use std::fmt::Debug;
 
@@ -253,8 +255,44 @@ fn texts(random: &mut Random) {
         coverage_list(at, length, plain.as_mut_ptr(), room),
     );
     same("list", (counts.0, library), (counts.1, plain));
+    let kept = lent::summary(&text);
+    same("summary", kept, summary(at, length));
+    let (n, s) = (random.below(9) / 2, kept.s);
+    same(
+        "ask a summary",
+        jgv_summary_ask(n, s, &kept.counters, code & !0xff),
+        summary_ask(n, s, &kept.counters, code & !0xff),
+    );
     add(random, &codes, &text);
     compared(random, &text);
+    sheets(random, &text);
+}
+
+/// The neighbour sheet of a text, whole or short of room; and a sheet that is ours, cut, overlong or wrong in a byte.
+fn sheets(random: &mut Random, text: &[u8]) {
+    let (at, length) = (text.as_ptr(), text.len());
+    let room = random.below(16_000) as usize;
+    let (mut library, mut plain) = ([7; 16_000], [7; 16_000]);
+    let lengths = (
+        lent::sheet_write(text, &mut library[..room]),
+        sheet_write(at, length, plain.as_mut_ptr(), room),
+    );
+    same("write a sheet", (lengths.0, library), (lengths.1, plain));
+    let written = lengths.0.length as usize;
+    let mut sheet = library[..(written + random.below(3) as usize).min(library.len())].to_vec();
+    match random.below(4) {
+        0 => sheet.truncate(random.below(sheet.len() as u64 + 1) as usize),
+        1 if !sheet.is_empty() => {
+            let spoilt = random.below(sheet.len() as u64) as usize;
+            sheet[spoilt] ^= 1 << random.below(8);
+        }
+        _ => {}
+    }
+    same(
+        "check a sheet",
+        lent::sheet_check(text, &sheet),
+        sheet_check(at, length, sheet.as_ptr(), sheet.len()),
+    );
 }
 
 /// A cell added to a text, good or bad: a cell of the text's flight, a coarser or a finer one beside it, or any; with room for it or not, and now and then

@@ -450,6 +450,65 @@ static void crews(void) {
     printf("coverage_compare: P(34(1)), n 0, and P(4), n 1 -> refused with %" PRIu64 "\n", found.refusal);
 }
 
+static uint64_t number_at(const uint8_t *bytes) {
+    uint64_t number = 0;
+    for (int i = 7; i >= 0; i--)
+        number = number << 8 | bytes[i];
+    return number;
+}
+
+static void print_told(const char *what, jgv_sheet told) {
+    printf("sheet_check: %s -> ", what);
+    if (told.refusal)
+        printf("refused with %" PRIu64 " at place %" PRIu64 "\n", told.refusal, told.place);
+    else if (told.right)
+        printf("yes\n");
+    else
+        printf("no, record %" PRIu64 "\n", told.record);
+}
+
+/* A partner's neighbour sheet: for each whole cell a record of five numbers, its code and its neighbours' up, right, down and left, low byte first. */
+static void sheets(void) {
+    static const uint8_t text[] = {'C', 'V', 'R', 0, 1, '0', '0', 'P', '(', '3', '4', '(', '1', ')', ')'};
+    static const uint8_t empty_list[] = {'C', 'V', 'R', 0, 1, '0', '0', 'O', '(', ')'};
+    uint8_t sheet[80], exchanged[80];
+    jgv_sheet_length written = jgv_sheet_write(text, sizeof text, sheet, sizeof sheet);
+    expect_answer(written.refusal);
+    printf("sheet_write: P(34(1)) ->");
+    for (size_t at = 0; at < written.length; at += 8)
+        printf("%s %s", at && at % 40 == 0 ? "," : "", name_of(number_at(sheet + at)).text);
+    printf("\n");
+    for (size_t i = 0; i < sizeof sheet; i++)
+        exchanged[i] = sheet[i < 48 || i >= 64 ? i : i < 56 ? i + 8 : i - 8]; /* up and right of P41 */
+    print_told("P(34(1)), as written", jgv_sheet_check(text, sizeof text, sheet, sizeof sheet));
+    print_told("P(34(1)), two neighbours of P41 exchanged", jgv_sheet_check(text, sizeof text, exchanged, sizeof exchanged));
+    print_told("P(34(1)), the record of P41 missing", jgv_sheet_check(text, sizeof text, sheet, 40));
+    print_told("P(34(1)), the record of P41 broken off", jgv_sheet_check(text, sizeof text, sheet, 79));
+    print_told("O(), as written for P(34(1))", jgv_sheet_check(empty_list, sizeof empty_list, sheet, sizeof sheet));
+}
+
+/* A summary kept beside the text: dispatch asks whether a cell of resolution 0 to 2 is done, and the counters answer as the text would. */
+static void dispatch(void) {
+    static const uint8_t text[] = {'C', 'V', 'R', 0, 1, '0', '0', 'P', '(', '3', '4', '(', '1', ')', ')'};
+    static const char *const asked[] = {"P3", "P41", "P4", "P418"};
+    jgv_summary_answer kept = jgv_summary(text, sizeof text);
+    expect_answer(kept.refusal);
+    uint64_t done = 0, sum = 0;
+    for (size_t i = 0; i < 486; i++) {
+        done += kept.counters[i] == UINT64_C(2541865828329); /* 9^13 */
+        sum += kept.counters[i];
+    }
+    printf("summary: P(34(1)) -> n %" PRIu64 ", s %" PRIu64 ", %" PRIu64 " districts done, sum %" PRIu64 "\n", kept.n, kept.s, done, sum);
+    for (size_t i = 0; i < 4; i++) {
+        jgv_summary_ask_answer answer = jgv_summary_ask(kept.n, kept.s, kept.counters, code_of(asked[i]));
+        printf("summary_ask: P(34(1)), %s -> ", asked[i]);
+        if (answer.refusal)
+            printf("refused with %" PRIu64 "\n", answer.refusal);
+        else
+            puts(answer.covered ? "yes" : "no");
+    }
+}
+
 int main(void) {
     codes_and_names();
     families();
@@ -465,5 +524,7 @@ int main(void) {
     plotter();
     office();
     crews();
+    sheets();
+    dispatch();
     return 0;
 }

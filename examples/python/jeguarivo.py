@@ -96,6 +96,14 @@ class Ask(NamedTuple):
     settled: int
 
 
+class Summary(NamedTuple):
+    """Of each cell of resolution 2, in code order, the number of covered finest cells; all of them are 9^13."""
+
+    n: int
+    s: int
+    counters: List[int]
+
+
 class PointInMetres(NamedTuple):
     x: float
     y: float
@@ -150,9 +158,16 @@ class _MarkAnswer(ctypes.Structure):
     _fields_ = [("refusal", c_uint64), ("kind", c_uint64), ("numbers", c_double * 4)]
 
 
+class _Summary(ctypes.Structure):
+    _fields_ = [*((field, c_uint64) for field in ("refusal", "place", "n", "s")), ("counters", c_uint64 * 486)]
+
+
 class _Frame(ctypes.Structure):
     _fields_ = [(edge, c_double) for edge in Frame._fields]
 _Compare = _struct("jgv_compare", c_uint64, "place", "first_cells", "second_cells", "both_cells", "first_size", "second_size", "both_size")
+_Sheet = _struct("jgv_sheet", c_uint64, "place", "right", "record")
+_SheetLength = _struct("jgv_sheet_length", c_uint64, "place", "length")
+_SummaryAsk = _struct("jgv_summary_ask_answer", c_uint64, "covered")
 
 
 class _Settings(ctypes.Structure):
@@ -237,11 +252,15 @@ _mark_point = _entry("jgv_mark_point", _MarkAnswer, c_double, _U64, _U64, _I64, 
 _mark_code = _entry("jgv_mark_code", _MarkAnswer, c_double, _U64)
 _frame_first = _entry("jgv_frame_first", _FrameAnswer, c_double, _U64)
 _frame_grow = _entry("jgv_frame_grow", _FrameAnswer, c_double, _Frame, _U64)
+_summary = _entry("jgv_summary", _Summary, _BYTES, c_size_t)
+_summary_ask = _entry("jgv_summary_ask", _SummaryAsk, _U64, _U64, _CODES, _U64)
 _settings_fresh = _entry("jgv_settings_fresh", _HistoryAnswer, _U64, _U64, _U64, _U64)
 _settings_change = _entry("jgv_settings_change", _HistoryAnswer, History, _U64, _U64, _U64, _U64, _U64)
 _settings_back = _entry("jgv_settings_back", _HistoryAnswer, History, _U64, _U64)
 _settings_read = _entry("jgv_settings_read", _SettingsAnswer, History, _U64)
 _coverage_compare = _entry("jgv_coverage_compare", _Compare, _BYTES, c_size_t, _BYTES, c_size_t, _CODES, c_size_t, _CODES, c_size_t, _CODES, c_size_t)
+_sheet_check = _entry("jgv_sheet_check", _Sheet, _BYTES, c_size_t, _BYTES, c_size_t)
+_sheet_write = _entry("jgv_sheet_write", _SheetLength, _BYTES, c_size_t, _ROOM, c_size_t)
 
 
 def cell_code(n: int, s: int, face: int, resolution: int, row: int, column: int) -> int:
@@ -443,3 +462,29 @@ def coverage_compare(first: bytes, second: bytes) -> Tuple[Listing, Listing, Lis
         Listing(seconds[: got.second_cells], got.second_size),
         Listing(boths[: got.both_cells], got.both_size),
     )
+
+
+def sheet_check(text: bytes, sheet: bytes) -> Optional[int]:
+    """Whether a neighbour sheet is the one that our rules make of a text: None on yes, on no the number of the first wrong record."""
+    got = _sheet_check(text, len(text), sheet, len(sheet))
+    return None if got.right else got.record
+
+
+def sheet_write(text: bytes) -> bytes:
+    """The neighbour sheet that our rules make of a text: 40 bytes for each whole cell."""
+    room = ctypes.create_string_buffer(40 * len(text))  # always enough
+    got = _sheet_write(text, len(text), room, len(room))
+    return room.raw[: got.length]
+
+
+def summary(text: bytes) -> Summary:
+    """A summary to be kept beside a text: its n and s, and how many finest cells of each cell of resolution 2 are covered."""
+    got = _summary(text, len(text))
+    return Summary(got.n, got.s, list(got.counters))
+
+
+def summary_ask(kept: Summary, code: int) -> bool:
+    """Whether all finest cells of a cell of resolution 0 to 2 are covered, by the counters of a summary: as the text answers."""
+    if len(kept.counters) != 486:
+        raise ValueError("a summary has 486 counters")
+    return _summary_ask(kept.n, kept.s, (c_uint64 * 486)(*kept.counters), code).covered == 1

@@ -256,9 +256,44 @@ def crews():
     print(f"coverage_compare: P(34(1)), n 0, and P(4), n 1 -> {another}")
 
 
+def sheet_told(text, sheet):
+    """What checking a sheet answers, as the tour shows it."""
+    try:
+        record = jgv.sheet_check(text, sheet)
+    except jgv.Refused as refused:
+        return f"refused with {refused.number} at place {refused.place}"
+    return "yes" if record is None else f"no, record {record}"
+
+
+def sheets():
+    """A partner's neighbour sheet: for each whole cell a record of five numbers, its code and its neighbours' up, right, down and left, low byte first."""
+    text = b"CVR\0\x0100P(34(1))"
+    sheet = jgv.sheet_write(text)
+    names = [code_name(int.from_bytes(sheet[at : at + 8], "little")) for at in range(0, len(sheet), 8)]
+    records = ", ".join(" ".join(names[at : at + 5]) for at in range(0, len(names), 5))
+    print(f"sheet_write: P(34(1)) -> {records}")
+    print(f"sheet_check: P(34(1)), as written -> {sheet_told(text, sheet)}")
+    exchanged = sheet[:48] + sheet[56:64] + sheet[48:56] + sheet[64:]  # up and right of P41
+    print(f"sheet_check: P(34(1)), two neighbours of P41 exchanged -> {sheet_told(text, exchanged)}")
+    print(f"sheet_check: P(34(1)), the record of P41 missing -> {sheet_told(text, sheet[:40])}")
+    print(f"sheet_check: P(34(1)), the record of P41 broken off -> {sheet_told(text, sheet[:79])}")
+    empty_list = b"CVR\0\x0100O()"
+    print(f"sheet_check: O(), as written for P(34(1)) -> {sheet_told(empty_list, sheet)}")
+
+
+def dispatch():
+    """A summary kept beside the text: dispatch asks whether a cell of resolution 0 to 2 is done, and the counters answer as the text would."""
+    kept = jgv.summary(b"CVR\0\x0100P(34(1))")
+    done = kept.counters.count(9**13)
+    print(f"summary: P(34(1)) -> n {kept.n}, s {kept.s}, {done} districts done, sum {sum(kept.counters)}")
+    for name in ("P3", "P41", "P4"):
+        print(f"summary_ask: P(34(1)), {name} -> {'yes' if jgv.summary_ask(kept, code_of(name)) else 'no'}")
+    print(f"summary_ask: P(34(1)), P418 -> {refusal(jgv.summary_ask, kept, code_of('P418'))}")
+
+
 if __name__ == "__main__":
     for part in (
         codes_and_names, families, shapes, plane, ground, neighbours, corners, coverage, additions, two_arrangements, handhelds, plotter, office,
-        crews,
+        crews, sheets, dispatch,
     ):
         part()

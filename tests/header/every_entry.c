@@ -48,6 +48,11 @@ DOUBLE(jgv_frame_answer, top, 32);
 ANSWER(jgv_compare, 64); UNSIGNED(jgv_compare, place, 8); UNSIGNED(jgv_compare, first_cells, 16); UNSIGNED(jgv_compare, second_cells, 24);
 UNSIGNED(jgv_compare, both_cells, 32); UNSIGNED(jgv_compare, first_size, 40); UNSIGNED(jgv_compare, second_size, 48);
 UNSIGNED(jgv_compare, both_size, 56);
+ANSWER(jgv_sheet, 32); UNSIGNED(jgv_sheet, place, 8); UNSIGNED(jgv_sheet, right, 16); UNSIGNED(jgv_sheet, record, 24);
+ANSWER(jgv_sheet_length, 24); UNSIGNED(jgv_sheet_length, place, 8); UNSIGNED(jgv_sheet_length, length, 16);
+ANSWER(jgv_summary_answer, 32 + 486 * 8); UNSIGNED(jgv_summary_answer, place, 8); UNSIGNED(jgv_summary_answer, n, 16); UNSIGNED(jgv_summary_answer, s, 24);
+UNSIGNED(jgv_summary_answer, counters[0], 32); UNSIGNED(jgv_summary_answer, counters[485], 32 + 485 * 8);
+ANSWER(jgv_summary_ask_answer, 16); UNSIGNED(jgv_summary_ask_answer, covered, 8);
 
 /* Counting checks. */
 static unsigned long passed, failed;
@@ -1072,6 +1077,103 @@ static void coverage_compare(void) {
     CHECK(got.first_cells | got.second_cells | got.both_cells, 0, "jgv_coverage_compare to no memory: cells");
 }
 
+#define SHEET(call, want_refusal, want_place, want_right, want_record) \
+    do {                                                     \
+        jgv_sheet got = (call);                              \
+        CHECK(got.refusal, want_refusal, #call ": refusal"); \
+        CHECK(got.place, want_place, #call ": place");       \
+        CHECK(got.right, want_right, #call ": right");       \
+        CHECK(got.record, want_record, #call ": record");    \
+    } while (0)
+
+/* 01: the neighbours up, right, down and left of P3, of P41, and of P0 at n = 0 and n = 1. */
+static const char *const two_records[] = {"P3", "P0", "P4", "P6", "O5", "P41", "P17", "P42", "P44", "P40"};
+static const char *const corner_record[] = {"P0", "N8", "P1", "P3", "O2"}, *const turned_record[] = {"P0", "N6", "P1", "P3", "O2"};
+
+/* 02: "five 64-bit numbers, low byte first". */
+static size_t put_sheet(uint8_t *sheet, uint64_t n, uint64_t s, const char *const *names, size_t count) {
+    for (size_t i = 0; i < 8 * count; i++)
+        sheet[i] = (uint8_t)(code_at(n, s, names[i / 8]) >> i % 8 * 8);
+    return 8 * count;
+}
+
+static void sheet_check(void) {
+    uint8_t sheet[121], spoilt[121];
+    size_t length = put_sheet(sheet, 0, 0, two_records, 10);
+    SHEET(jgv_sheet_check(TEXT(HEAD "P(34(1))"), sheet, length), 0, 0, 1, 0);
+    SHEET(jgv_sheet_check(TEXT(HEAD_2 "c" "P(34(1))"), sheet, length), 0, 0, 1, 0);
+    for (size_t i = 0; i < length; i++) { /* one bit of any byte wrong */
+        memcpy(spoilt, sheet, length);
+        spoilt[i] ^= (uint8_t)(1 << i % 8);
+        SHEET(jgv_sheet_check(TEXT(HEAD "P(34(1))"), spoilt, length), 0, 0, 0, i / 40);
+    }
+    for (size_t cut = 0; cut < length; cut++) /* a record missing, or broken off */
+        SHEET(jgv_sheet_check(TEXT(HEAD "P(34(1))"), sheet, cut), 0, 0, 0, cut / 40);
+    memset(sheet + length, 0, sizeof sheet - length);
+    for (size_t more = 1; more <= 41; more++) /* one too many */
+        SHEET(jgv_sheet_check(TEXT(HEAD "P(34(1))"), sheet, length + more), 0, 0, 0, 2);
+    memcpy(spoilt, sheet + 40, 40); /* not rising */
+    memcpy(spoilt + 40, sheet, 40);
+    SHEET(jgv_sheet_check(TEXT(HEAD "P(34(1))"), spoilt, length), 0, 0, 0, 0);
+    memcpy(spoilt, sheet, 40); /* twice */
+    SHEET(jgv_sheet_check(TEXT(HEAD "P(34(1))"), spoilt, length), 0, 0, 0, 1);
+    SHEET(jgv_sheet_check(TEXT("CVR\0\1" "01" "P(34(1))"), sheet, length), 0, 0, 0, 0); /* of another arrangement */
+    put_sheet(sheet, 0, 1, two_records, 10);
+    SHEET(jgv_sheet_check(TEXT("CVR\0\1" "01" "P(34(1))"), sheet, length), 0, 0, 1, 0);
+    length = put_sheet(sheet, 1, 0, corner_record, 5); /* the cap's turn counts */
+    SHEET(jgv_sheet_check(TEXT("CVR\0\1" "10" "P(0)"), sheet, length), 0, 0, 0, 0);
+    put_sheet(sheet, 1, 0, turned_record, 5);
+    SHEET(jgv_sheet_check(TEXT("CVR\0\1" "10" "P(0)"), sheet, length), 0, 0, 1, 0);
+    SHEET(jgv_sheet_check(TEXT(HEAD), NULL, 0), 0, 0, 1, 0);
+    SHEET(jgv_sheet_check(TEXT(HEAD), sheet, 1), 0, 0, 0, 0);
+    SHEET(jgv_sheet_check(TEXT(HEAD "P"), NULL, 0), 0, 0, 0, 0);
+    /* the text's refusals, whatever the sheet: the order is 13, 10, 9 */
+    SHEET(jgv_sheet_check(TEXT(HEAD "O()"), sheet, length), 9, 9, 0, 0);
+    SHEET(jgv_sheet_check(TEXT(HEAD "O(012345678)"), NULL, 0), 9, 18, 0, 0);
+    SHEET(jgv_sheet_check(TEXT("CVR\0\3" "00P"), sheet, length), 10, 0, 0, 0);
+    SHEET(jgv_sheet_check(long_text, LONGEST + 1, sheet, length), 13, 0, 0, 0);
+    SHEET(jgv_sheet_check(NULL, 0, sheet, length), 9, 0, 0, 0);
+}
+
+static void writes_sheet(const uint8_t *text, size_t length, size_t room, uint64_t n, uint64_t s, const char *const *names, size_t count) {
+    uint8_t want[80];
+    size_t bytes = put_sheet(want, n, s, names, count);
+    uint64_t *codes = lend_codes();
+    jgv_sheet_length got = jgv_sheet_write(text, length, (uint8_t *)codes, room);
+    CHECK(got.refusal, 0, "jgv_sheet_write: refusal");
+    CHECK(got.place, 0, "jgv_sheet_write: place");
+    CHECK(got.length, bytes, "jgv_sheet_write: length");
+    CHECK(memcmp(codes, want, bytes), 0, "jgv_sheet_write: bytes");
+    CHECK(code_strays(count), 0, "jgv_sheet_write: bytes about the sheet");
+}
+
+static void writes_no_sheet(const uint8_t *text, size_t length, size_t room, uint64_t refusal, uint64_t place) {
+    jgv_sheet_length got = jgv_sheet_write(text, length, (uint8_t *)lend_codes(), room);
+    CHECK(got.refusal, refusal, "jgv_sheet_write refused: refusal");
+    CHECK(got.place, place, "jgv_sheet_write refused: place");
+    CHECK(got.length, 0, "jgv_sheet_write refused: length");
+    CHECK(code_strays(0), 0, "jgv_sheet_write refused: lent bytes");
+}
+
+static void sheet_write(void) {
+    writes_sheet(TEXT(HEAD "P(34(1))"), 80, 0, 0, two_records, 10);
+    writes_sheet(TEXT(HEAD "P(34(1))"), 8 * ROOM, 0, 0, two_records, 10);
+    writes_sheet(TEXT("CVR\0\2" "23c" "P(34(1))"), 119, 2, 3, two_records, 10);
+    writes_sheet(TEXT("CVR\0\1" "00" "P(0)"), 40, 0, 0, corner_record, 5);
+    writes_sheet(TEXT("CVR\0\1" "10" "P(0)"), 40, 1, 0, turned_record, 5);
+    writes_sheet(TEXT(HEAD), 0, 0, 0, two_records, 0);
+    writes_no_sheet(TEXT(HEAD "P(34(1))"), 79, 8, 0);
+    writes_no_sheet(TEXT(HEAD "P(34(1))"), 40, 8, 0);
+    writes_no_sheet(TEXT(HEAD "P(34(1))"), 0, 8, 0);
+    writes_no_sheet(TEXT(HEAD "O()"), 0, 9, 9); /* the order is 13, 10, 9, 8 */
+    writes_no_sheet(TEXT(HEAD "O(012345678)"), 8 * ROOM, 9, 18);
+    writes_no_sheet(TEXT("CVR\0\3" "00P"), 0, 10, 0);
+    writes_no_sheet(long_text, LONGEST + 1, 0, 13, 0);
+    jgv_sheet_length got = jgv_sheet_write(TEXT(HEAD), NULL, 0);
+    CHECK(got.refusal, 0, "jgv_sheet_write to no memory: refusal");
+    CHECK(got.length, 0, "jgv_sheet_write to no memory: length");
+}
+
 /* Finest cells of N without the last child of any: nothing merges, each eight take eleven bytes and more, `d(01234567)`. */
 static void long_lists(void) {
     for (uint64_t i = 0; i < TOO_MANY; i++)
@@ -1227,6 +1329,86 @@ static void frame_grow(void) {
     }
 }
 
+/* 02 W-207: "486 counters, one for each resolution-2 cell, .. in code order". The number of one: its face and two digits read in base nine. */
+static size_t district(const char *name) {
+    return (size_t)((name[0] - 'N') * 81 + (name[1] - '0') * 9 + (name[2] - '0'));
+}
+
+static void sums_up_nothing(const uint8_t *text, size_t length, uint64_t refusal, uint64_t place) {
+    jgv_summary_answer got = jgv_summary(text, length);
+    uint64_t any = got.n | got.s;
+    for (size_t i = 0; i < 486; i++)
+        any |= got.counters[i];
+    CHECK(got.refusal, refusal, "jgv_summary refused: refusal");
+    CHECK(got.place, place, "jgv_summary refused: place");
+    CHECK(any, 0, "jgv_summary refused: n, s and counters");
+}
+
+#define SUMMARY_ASK(call, want_refusal, want) CHECK_ONE(jgv_summary_ask_answer, covered, call, want_refusal, want)
+
+static void summary(void) {
+    jgv_summary_answer kept = jgv_summary(TEXT("CVR\0\1" "21" "OP(34(1))S(00(0(8))8(8))"));
+    CHECK(kept.refusal, 9, "jgv_summary of a list that does not rise: refusal");
+    kept = jgv_summary(TEXT("CVR\0\1" "21" "OP(34(1))S(0(0(8))8(8))"));
+    CHECK(kept.refusal, 0, "jgv_summary: refusal");
+    CHECK(kept.place, 0, "jgv_summary: place");
+    CHECK(kept.n, 2, "jgv_summary: n");
+    CHECK(kept.s, 1, "jgv_summary: s");
+    for (size_t i = 0; i < 486; i++) {
+        uint64_t want = 0;
+        if (i >= district("O00") && i <= district("O88"))
+            want = NINE_13; /* all of O */
+        if (i >= district("P30") && i <= district("P38"))
+            want = NINE_13; /* all of P3 */
+        if (i == district("P41") || i == district("S88"))
+            want = NINE_13;
+        if (i == district("S00"))
+            want = NINE_13 / 9; /* S008 alone */
+        CHECK(kept.counters[i], want, "jgv_summary: a counter");
+    }
+    /* "yes exactly when each one inside the cell is 9^13" */
+    SUMMARY_ASK(jgv_summary_ask(2, 1, kept.counters, code_at(2, 1, "O")), 0, 1);
+    SUMMARY_ASK(jgv_summary_ask(2, 1, kept.counters, code_at(2, 1, "O5")), 0, 1);
+    SUMMARY_ASK(jgv_summary_ask(2, 1, kept.counters, code_at(2, 1, "P")), 0, 0);
+    SUMMARY_ASK(jgv_summary_ask(2, 1, kept.counters, code_at(2, 1, "P3")), 0, 1);
+    SUMMARY_ASK(jgv_summary_ask(2, 1, kept.counters, code_at(2, 1, "P4")), 0, 0);
+    SUMMARY_ASK(jgv_summary_ask(2, 1, kept.counters, code_at(2, 1, "P41")), 0, 1);
+    SUMMARY_ASK(jgv_summary_ask(2, 1, kept.counters, code_at(2, 1, "S00")), 0, 0);
+    SUMMARY_ASK(jgv_summary_ask(2, 1, kept.counters, code_at(2, 1, "S88")), 0, 1);
+    /* a counter that no text has */
+    kept.counters[district("P35")] = NINE_13 + 1;
+    SUMMARY_ASK(jgv_summary_ask(2, 1, kept.counters, code_at(2, 1, "P3")), 0, 0);
+    kept.counters[district("P35")] = NINE_13 + WIDE;
+    SUMMARY_ASK(jgv_summary_ask(2, 1, kept.counters, code_at(2, 1, "P35")), 0, 0);
+    SUMMARY_ASK(jgv_summary_ask(2, 1, kept.counters, code_at(2, 1, "P34")), 0, 1);
+    /* 5, 4, "2 for a finer cell asked, after 4", 14 */
+    SUMMARY_ASK(jgv_summary_ask(4, 1, kept.counters, code_at(2, 1, "O")), 5, 0);
+    SUMMARY_ASK(jgv_summary_ask(2, 4, kept.counters, code_at(2, 1, "O")), 5, 0);
+    SUMMARY_ASK(jgv_summary_ask(2 + WIDE, 1, kept.counters, code_at(2, 1, "O")), 5, 0);
+    SUMMARY_ASK(jgv_summary_ask(2, 1 + WIDE, kept.counters, code_at(2, 1, "O")), 5, 0);
+    SUMMARY_ASK(jgv_summary_ask(4, 4, kept.counters, no_code), 5, 0);
+    SUMMARY_ASK(jgv_summary_ask(2, 1, kept.counters, no_code), 4, 0);
+    SUMMARY_ASK(jgv_summary_ask(2, 1, kept.counters, code_at(2, 1, "O") + WIDE), 4, 0);
+    SUMMARY_ASK(jgv_summary_ask(2, 1, kept.counters, code_at(2, 1, "O00") + 256), 4, 0); /* a digit below the resolution */
+    SUMMARY_ASK(jgv_summary_ask(2, 1, kept.counters, code_at(2, 1, "O000")), 2, 0);
+    SUMMARY_ASK(jgv_summary_ask(2, 1, kept.counters, code_at(1, 2, "O000")), 2, 0); /* before 14 */
+    SUMMARY_ASK(jgv_summary_ask(2, 1, kept.counters, GREATEST), 2, 0);
+    SUMMARY_ASK(jgv_summary_ask(2, 1, kept.counters, code_at(1, 2, "O")), 14, 0);
+    SUMMARY_ASK(jgv_summary_ask(2, 1, kept.counters, code_at(2, 0, "O00")), 14, 0);
+    /* version 2, and texts that are none */
+    kept = jgv_summary(TEXT("CVR\0\2" "30b" "NQ(8)"));
+    CHECK(kept.refusal, 0, "jgv_summary of version 2: refusal");
+    CHECK(kept.n, 3, "jgv_summary of version 2: n");
+    CHECK(kept.s, 0, "jgv_summary of version 2: s");
+    CHECK(kept.counters[district("N00")], NINE_13, "jgv_summary of version 2: N00");
+    CHECK(kept.counters[district("Q88")], NINE_13, "jgv_summary of version 2: Q88");
+    CHECK(kept.counters[district("Q78")] | kept.counters[district("R00")], 0, "jgv_summary of version 2: others");
+    sums_up_nothing(TEXT(HEAD "O()"), 9, 9);
+    sums_up_nothing(NULL, 0, 9, 0);
+    sums_up_nothing(TEXT("CVR\0\3" "00"), 10, 0);
+    sums_up_nothing(long_text, LONGEST + 1, 13, 0);
+}
+
 /* What a change answers: the refusal, and the newest revision of the history that it hands back. */
 static jgv_history changed(jgv_history_answer got, uint64_t refusal, uint64_t newest, const char *call) {
     CHECK(got.refusal, refusal, call);
@@ -1336,6 +1518,9 @@ int main(void) {
     frame_grow();
     settings();
     coverage_compare();
+    sheet_check();
+    sheet_write();
+    summary();
     long_lists(); /* last, since it fills `long_text` and `many` */
     if (failed)
         printf("%lu checks failed\n", failed);

@@ -123,7 +123,7 @@ fn read(text: &[u8], mut visit: impl FnMut(usize, u64, bool)) -> Result<Heading,
 
 /// The same walk over a text that is known to be accepted.
 #[inline(always)]
-fn walk(text: &[u8], mut visit: impl FnMut(usize, u64)) {
+pub fn walk(text: &[u8], mut visit: impl FnMut(usize, u64)) {
     let (mut starts, mut depth) = ([0; 17], 0);
     let mut bytes = text[read_heading(text).body..].iter().peekable();
     while let Some(&byte) = bytes.next() {

@@ -8,6 +8,8 @@ pub mod coverage;
 pub mod fixes;
 pub mod neighbour;
 pub mod plotter;
+pub mod sheets;
+pub mod summary;
 pub mod writing;
 
 /// Powers of three and of nine.

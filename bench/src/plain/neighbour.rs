@@ -19,7 +19,7 @@ pub extern "C" fn neighbour(code: u64, direction: u64) -> Code {
     }
 }
 
-fn step(n: u64, s: u64, cell: Place, direction: u64) -> Place {
+pub fn step(n: u64, s: u64, cell: Place, direction: u64) -> Place {
     let last = THREE[cell.resolution as usize] - 1;
     let (row, column) = (cell.row, cell.column);
     match direction {

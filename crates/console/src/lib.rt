@@ -131,7 +131,9 @@ pub fn say_whole(x: u64) {
 fn say_meaning(refusal: u64) {
     match refusal {
         1 => say(b": a name starts with a letter N to S\n"),
-        2 => say(b": a resolution or a depth is 0 to 15, a name has at most 16 bytes\n"),
+        2 => say(
+            b": a resolution or a depth is 0 to 15, a summary's at most 2, a name has at most 16 bytes\n",
+        ),
         3 => say(b": after its letter a name has digits 0 to 8\n"),
         5 => say(b": n and s are 0 to 3\n"),
         6 => say(b": no fix, or a fix or an eccentricity out of range\n"),

@@ -1,5 +1,5 @@
-// coverage check FILE, coverage list FILE, coverage ask FILE NAME, coverage frame FILE SIDE, coverage write n s [depth]: reads and writes
-// coverage texts.
+// coverage check FILE, coverage list FILE, coverage ask FILE NAME, coverage frame FILE SIDE, coverage summary FILE [NAME], coverage sheet FILE [SHEET],
+// coverage write n s [depth]: reads and writes coverage texts.
 ghost use mathlib.Core.Path.{_≡_};
 ghost use Prim.Native.Nat.{_≤_};
 ghost use lib.ListN.{length, take};
@@ -19,6 +19,7 @@ use console::LineRead;
 use decimal::Whole;
 use listing::Listed;
 use reader::Checked;
+use sheet::Judged;
 use writing::Written;
 
 // What the first argument asks for.
@@ -27,6 +28,9 @@ enum Command {
     List,
     Ask,
     Frame,
+    Sheet,
+    Summary,
+    Question,
     Write,
     Unknown,
 }
@@ -67,12 +71,17 @@ struct Shown {
 
 fn usage() {
     console::say(b"usage: coverage check FILE | list FILE | ask FILE NAME | frame FILE SIDE\n");
+    console::say(b"       coverage sheet FILE > sheet | sheet FILE SHEET\n");
+    console::say(b"       coverage summary FILE [NAME]\n");
     console::say(b"       coverage write n s [depth] < names > text\n");
     console::say(b"  n and s are 0 to 3; names stand one a line, rising, none inside another;\n");
     console::say(
         b"  with a depth, 0 to 15, the text is for handhelds: N and S whole, nothing deeper\n",
     );
     console::say(b"  SIDE is a face's side in metres, 1 to 1073741824, such as 10007557.2\n");
+    console::say(
+        b"  a sheet has for each cell its code and its neighbours' up, right, down, left\n",
+    );
 }
 
 // The line to standard output, then what a refusal means to standard error.
@@ -376,6 +385,94 @@ fn frame_file(text: &[u8]) {
     );
 }
 
+// coverage sheet FILE: the sheet to standard output. Where the text is refused nothing goes there, and standard error says why.
+fn write_sheet(text: &[u8]) {
+    let mut out = [0u8; 65520];
+    let put = sheet_parts::put_sheet(text, &mut out);
+    show(
+        Shown {
+            end: put.end,
+            refusal: put.refusal,
+            place: put.place,
+        },
+        &out,
+    );
+}
+
+// The line of what checking a sheet answers; and what a refusal means.
+fn show_judged(judged: Judged) {
+    let mut out = [0u8; 24];
+    let end = sheet_parts::put_judged(judged, &mut out);
+    console::print_first(&out, end);
+    let Judged::Refused { refusal, place } = judged else {
+        return;
+    };
+    console::say_text(b"coverage", refusal, place);
+}
+
+// coverage sheet FILE SHEET. A sheet that cannot be opened counts as empty, and standard error says why.
+fn check_sheet(text: &[u8]) {
+    let mut path = io::buffer();
+    let n = os::arg(3, &mut path);
+    if os::errno() != 0 {
+        console::say_failure(b"coverage", b"SHEET");
+        show_judged(sheet::check(text, b""));
+        return;
+    }
+    let fd = os::open_read(&path[..n]);
+    if fd < 0 {
+        console::say_failure(b"coverage", &path[..n]);
+        show_judged(sheet::check(text, b""));
+        return;
+    }
+    let mut part = [0u8; 65520];
+    let judged = sheet_parts::judge_file(text, fd, &path[..n], &mut part);
+    libc::close(fd);
+    show_judged(judged);
+}
+
+fn sheet_file(text: &[u8]) {
+    if os::arg_count() == 3 {
+        write_sheet(text);
+        return;
+    }
+    check_sheet(text);
+}
+
+// coverage summary FILE.
+fn summary_file(text: &[u8]) {
+    let mut out = [0u8; 29160];
+    let put = districts::put_summary(text, &mut out);
+    show(
+        Shown {
+            end: put.end,
+            refusal: put.refusal,
+            place: put.place,
+        },
+        &out,
+    );
+}
+
+// coverage summary FILE NAME. A name that the room is too short for is over 16 bytes.
+fn question_file(text: &[u8]) {
+    let mut word = [0u8; 64];
+    let n = os::arg(3, &mut word);
+    if os::errno() != 0 {
+        refuse(2, 0);
+        return;
+    }
+    let mut out = [0u8; 21];
+    let put = districts::put_question(text, &word[..n], &mut out);
+    show(
+        Shown {
+            end: put.end,
+            refusal: put.refusal,
+            place: put.place,
+        },
+        &out,
+    );
+}
+
 fn list_file(text: &[u8]) {
     let mut codes = [0u64; 65536];
     let mut out = [0u8; 65536];
@@ -389,12 +486,15 @@ fn check_file(text: &[u8]) {
     show(shown, &out);
 }
 
-// The four commands that read a file.
+// The commands that read a file.
 fn answer(command: Command, text: &[u8]) {
     match command {
         Command::Check => check_file(text),
         Command::List => list_file(text),
         Command::Frame => frame_file(text),
+        Command::Sheet => sheet_file(text),
+        Command::Summary => summary_file(text),
+        Command::Question => question_file(text),
         _ => ask_file(text),
     }
 }
@@ -421,6 +521,15 @@ fn command_of(word: &[u8], arguments: usize) -> Command {
     }
     if check::same(word, b"frame") && arguments == 4 {
         return Command::Frame;
+    }
+    if check::same(word, b"sheet") && (arguments == 3 || arguments == 4) {
+        return Command::Sheet;
+    }
+    if check::same(word, b"summary") && arguments == 3 {
+        return Command::Summary;
+    }
+    if check::same(word, b"summary") && arguments == 4 {
+        return Command::Question;
     }
     if check::same(word, b"write") && (arguments == 4 || arguments == 5) {
         return Command::Write;

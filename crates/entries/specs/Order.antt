@@ -15,6 +15,10 @@ order = 19 ∷ 5 ∷ 2 ∷ 1 ∷ 3 ∷ 4 ∷ 6 ∷ 7 ∷ 12 ∷ 13 ∷ 10 ∷ 9 
 abbrev pub orderInWriting : List ℕ
 orderInWriting = 5 ∷ 2 ∷ 1 ∷ 3 ∷ 4 ∷ 6 ∷ 7 ∷ 12 ∷ 10 ∷ 9 ∷ 14 ∷ 11 ∷ 15 ∷ 13 ∷ 8 ∷ []
 
+-- in a question of a summary, "2 for a finer cell asked, after 4" (02, W-207)
+abbrev pub orderInSummary : List ℕ
+orderInSummary = 5 ∷ 4 ∷ 2 ∷ 14 ∷ []
+
 -- an entry's refusal numbers, each with the condition under which 01 gives it
 abbrev pub Chain : Type 1
 Chain = List (ℕ × Type 0)

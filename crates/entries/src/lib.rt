@@ -144,3 +144,33 @@ pub struct CompareAnswer {
     pub second_size: u64,
     pub both_size: u64,
 }
+
+#[repr(C)]
+pub struct SheetAnswer {
+    pub refusal: u64,
+    pub place: u64,
+    pub right: u64,
+    pub record: u64,
+}
+
+#[repr(C)]
+pub struct SheetLengthAnswer {
+    pub refusal: u64,
+    pub place: u64,
+    pub length: u64,
+}
+
+#[repr(C)]
+pub struct SummaryAnswer {
+    pub refusal: u64,
+    pub place: u64,
+    pub n: u64,
+    pub s: u64,
+    pub counters: [u64; 486],
+}
+
+#[repr(C)]
+pub struct SummaryAskAnswer {
+    pub refusal: u64,
+    pub covered: u64,
+}

@@ -13,12 +13,16 @@ ghost use Rattle.listing.specs.List.{listingRefusal, listed, codesIn};
 ghost use Rattle.asking.specs.Ask.{askRefusal, asked};
 ghost use Rattle.adding.specs.Add.{textWith, addRefusal, added, placed};
 ghost use Rattle.comparing.specs.Compare.{lists, sharedCodes, compareRefusal, compared, withCodes};
+ghost use Rattle.sheet.specs.Sheet.{sheetRefusal, sheetIn, written as sheetWritten};
+ghost use Rattle.sheet.specs.Verdict.{judgedOf};
 ghost use Rattle.entries.specs.Texts.{checkNumbers, listNumbers, askNumbers, writtenNumbers, addNumbers, compareNumbers};
 ghost use Rattle.writing.specs.Write.{asksFor, writeRefusal, textOf, textIn, written};
 ghost use Rattle.entries.specs.Entries.{arrangement, codedAnswer, codeAnswer, codeOfCell, codeCell, nameAnswer, writtenName, parentCode, childCode};
 ghost use Rattle.entries.specs.Entries.{cellSize, cellShape, cornerCount, cellSquare, cellNucleus, cellVertices, pointCode, neighbourCode, fixCode, groundFix};
 ghost use Rattle.entries.specs.Entries.{geodeticZ, geodeticCode, cornerCells};
+ghost use Rattle.entries.specs.Sheets.{sheetNumbers, sheetLengthNumbers};
 ghost use Rattle.entries.specs.Plotter.{markNumbers, frameNumbers, pointMarked, codeMarked, frameBegun, frameGrown};
+ghost use Rattle.entries.specs.Summary.{summaryOf, summaryAsked};
 ghost use Rattle.entries.specs.Settings.{freshHistory, changedHistory, backHistory, readSettings};
 use adding::Added;
 use asking::Asked;
@@ -43,8 +47,12 @@ use entries::MarkAnswer;
 use entries::NameAnswer;
 use entries::PointAnswer;
 use entries::ShapeAnswer;
+use entries::SheetAnswer;
+use entries::SheetLengthAnswer;
 use entries::SizeAnswer;
 use entries::SquareAnswer;
+use entries::SummaryAnswer;
+use entries::SummaryAskAnswer;
 use entries::VerticesAnswer;
 use entries::ZAnswer;
 use history::History;
@@ -57,6 +65,10 @@ use plotter::Frame;
 use plotter::Framed;
 use plotter::Mark;
 use reader::Checked;
+use sheet::Judged;
+use sheet::Written as SheetWritten;
+use summary::Questioned;
+use summary::Summarized;
 use writing::Written;
 
 // A code, or its refusal, as numbers.
@@ -765,6 +777,101 @@ pub extern "C" fn jgv_coverage_compare(
             first_size: 0,
             second_size: 0,
             both_size: 0,
+        },
+    }
+}
+
+// Whether a sheet is the one that our rules make of a text, and where not the first record that differs. 13, 10, 9 where the text is none.
+#[no_mangle]
+pub extern "C" fn jgv_sheet_check(text: &[u8], sheet: &[u8]) -> SheetAnswer
+    ensures { λ r. ⌜ r ≡ sheetNumbers (judgedOf (now (text .entry)) (now (sheet .entry))) ⌝ }
+{
+    match sheet::check(text, sheet) {
+        Judged::Right => SheetAnswer {
+            refusal: 0,
+            place: 0,
+            right: 1, // yes
+            record: 0,
+        },
+        Judged::Wrong(record) => SheetAnswer {
+            refusal: 0,
+            place: 0,
+            right: 0, // no
+            record,
+        },
+        Judged::Refused { refusal, place } => SheetAnswer {
+            refusal,
+            place,
+            right: 0, // neither
+            record: 0,
+        },
+    }
+}
+
+// The sheet that our rules make of a text. 13, 10, 9 where the text is none, 8 where the room is shorter than the sheet.
+#[no_mangle]
+pub extern "C" fn jgv_sheet_write(text: &[u8], sheet: &mut [u8]) -> SheetLengthAnswer
+    ensures { λ r. ⌜ r ≡ sheetLengthNumbers (sheetWritten (sheetRefusal (now (text .entry)) (length (now (sheet .entry)))) (now (text .entry))) ⌝ }
+    ensures { λ r. ⌜ now (sheet .exit) ≡ given (sheetRefusal (now (text .entry)) (length (now (sheet .entry)))) (sheetIn (now (text .entry)) (now (sheet .entry))) (now (sheet .entry)) ⌝ }
+{
+    match sheet::write(text, sheet) {
+        SheetWritten::Length(length) => SheetLengthAnswer {
+            refusal: 0,
+            place: 0, // of a sheet
+            length,
+        },
+        SheetWritten::Refused { refusal, place } => SheetLengthAnswer {
+            refusal,
+            place,
+            length: 0, // of a sheet that is refused
+        },
+    }
+}
+
+// 13, 10 and 9 as in checking.
+#[no_mangle]
+pub extern "C" fn jgv_summary(text: &[u8]) -> SummaryAnswer
+    ensures { λ r. ⌜ r ≡ summaryOf (now (text .entry)) ⌝ }
+{
+    let mut counters = [0u64; 486];
+    match summary::summarize(text, &mut counters) {
+        Summarized::Kept { north, south } => SummaryAnswer {
+            refusal: 0,
+            place: 0, // of a summary
+            n: north,
+            s: south,
+            counters,
+        },
+        Summarized::Refused { refusal, place } => SummaryAnswer {
+            refusal,
+            place,
+            n: 0, // of a text that is not summed up
+            s: 0,
+            counters,
+        },
+    }
+}
+
+// 5 where the kept n or s is above 3, 4 where the code is no cell's, 2 where its cell is finer than resolution 2, 14 where its arrangement is not the
+// kept one.
+#[no_mangle]
+pub extern "C" fn jgv_summary_ask(
+    n: u64,
+    s: u64,
+    counters: &[u64; 486],
+    code: u64,
+) -> SummaryAskAnswer
+    ensures { λ r. ⌜ r ≡ summaryAsked n s (now (counters .entry)) code ⌝ }
+{
+    let kept = Arrangement { north: n, south: s }; // `question` tests it
+    match summary::question(kept, counters, code) {
+        Questioned::Answer(covered) => SummaryAskAnswer {
+            refusal: 0,
+            covered: as_number(covered),
+        },
+        Questioned::Refused(refusal) => SummaryAskAnswer {
+            refusal,
+            covered: 0, // by counters that are not looked at
         },
     }
 }

@@ -6,7 +6,7 @@ ghost use lib.ListN.{length, drop};
 ghost use Rattle.decimal.specs.Decimal.{printed};
 ghost use Rattle.report.specs.Put.{Put};
 ghost use Rattle.report.specs.Answer.{answerLine};
-ghost use Rattle.report.specs.Names.{nameBytes, nameLine, NamesPut};
+ghost use Rattle.report.specs.Names.{nameBytes, NamesPut};
 ghost use Rattle.report.specs.Lines.{numberLine, fourNumbers, checkLine, askedLine};
 ghost use Rattle.report.specs.History.{settingsLine, revisionLine, keptNumber, historyLines};
 use asking::Asked;
@@ -18,13 +18,13 @@ use name::Named;
 use reader::Checked;
 
 // Puts a number in decimal and a byte after it from `at` on: where they end.
-fn put_number(x: u64, byte: u8, out: &mut [u8], at: usize) -> usize
+pub fn put_number(x: u64, byte: u8, out: &mut [u8], at: usize) -> usize
     requires { ⌜ at + 21 ≤ length (now out) ⌝ }
     ensures { λ r. ⌜ Put at (printed x ++ (byte ∷ [])) (now (out .entry)) (now (out .exit)) r ⌝ }
     ensures { λ r. ⌜ r ≤ at + 21 ⌝ }
 {
     let end = decimal::put_whole(x, out, at);
-    out[end] = byte;
+    out[end] = byte; // behind a number
     end + 1
 }
 
@@ -50,14 +50,14 @@ fn put_name(code: u64, room: &mut [u8]) -> usize
     }
 }
 
-// Puts the same and a line end from `at` on: where they end.
-fn put_name_line(code: u64, out: &mut [u8], at: usize) -> usize
+// Puts the same and a byte after it from `at` on: where they end.
+pub fn put_name_and(code: u64, byte: u8, out: &mut [u8], at: usize) -> usize
     requires { ⌜ at + 17 ≤ length (now out) ⌝ }
-    ensures { λ r. ⌜ Put at (nameLine code) (now (out .entry)) (now (out .exit)) r ⌝ }
+    ensures { λ r. ⌜ Put at (nameBytes code ++ (byte ∷ [])) (now (out .entry)) (now (out .exit)) r ⌝ }
     ensures { λ r. ⌜ r ≤ at + 17 ⌝ }
 {
     let end = at + put_name(code, &mut out[at..]);
-    out[end] = b'\n';
+    out[end] = byte; // behind a name
     end + 1
 }
 
@@ -68,7 +68,7 @@ pub fn put_answer(setting: Setting, line: &[u8], out: &mut [u8], at: usize) -> u
     ensures { λ r. ⌜ r ≤ at + 21 ⌝ }
 {
     match flight::line_code(setting, line) {
-        Coded::Code(code) => put_name_line(code, out, at),
+        Coded::Code(code) => put_name_and(code, b'\n', out, at),
         Coded::Refused(refusal) => put_number(refusal, b'\n', out, at),
     }
 }
@@ -101,7 +101,7 @@ pub fn put_names(codes: &[u64], out: &mut [u8]) -> Names
         if out.len() - end < 17 {
             return Names { count, end };
         }
-        end = put_name_line(codes[count], out, end);
+        end = put_name_and(codes[count], b'\n', out, end);
         count = count + 1;
     }
     Names { count, end }

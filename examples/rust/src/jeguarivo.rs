@@ -57,6 +57,9 @@ answers! {
     Compare at place { first_cells: u64, second_cells: u64, both_cells: u64, first_size: u64, second_size: u64, both_size: u64 }
     MarkAnswer { kind: u64, numbers: [f64; 4] }
     FrameAnswer { left: f64, bottom: f64, right: f64, top: f64 }
+    Sheet at place { right: u64, record: u64 }
+    SheetLength at place { length: u64 }
+    SummaryAsk { covered: u64 }
     HistoryAnswer { history: History }
     SettingsAnswer { settings: Settings }
 }
@@ -69,6 +72,32 @@ pub struct Frame {
     pub bottom: f64,
     pub right: f64,
     pub top: f64,
+}
+
+/// The summary of a text as the library gives it; its first field is the refusal.
+#[repr(C)]
+#[derive(Clone, Copy, Debug, PartialEq)]
+pub struct Summary {
+    pub refusal: u64,
+    pub place: u64,
+    pub n: u64,
+    pub s: u64,
+    /// How many finest cells of each cell of resolution 2 are covered, in code order; all of them are 9^13.
+    pub counters: [u64; 486],
+}
+
+impl Summary {
+    /// A refusal, with 0 in every other field.
+    pub fn refused(refusal: u64) -> Summary {
+        Summary { refusal, place: 0, n: 0, s: 0, counters: [0; 486] }
+    }
+    /// This answer, unless it is a refusal.
+    fn read(self) -> Answer<Summary> {
+        match self.refusal {
+            0 => Ok(self),
+            number => Err(Refused { number, place: self.place }),
+        }
+    }
 }
 
 /// What the plotter draws, in metres.
@@ -138,6 +167,10 @@ unsafe extern "C" {
         first: *const u8, first_length: usize, second: *const u8, second_length: usize,
         firsts: *mut u64, first_room: usize, seconds: *mut u64, second_room: usize, boths: *mut u64, both_room: usize,
     ) -> Compare;
+    pub fn jgv_sheet_check(text: *const u8, length: usize, sheet: *const u8, sheet_length: usize) -> Sheet;
+    pub fn jgv_sheet_write(text: *const u8, length: usize, sheet: *mut u8, room: usize) -> SheetLength;
+    pub fn jgv_summary(text: *const u8, length: usize) -> Summary;
+    pub safe fn jgv_summary_ask(n: u64, s: u64, counters: &[u64; 486], code: u64) -> SummaryAsk;
 }
 
 /// The entries that take memory, on slices. Each is safe: the library reads and writes lent memory within its length only.
@@ -183,6 +216,18 @@ pub mod lent {
                 firsts.as_mut_ptr(), firsts.len(), seconds.as_mut_ptr(), seconds.len(), boths.as_mut_ptr(), boths.len(),
             )
         }
+    }
+
+    pub fn sheet_check(text: &[u8], sheet: &[u8]) -> Sheet {
+        unsafe { jgv_sheet_check(text.as_ptr(), text.len(), sheet.as_ptr(), sheet.len()) }
+    }
+
+    pub fn sheet_write(text: &[u8], sheet: &mut [u8]) -> SheetLength {
+        unsafe { jgv_sheet_write(text.as_ptr(), text.len(), sheet.as_mut_ptr(), sheet.len()) }
+    }
+
+    pub fn summary(text: &[u8]) -> Summary {
+        unsafe { jgv_summary(text.as_ptr(), text.len()) }
     }
 }
 
@@ -385,4 +430,26 @@ pub fn coverage_compare<'a>(
         second_size: found.second_size,
         both_size: found.both_size,
     })
+}
+
+/// Whether a neighbour sheet is the one that our rules make of a text: nothing on yes, on no the number of the first wrong record.
+pub fn sheet_check(text: &[u8], sheet: &[u8]) -> Answer<Option<u64>> {
+    let checked = lent::sheet_check(text, sheet).read()?;
+    Ok((checked.right == 0).then_some(checked.record))
+}
+
+/// The neighbour sheet that our rules make of a text: 40 bytes for each whole cell.
+pub fn sheet_write<'a>(text: &[u8], sheet: &'a mut [u8]) -> Answer<&'a [u8]> {
+    let written = lent::sheet_write(text, sheet).read()?;
+    Ok(&sheet[..written.length as usize])
+}
+
+/// A text's summary: its n and s, and how many finest cells of each cell of resolution 2 are covered.
+pub fn summary(text: &[u8]) -> Answer<Summary> {
+    lent::summary(text).read()
+}
+
+/// Whether all finest cells of a cell of resolution 0 to 2 are covered, by the counters: as the text answers. Refused with 2 where the cell is finer.
+pub fn summary_ask(kept: &Summary, code: u64) -> Answer<bool> {
+    Ok(jgv_summary_ask(kept.n, kept.s, &kept.counters, code).read()?.covered == 1)
 }

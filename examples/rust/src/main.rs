@@ -340,6 +340,48 @@ fn crews() -> Answer<()> {
     Ok(())
 }
 
+fn told(checked: Answer<Option<u64>>) -> String {
+    match checked {
+        Ok(None) => "yes".to_string(),
+        Ok(Some(record)) => format!("no, record {record}"),
+        Err(refused) => format!("refused with {} at place {}", refused.number, refused.place),
+    }
+}
+
+/// A partner's neighbour sheet: for each whole cell a record of five numbers, its code and its neighbours' up, right, down and left, low byte first.
+fn sheets() -> Answer<()> {
+    let text = b"CVR\0\x0100P(34(1))";
+    let mut room = [0; 80];
+    let sheet = sheet_write(text, &mut room)?.to_vec();
+    let numbers = sheet.chunks(8).map(|bytes| u64::from_le_bytes(bytes.try_into().unwrap()));
+    let names = numbers.map(name_of).collect::<Answer<Vec<String>>>()?;
+    let records: Vec<String> = names.chunks(5).map(|record| record.join(" ")).collect();
+    println!("sheet_write: P(34(1)) -> {}", records.join(", "));
+    println!("sheet_check: P(34(1)), as written -> {}", told(sheet_check(text, &sheet)));
+    let mut exchanged = sheet.clone();
+    exchanged[48..64].rotate_left(8); // up and right of P41
+    println!("sheet_check: P(34(1)), two neighbours of P41 exchanged -> {}", told(sheet_check(text, &exchanged)));
+    println!("sheet_check: P(34(1)), the record of P41 missing -> {}", told(sheet_check(text, &sheet[..40])));
+    println!("sheet_check: P(34(1)), the record of P41 broken off -> {}", told(sheet_check(text, &sheet[..79])));
+    println!("sheet_check: O(), as written for P(34(1)) -> {}", told(sheet_check(b"CVR\0\x0100O()", &sheet)));
+    Ok(())
+}
+
+/// A summary kept beside the text: dispatch asks whether a cell of resolution 0 to 2 is done, and the counters answer as the text would.
+fn dispatch() -> Answer<()> {
+    let kept = summary(b"CVR\0\x0100P(34(1))")?;
+    let done = kept.counters.iter().filter(|&&count| count == 2_541_865_828_329).count(); // 9^13
+    let sum: u64 = kept.counters.iter().sum();
+    println!("summary: P(34(1)) -> n {}, s {}, {done} districts done, sum {sum}", kept.n, kept.s);
+    for name in ["P3", "P41", "P4", "P418"] {
+        match summary_ask(&kept, code_of(name)?) {
+            Ok(covered) => println!("summary_ask: P(34(1)), {name} -> {}", if covered { "yes" } else { "no" }),
+            refused => println!("summary_ask: P(34(1)), {name} -> {}", refusal(refused)),
+        }
+    }
+    Ok(())
+}
+
 fn main() -> Answer<()> {
     codes_and_names()?;
     families()?;
@@ -354,5 +396,7 @@ fn main() -> Answer<()> {
     handhelds()?;
     plotter()?;
     office()?;
-    crews()
+    crews()?;
+    sheets()?;
+    dispatch()
 }

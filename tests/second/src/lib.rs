@@ -3,9 +3,9 @@
 //! with the proved library, entry by entry. They prove nothing; the library's contracts do that.
 //!
 //! RATTLE_LIBS names the folder of libjeguarivo.a: `cargo test --release --offline`. Without it
-//! the tests `grid`, `straight`, `ground`, `ellipsoid`, `coverage`, `plotter`, `crews` and `settings` fail, and without
-//! RATTLE_BIN, the folder of the proved programs, the tests `programs`, `frame_program` and `office`; the others try
-//! this program alone.
+//! the tests `grid`, `straight`, `ground`, `ellipsoid`, `coverage`, `plotter`, `crews`, `settings`, `summary` and `sheets`
+//! fail, and without RATTLE_BIN, the folder of the proved programs, the tests `programs`, `frame_program` and `office`; the
+//! others try this program alone.
 //! SECOND_SEED sets another seed for the inputs.
 //!
 //! - `grid`: names, codes, the plane, shapes, neighbours, cells that meet at a corner
@@ -14,6 +14,8 @@
 //! - `coverage`: the coverage text: check, list, write, ask
 //! - `plotter`: metres, marks and frames for the plotter (request W-214), with no doubles computed
 //! - `crews`: what two coverage texts cover (request W-205)
+//! - `sheets`: a partner's neighbour sheets (request W-211)
+//! - `summary`: the counters kept beside a text, and questions answered from them (request W-207)
 //! - `proved`: the proved library's entries, as examples/rust declares them
 //! - `straight`: straight lines through cells (request W-212)
 //! - `settings`: settings with a past, and a history as bytes (request W-209)
@@ -36,6 +38,8 @@ pub mod plotter;
 #[cfg(proved)]
 pub mod proved;
 pub mod random;
+pub mod sheets;
 pub mod settings;
 pub mod straight;
+pub mod summary;
 pub mod texts;

@@ -6,13 +6,15 @@ use crate::coverage::{Asked, Checked, Refused, TextAnswer};
 use crate::crews::Compared;
 use crate::grid::{self, Answer, Place};
 use crate::plotter::{Edges, Mark};
+use crate::summary::Summary as Kept;
 use jeguarivo::{
     Add, Ask, Cell, Check, Code, Compare, Count, Fix, Length, List, Name, Point, Shape, Size,
 };
-use jeguarivo::{Frame, FrameAnswer, MarkAnswer, Square, Vertices, Z};
+use jeguarivo::{Frame, FrameAnswer, MarkAnswer, Sheet, SheetLength, Square, Vertices, Z};
 use std::fmt::Debug;
 
-pub use jeguarivo::lent::{code_name, corner_cells, name_code};
+pub use jeguarivo::lent::{code_name, corner_cells, name_code, summary};
+pub use jeguarivo::{Summary, SummaryAsk};
 pub use jeguarivo::{
     jgv_cell_code as cell_code, jgv_child as child, jgv_code_cell as code_cell,
     jgv_corner_count as corner_count, jgv_fix_code as fix_code, jgv_frame_first as frame_first,
@@ -20,7 +22,7 @@ pub use jeguarivo::{
     jgv_ground_nucleus as ground_nucleus, jgv_mark_code as mark_code, jgv_mark_point as mark_point,
     jgv_neighbour as neighbour, jgv_nucleus as nucleus, jgv_parent as parent,
     jgv_point_code as point_code, jgv_shape as shape, jgv_size as size, jgv_square as square,
-    jgv_vertices as vertices,
+    jgv_summary_ask as summary_ask, jgv_vertices as vertices,
 };
 
 /// With the frame as its four edges.
@@ -49,6 +51,11 @@ pub mod coverage {
         coverage_add as add, coverage_ask as ask, coverage_check as check,
         coverage_compare as compare, coverage_list as list, coverage_write as write,
     };
+}
+
+/// The sheet entries.
+pub mod sheets {
+    pub use jeguarivo::lent::{sheet_check as check, sheet_write as write};
 }
 
 /// An answer of the proved library that is like one of the second program.
@@ -103,6 +110,11 @@ like! {
         first_cells: of.cells[0], second_cells: of.cells[1], both_cells: of.cells[2],
         first_size: of.sizes[0], second_size: of.sizes[1], both_size: of.sizes[2]
     };
+    Sheet at place, TextAnswer<Option<u64>>, record =>
+        { right: u64::from(record.is_none()), record: record.unwrap_or(0) };
+    SheetLength at place, TextAnswer<u64>, length => { length: length };
+    Summary at place, TextAnswer<Kept>, of => { n: of.n, s: of.s, counters: of.counters };
+    SummaryAsk, Answer<bool>, covered => { covered: u64::from(covered) };
 }
 
 /// An answer together with the lent bytes or codes after it.

@@ -202,6 +202,14 @@ module _ (c x : Cell) (v : IsCell c) (w : IsCell x) where
       (⊎-elim (λ e. same-face h e) (λ l. inr (inr (apart c x v l))))
       (three-ways (x .face) (c .face))
 
+-- cells of which neither lies inside the other have no finest cell in common
+pub apart-ranges : (q p : Cell) → IsCell q → IsCell p → (Inside q p → ⊥) → (Inside p q → ⊥) → (endOf p ≤ startOf q) ⊎ (endOf q ≤ startOf p)
+apart-ranges q p v w a b =
+    ⊎-elim
+    (λ h. ⊎-elim (λ i. absurd (b i)) (⊎-elim (λ l. inr l) (λ l. inl l)) (nested-or-apart p q w v (omega arith)))
+    (λ h. ⊎-elim (λ i. absurd (a i)) (λ s. s) (nested-or-apart q p v w h))
+    (lt-or (p .resolution) (q .resolution))
+
 -- the test tells exactly that
 module _ (c x : Cell) where
   pub lies-within : liesWithin c x ≡ true → Within c x

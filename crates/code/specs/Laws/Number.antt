@@ -10,9 +10,9 @@ use borrow.Author.Tests.{eq-eqb, lt-ltb}
 use Rattle.ternary.specs.Laws.Powers.{nine-split, nine-pos}
 use Rattle.cell.specs.declared.Cell.{Cell}
 use Rattle.cell.specs.declared.Arrangement.{Arrangement}
-use Rattle.cell.specs.Cell.{IsCell}
-use Rattle.code.specs.Code.{pathOf, cellCode, cellCoded, isCellCode, codeOf, sizeOf}
-use Rattle.code.specs.Laws.Code.{coded-is-cell}
+use Rattle.cell.specs.Cell.{IsCell, IsArrangement}
+use Rattle.code.specs.Code.{pathOf, cellCode, cellCoded, isCellCode, codeOf, cellOf, isCode, sizeOf}
+use Rattle.code.specs.Laws.Code.{coded-is-cell, cell-part}
 use Rattle.code.specs.Inside.{startOf, endOf}
 use Rattle.code.specs.Laws.Inside.{start-code, start-coded}
 use Rattle.code.specs.Number.{numberOf, startAs, endAs, cellCodeAs, codeAs, cellAs}
@@ -92,3 +92,13 @@ module _ (k n : ℕ) (h : k ≤ 15) (l : n < 6 * 9 ^ k) where
 
   pub as-start : startOf (cellAs k n) ≡ startAs k n
   as-start = sym (start-coded (cellCodeAs k n) code-good) ∙ quotient
+
+  -- its code, in an arrangement
+  module _ {a : Arrangement} (g : IsArrangement a) where
+    pub as-code : isCode (codeAs a k n) ≡ true
+    unfolding isCode codeAs
+    as-code = ap isCellCode (cell-part g (cellCodeAs k n)) ∙ code-good
+
+    pub as-cell : cellOf (codeAs a k n) ≡ cellAs k n
+    unfolding cellOf codeAs
+    as-cell = ap cellCoded (cell-part g (cellCodeAs k n))

@@ -5,10 +5,10 @@ use mathlib.Core.Bool.{Bool, true, false, _&&_, _||_}
 use Prim.Native.Nat.{ℕ, zero, suc, _+_, _*_, _≤_, _<_}
 use native.Mathlib.Nat.{suc-mul, zero-mul}
 use native.Mathlib.Omega.{arith}
-use lib.Dec.{leb}
+use lib.Dec.{leb, ltb}
 use lib.ListN.{length, getD}
-use borrow.Author.Tests.{le-leb, lt-leb, lt-ltb, le-ltb}
-use Rattle.logic.specs.Laws.Bools.{clash, and-none}
+use borrow.Author.Tests.{le-leb, lt-leb, leb-true, lt-ltb, le-ltb, ltb-true}
+use Rattle.logic.specs.Laws.Bools.{clash, and-left, and-right, and-none}
 use Rattle.logic.specs.Laws.Order.{lt-or}
 use Rattle.counting.specs.Count.{total, bit, countOf, between, tabulate, sumOf}
 
@@ -109,6 +109,10 @@ between-below low high y a = rw (lt-leb low y a)
 pub between-above : (low high y : ℕ) → high ≤ y → between low high y ≡ false
 between-above low high y a = ap (λ (b : Bool). leb low y && b) (le-ltb y high a) ∙ and-none (leb low y)
 
+pub in-between : (low high y : ℕ) → between low high y ≡ true → (low ≤ y) × (y < high)
+in-between low high y e =
+    (leb-true low y (and-left (leb low y) (ltb y high) e), ltb-true y high (and-right (leb low y) (ltb y high) e))
+
 -- z numbers that lie among the n from `from` on: a before them, b behind
 pub count-between : (a z b from : ℕ) → countOf (a + (z + b)) from (between (from + a) (from + a + z)) ≡ z
 count-between a z b from =
@@ -121,6 +125,24 @@ count-between a z b from =
     total-same z (λ j. f (a + j)) (λ j. 1) (λ j l. ap bit (between-in (from + a) (from + a + z) (from + (a + j)) (omega arith) (omega arith))) ∙ total-one z in
     let behind : total b (λ j. f (a + (z + j))) ≡ 0 =
     total-same b (λ j. f (a + (z + j))) (λ j. 0) (λ j l. ap bit (between-above (from + a) (from + a + z) (from + (a + (z + j))) (omega arith))) ∙ total-zero b in
+    omega arith
+
+-- of those, the ones that pass a test
+pub count-part : (a z b : ℕ) (test : ℕ → Bool) → countOf (a + (z + b)) 0 (λ y. between a (a + z) y && test y) ≡ countOf z a test
+count-part a z b test =
+    let among : ℕ → Bool = λ y. between a (a + z) y && test y in
+    let f : ℕ → ℕ = λ j. bit (among (0 + j)) in
+    let e : total (a + (z + b)) f ≡ total a f + (total z (λ j. f (a + j)) + total b (λ j. f (a + (z + j)))) =
+    total-add a (z + b) f ∙ ap (λ (x : ℕ). total a f + x) (total-add z b (λ j. f (a + j))) in
+    let before : total a f ≡ 0 = count-none a 0 among (λ y l h. ap (λ (t : Bool). t && test y) (between-below a (a + z) y (omega arith))) in
+    let inside : total z (λ j. f (a + j)) ≡ countOf z a test =
+    total-same z (λ j. f (a + j)) (λ j. bit (test (a + j)))
+    (λ j l.
+    let i : 0 + (a + j) ≡ a + j = omega arith in
+    ap (λ (x : ℕ). bit (among x)) i ∙ ap (λ (t : Bool). bit (t && test (a + j))) (between-in a (a + z) (a + j) (omega arith) (omega arith))) in
+    let behind : total b (λ j. f (a + (z + j))) ≡ 0 =
+    total-same b (λ j. f (a + (z + j))) (λ j. 0)
+    (λ j l. ap (λ (t : Bool). bit (t && test (0 + (a + (z + j))))) (between-above a (a + z) (0 + (a + (z + j))) (omega arith))) ∙ total-zero b in
     omega arith
 
 -- ---- a list of n values

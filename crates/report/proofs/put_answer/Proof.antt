@@ -12,8 +12,8 @@ line-code-requires c κs = search needs
 enum-known-code : tie.Need-enum-known-code
 enum-known-code c = search needs
 
-put-name-line-requires : tie.Need-put-name-line-requires
-put-name-line-requires c κs = search needs
+put-name-and-requires : tie.Need-put-name-and-requires
+put-name-and-requires c κs = search needs
 
 enum-known-refusal : tie.Need-enum-known-refusal
 enum-known-refusal c = search needs
@@ -28,7 +28,7 @@ returns : tie.Need-returns
 returns c =
     let l = c .before .before .before .before .before .before .before in
     let a = l .before .before .before .args in
-    let q = c .before .before .put-name-line .ensures in
+    let q = c .before .before .put-name-and .ensures in
     (put-as (answer-name (a .setting) (a .line .now) _ (sym (l .line-code .ensures) ∙ c .before .before .before .before .before .code .given .1)) (q .0), omega (arith, q .1))
 
 same-length-2 : tie.Need-same-length-2
@@ -47,7 +47,7 @@ put-answer-spec =
     (tie.spec
     line-code-requires
     enum-known-code
-    put-name-line-requires
+    put-name-and-requires
     enum-known-refusal
     put-number-requires
     same-length

@@ -33,14 +33,14 @@ returns c =
     let v = c .before .before .loop .inv in
     record { count = v .0; put = v .1; within = v .2; most = inr (omega (arith, v .3)) }
 
-mul-put-name-line : tie.Need-mul-put-name-line Inv-loop μ-loop
-mul-put-name-line c = search needs
+mul-put-name-and : tie.Need-mul-put-name-and Inv-loop μ-loop
+mul-put-name-and c = search needs
 
-shared-slice-read-put-name-line : tie.Need-shared-slice-read-put-name-line Inv-loop μ-loop
-shared-slice-read-put-name-line c = search needs
+shared-slice-read-put-name-and : tie.Need-shared-slice-read-put-name-and Inv-loop μ-loop
+shared-slice-read-put-name-and c = search needs
 
-put-name-line-requires : tie.Need-put-name-line-requires Inv-loop μ-loop
-put-name-line-requires c κs = search needs
+put-name-and-requires : tie.Need-put-name-and-requires Inv-loop μ-loop
+put-name-and-requires c κs = search needs
 
 add-count : tie.Need-add-count Inv-loop μ-loop
 add-count c = search needs
@@ -52,7 +52,7 @@ loop-again : tie.Need-loop-again Inv-loop μ-loop
 loop-again c =
     let l = c .before .before .before .before .before .before .before .loop in
     let a = c .before .before .before .before .before .before .before .before .before .before .args in
-    let q = c .before .before .put-name-line .ensures in
+    let q = c .before .before .put-name-and .ensures in
     (omega arith, put-as (name-more (a .codes .now) (l .count) (omega arith)) (then-put (l .inv .1) (l .inv .2) (q .0)), omega (arith, q .1), search needs)
 
 same-length-2 : tie.Need-same-length-2 Inv-loop μ-loop
@@ -73,9 +73,9 @@ put-names-spec =
     sub-if1
     same-length
     returns
-    mul-put-name-line
-    shared-slice-read-put-name-line
-    put-name-line-requires
+    mul-put-name-and
+    shared-slice-read-put-name-and
+    put-name-and-requires
     add-count
     loop-less
     loop-again

@@ -1,4 +1,4 @@
--- `put_name_line` meets its contract: the line feed stands where the name ends. Assumes nothing.
+-- `report::put_name_and` meets its contract: the byte stands where the name ends. Assumes nothing.
 use mathlib.Core.Path.{ap}
 use Prim.Native.Nat.{ℕ, _+_}
 use Rattle.report.specs.Names.{nameBytes}
@@ -6,8 +6,8 @@ use Rattle.report.specs.Laws.Put.{then-byte}
 use Rattle.report.specs.Laws.Part.{part-room, part-put}
 use native.Mathlib.Omega.{arith}
 use borrow.Author.Needs.{needs}
-use Rattle.report.proofs.put_name_line.Statement.{statement}
-use Rattle.report.proofs.put_name_line.Tie as tie
+use Rattle.report.proofs.put_name_and.Statement.{statement}
+use Rattle.report.proofs.put_name_and.Tie as tie
 
 sub-put-name : tie.Need-sub-put-name
 sub-put-name c = search needs
@@ -39,10 +39,10 @@ returns c =
     let q = c .before .before .put-name .ensures in
     let e = ap (λ (x : ℕ). a .at + x) (q .0) in
     let f = part-put (a .out .now) (a .at) (omega arith) (nameBytes (a .code)) (q .1 .1) in
-    (then-byte (a .at) (nameBytes (a .code)) (a .out .now) 10 e f (omega (arith, q .1 .0)), omega (arith, q .1 .0))
+    (then-byte (a .at) (nameBytes (a .code)) (a .out .now) (a .byte) e f (omega (arith, q .1 .0)), omega (arith, q .1 .0))
 
-pub put-name-line-spec : {M : Type 1} → statement M
-put-name-line-spec =
+pub put-name-and-spec : {M : Type 1} → statement M
+put-name-and-spec =
     tie.close
     (tie.spec
     sub-put-name

@@ -1,0 +1,2 @@
+pub mod Districts
+pub mod Question

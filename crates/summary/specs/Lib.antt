@@ -1,0 +1,4 @@
+pub mod Gain
+pub mod Internal
+pub mod Laws
+pub mod Summary
