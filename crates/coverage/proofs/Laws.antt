@@ -15,12 +15,11 @@ use Rattle.logic.specs.Refusal.{refuse, given, _otherwise_}
 use Rattle.logic.specs.Laws.Refusal.{stops, passes, both, allowed}
 use Rattle.code.specs.declared.Coded.{Coded}
 use Rattle.code.specs.declared.Coded.the-variants as coded-as
-use Rattle.code.specs.Code.{coded, codeIn, refusalIn, isCode, isOf, cellOf, arrangementOf}
-use Rattle.code.specs.Laws.Code.{arrangement-of, arrangement-code, code-is-cell, code-passes}
+use Rattle.code.specs.Code.{coded, codeIn, refusalIn, isCode, isOf}
+use Rattle.code.specs.Laws.Code.{code-passes}
 use Rattle.decimal.specs.Decimal.{trimmed}
 use Rattle.decimal.specs.Laws.Long.{trimmed-length, trimmed-take}
 use Rattle.name.specs.Name.{nameRefusal, nameCode, firstLetter, allDigits}
-use Rattle.name.specs.Laws.Name.{accepted, name-code, name-code-is, code-name}
 use Rattle.lines.specs.Fold.{OfBytes, OfEnded}
 use Rattle.lines.specs.Laws.Fold.{then-line, then-last, then-none}
 use Rattle.console.specs.declared.LineRead.the-variants.{Line, Last}
@@ -47,6 +46,7 @@ use Rattle.coverage.specs.declared.Taken.the-variants as taken-as
 use Rattle.coverage.specs.declared.NamesRead.the-variants as read-as
 use Rattle.coverage.specs.Names.{Names, read, stopped, namedOr, withName, NameTaken, AllTaken}
 use Rattle.coverage.specs.Own.{Own}
+use Rattle.coverage.specs.Laws.Asked.{named-code, named-in}
 use Rattle.console.specs.Names.{NamesWritten}
 use Rattle.coverage.specs.Printed.{askedName, ListWritten, TextWritten, NamesText}
 
@@ -188,15 +188,7 @@ module _ (t name : List ℕ) (a : Arrangement) (o : Own t a) (e : nameRefusal na
   code = nameCode a name
 
   is-code : isCode code ≡ true
-  is-code = name-code-is name (o .arranged) (accepted name e)
-
-  -- the code of a name is of the arrangement that the name was read in
-  named-in : isOf a code ≡ true
-  named-in =
-      arrangement-of a code (
-      ap arrangementOf (ap (nameCode a) (sym (code-name name (o .arranged) (accepted name e))) ∙ name-code a (cellOf code))
-      ∙ arrangement-code (o .arranged) (cellOf code) (code-is-cell code is-code)
-      )
+  is-code = named-code a (o .arranged) name e
 
   own-asked : asked (askRefusal t code) t code ≡ askedName t name
   unfolding askedName askRefusal asked
@@ -206,7 +198,7 @@ module _ (t name : List ℕ) (a : Arrangement) (o : Own t a) (e : nameRefusal na
       go zero i =
           let own = o .own i in
           ap (λ (y : ℕ). asked y t code)
-          (passes _ (code-passes code is-code) ∙ passes _ i ∙ ap (λ (b : Arrangement). refuse (not (isOf b code)) 14) (sym own) ∙ ap (λ (b : Bool). refuse (not b) 14) named-in)
+          (passes _ (code-passes code is-code) ∙ passes _ i ∙ ap (λ (b : Arrangement). refuse (not (isOf b code)) 14) (sym own) ∙ ap (λ (b : Bool). refuse (not b) 14) (named-in a (o .arranged) name e))
           ∙ ap (λ (b : Arrangement). asked 0 t (nameCode b name)) own
           ∙ sym (ap (λ (y : ℕ). asked y t (nameCode (textArrangement t) name)) (passes _ e ∙ i))
       go (suc q) i =

@@ -4,7 +4,7 @@ use mathlib.Core.List.{List}
 use Prim.Native.Nat.{ℕ, zero, suc}
 use native.Mathlib.Omega.{arith}
 use Rattle.logic.specs.Refusal.{_otherwise_}
-use Rattle.logic.specs.Laws.Refusal.{stops, passes}
+use Rattle.logic.specs.Laws.Refusal.{stops, passes, given-value, given-none}
 use Rattle.cell.specs.declared.Arrangement.{Arrangement}
 use Rattle.cell.specs.Cell.{IsArrangement}
 use Rattle.code.specs.declared.Coded.{Coded}
@@ -14,7 +14,7 @@ use Rattle.name.specs.Name.{nameRefusal, nameCode}
 use Rattle.reading.specs.Ground.{wholeCells}
 use Rattle.reading.specs.TextReading.{nodesOf, textArrangement}
 use Rattle.reading.specs.Laws.TextReading.{text-arranged}
-use Rattle.reader.specs.Check.{textRefusal}
+use Rattle.reader.specs.Check.{textRefusal, placeWith}
 use Rattle.reader.specs.Laws.Answer.{text-read}
 use Rattle.report.specs.Lines.{numberLine}
 use Rattle.summary.specs.declared.Summarized.{Summarized}
@@ -22,7 +22,7 @@ use Rattle.summary.specs.declared.Summarized.the-variants as summarized-as
 use Rattle.summary.specs.declared.Questioned.{Questioned}
 use Rattle.summary.specs.Summary.{countersOf, summarized, questionRefusal, questioned}
 use Rattle.summary.specs.Laws.Answer.{kept-text}
-use Rattle.districts.specs.Question.{keptArrangement, nameQuestionRefusal, questionedName, questionLine, refusalOf}
+use Rattle.districts.specs.Question.{keptArrangement, nameQuestionRefusal, questionPlace, questionedName, questionLine, refusalOf}
 
 -- what is kept is an arrangement
 pub kept-arranged : (t : List ℕ) {x : Summarized} → x ≡ summarized (textRefusal t) t → IsArrangement (keptArrangement x)
@@ -61,9 +61,21 @@ module _ (t name : List ℕ) where
         let k = as-refusal (nameRefusal name) (nameCode a name) r (sym e ∙ f) in
         (stops (nameRefusal name) _ (λ z. k .1 (sym (k .0) ∙ z)) ∙ k .0, k .1)
 
+    -- a name's refusal has no place
+    pub no-name-place : {r : ℕ} → x ≡ coded-as.Refused r → 0 ≡ questionPlace t name
+    unfolding questionPlace
+    no-name-place {r} f =
+        let k = as-refusal (nameRefusal name) (nameCode a name) r (sym e ∙ f) in
+        sym (given-none (nameRefusal name) (placeWith (textRefusal t) t) 0 (λ z. k .1 (sym (k .0) ∙ z)))
+
     module _ {code : ℕ} (f : x ≡ coded-as.Code code) where
       named : (nameRefusal name ≡ 0) × (nameCode a name ≡ code)
       named = as-code (nameRefusal name) (nameCode a name) code (sym e ∙ f)
+
+      -- behind a good name it is the text's
+      pub name-place : placeWith (textRefusal t) t ≡ questionPlace t name
+      unfolding questionPlace
+      name-place = sym (given-value (placeWith (textRefusal t) t) 0 (named .0))
 
       pub no-text : {r : ℕ} → textRefusal t ≡ r → (r ≡ 0 → ⊥) → (nameQuestionRefusal t name ≡ r) × (r ≡ 0 → ⊥)
       unfolding nameQuestionRefusal

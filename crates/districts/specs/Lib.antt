@@ -1,2 +1,3 @@
 pub mod Districts
+pub mod Laws
 pub mod Question

@@ -2,12 +2,12 @@
 use mathlib.Core.Bool.{true, false}
 use mathlib.Core.List.{List, [], _∷_}
 use Prim.Native.Nat.{ℕ}
-use Rattle.logic.specs.Refusal.{_otherwise_}
+use Rattle.logic.specs.Refusal.{_otherwise_, given}
 use Rattle.cell.specs.declared.Arrangement.{Arrangement}
 use Rattle.name.specs.Name.{nameRefusal, nameCode}
 use Rattle.reading.specs.Ground.{wholeCells}
 use Rattle.reading.specs.TextReading.{nodesOf, textArrangement}
-use Rattle.reader.specs.Check.{textRefusal}
+use Rattle.reader.specs.Check.{textRefusal, placeWith}
 use Rattle.report.specs.Lines.{numberLine}
 use Rattle.summary.specs.declared.Summarized.{Summarized}
 use Rattle.summary.specs.declared.Summarized.the-variants as summarized-as
@@ -22,6 +22,10 @@ keptArrangement (summarized-as.Refused refusal place) = record { north = 0; sout
 -- the name's refusal, otherwise the text's, otherwise that of the question in the text's own arrangement
 unfoldable pub nameQuestionRefusal : (t name : List ℕ) → ℕ
 nameQuestionRefusal t name = nameRefusal name otherwise textRefusal t otherwise questionRefusal (textArrangement t) (nameCode (textArrangement t) name)
+
+-- the text's place with its 9, and 0 with any other number
+unfoldable pub questionPlace : (t name : List ℕ) → ℕ
+questionPlace t name = given (nameRefusal name) (placeWith (textRefusal t) t) 0
 
 unfoldable pub questionedName : (t name : List ℕ) → Questioned
 unfolding nameQuestionRefusal

@@ -3,12 +3,12 @@ ghost use mathlib.Core.Path.{_≡_};
 ghost use Prim.Native.Nat.{_+_, _≤_, _<_, _^_};
 ghost use lib.ListN.{length, getD};
 ghost use Rattle.cell.specs.Cell.{IsArrangement};
-ghost use Rattle.reader.specs.Check.{textRefusal};
+ghost use Rattle.reader.specs.Check.{textRefusal, placeWith};
 ghost use Rattle.report.specs.Put.{Put};
 ghost use Rattle.summary.specs.declared.Questioned.the-variants.{Answer};
 ghost use Rattle.report.specs.Lines.{numberLine};
 ghost use Rattle.districts.specs.Districts.{shareLine, districtLine, districtLines, summaryLines, AtMostFull};
-ghost use Rattle.districts.specs.Question.{keptArrangement, nameQuestionRefusal, questionedName, questionLine, refusalOf};
+ghost use Rattle.districts.specs.Question.{keptArrangement, nameQuestionRefusal, questionPlace, questionedName, questionLine, refusalOf};
 use cell::Arrangement;
 use code::Coded;
 use summary::Questioned;
@@ -80,12 +80,12 @@ pub fn put_districts(arrangement: Arrangement, counters: &[u64; 486], out: &mut 
 fn refused(refusal: u64, place: u64, out: &mut [u8]) -> LinesPut
     requires { ⌜ 21 ≤ length (now out) ⌝ }
     ensures { λ r. ⌜ Put 0 (numberLine refusal) (now (out .entry)) (now (out .exit)) (r .end) ⌝ }
-    ensures { λ r. ⌜ (r .refusal ≡ refusal) × (r .end ≤ 21) ⌝ }
+    ensures { λ r. ⌜ (r .refusal ≡ refusal) × (r .place ≡ place) × (r .end ≤ 21) ⌝ }
 {
     LinesPut {
         end: report::put_line(refusal, out),
         refusal, // on the line
-        place,
+        place, // beside it
     }
 }
 
@@ -93,7 +93,7 @@ fn refused(refusal: u64, place: u64, out: &mut [u8]) -> LinesPut
 pub fn put_summary(text: &[u8], out: &mut [u8]) -> LinesPut
     requires { ⌜ 29160 ≤ length (now out) ⌝ }
     ensures { λ r. ⌜ Put 0 (summaryLines (now (text .entry))) (now (out .entry)) (now (out .exit)) (r .end) ⌝ }
-    ensures { λ r. ⌜ (r .refusal ≡ textRefusal (now (text .entry))) × (r .end ≤ 29160) ⌝ }
+    ensures { λ r. ⌜ (r .refusal ≡ textRefusal (now (text .entry))) × (r .place ≡ placeWith (textRefusal (now (text .entry))) (now (text .entry))) × (r .end ≤ 29160) ⌝ }
 {
     let mut counters = [0u64; 486];
     match summary::summarize(text, &mut counters) {
@@ -135,13 +135,13 @@ fn put_word(yes: bool, out: &mut [u8]) -> usize
 fn put_answer(questioned: Questioned, out: &mut [u8]) -> LinesPut
     requires { ⌜ 21 ≤ length (now out) ⌝ }
     ensures { λ r. ⌜ Put 0 (questionLine questioned) (now (out .entry)) (now (out .exit)) (r .end) ⌝ }
-    ensures { λ r. ⌜ (r .refusal ≡ refusalOf questioned) × (r .end ≤ 21) ⌝ }
+    ensures { λ r. ⌜ (r .refusal ≡ refusalOf questioned) × (r .place ≡ 0) × (r .end ≤ 21) ⌝ }
 {
     match questioned {
         Questioned::Answer(covered) => LinesPut {
             end: put_word(covered, out),
             refusal: 0, // answered
-            place: 0,
+            place: 0, // of an answer
         },
         Questioned::Refused(refusal) => refused(refusal, 0, out), // of a question
     }
@@ -151,7 +151,7 @@ fn put_answer(questioned: Questioned, out: &mut [u8]) -> LinesPut
 pub fn put_question(text: &[u8], name: &[u8], out: &mut [u8]) -> LinesPut
     requires { ⌜ 21 ≤ length (now out) ⌝ }
     ensures { λ r. ⌜ Put 0 (questionLine (questionedName (now (text .entry)) (now (name .entry)))) (now (out .entry)) (now (out .exit)) (r .end) ⌝ }
-    ensures { λ r. ⌜ (r .refusal ≡ nameQuestionRefusal (now (text .entry)) (now (name .entry))) × (r .end ≤ 21) ⌝ }
+    ensures { λ r. ⌜ (r .refusal ≡ nameQuestionRefusal (now (text .entry)) (now (name .entry))) × (r .place ≡ questionPlace (now (text .entry)) (now (name .entry))) × (r .end ≤ 21) ⌝ }
 {
     let mut counters = [0u64; 486];
     let summarized = summary::summarize(text, &mut counters);
@@ -159,7 +159,7 @@ pub fn put_question(text: &[u8], name: &[u8], out: &mut [u8]) -> LinesPut
     match name::name_code(kept, name) {
         Coded::Refused(refusal) => refused(refusal, 0, out), // of the name
         Coded::Code(code) => match summarized {
-            Summarized::Refused { refusal, place } => refused(refusal, place, out),
+            Summarized::Refused { refusal, place } => refused(refusal, place, out), // of the text
             Summarized::Kept { .. } => put_answer(summary::question(kept, &counters, code), out),
         },
     }

@@ -7,6 +7,8 @@ use Prim.Native.Nat.{ℕ, _+_, _%_, _≤_}
 use lib.Dec.{eqb, ltb}
 use lib.ListN.{length, take, getD, set}
 use Rattle.flight.specs.declared.Recording.{Recording}
+use Rattle.flight.specs.declared.Taken.{Taken}
+use Rattle.flight.specs.declared.Taken.the-variants as taken-as
 use Rattle.flight.specs.Recording.{Flown}
 use Rattle.record.specs.declared.Flight.{Flight}
 use Rattle.record.specs.declared.File.{File}
@@ -50,6 +52,11 @@ unfoldable pub waitsWith : (number refusal : ℕ) (waits : List ℕ) → List �
 waitsWith number refusal waits =
     let taken : ℕ = getD waits 0 0 in
     cond (ltb (taken + 2) (length waits)) (set (set (set waits (taken + 1) number) (taken + 2) refusal) 0 (taken + 2)) waits
+
+-- what waits after a line: one that is refused waits with its own number and refusal, a fix leaves all as it was
+abbrev pub waitsAfter : (number : ℕ) → Taken → (waits : List ℕ) → List ℕ
+waitsAfter number (taken-as.Fix m) waits = waits
+waitsAfter number (taken-as.Refused r) waits = waitsWith number r waits
 
 -- the path stands in front of its room
 abbrev pub FileFits : (path : List ℕ) → File → Type 0

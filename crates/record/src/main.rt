@@ -3,12 +3,14 @@
 // text is all that is held. record settings FILE [REVISION] [to FILE]: the same with the settings of a revision, the newest if none is given (02 W-209).
 ghost use mathlib.Core.Path.{_≡_};
 ghost use mathlib.Core.Logic.{_⊎_};
+ghost use mathlib.Core.Bool.{false};
 ghost use Prim.Native.Nat.{_+_, _≤_, _<_};
-ghost use lib.ListN.{length};
+ghost use lib.ListN.{length, take};
 ghost use Rattle.lines.specs.Fold.{OfBytes};
 ghost use Rattle.flight.specs.Setting.{settingRefusal};
-ghost use Rattle.flight.specs.Recording.{Records, withLine, started};
-ghost use Rattle.record.specs.Recorded.{changedBy, fixAdded, refusedAdded, Noted, waitsWith, flownOf, lineCount, kept, Checkpointed, FileFits};
+ghost use Rattle.flight.specs.Flight.{lineCode};
+ghost use Rattle.flight.specs.Recording.{taken, Records, withLine, started};
+ghost use Rattle.record.specs.Recorded.{changedBy, fixAdded, refusedAdded, Noted, waitsWith, waitsAfter, flownOf, lineCount, kept, Checkpointed, FileFits};
 use console::Arguments;
 use console::LineRead;
 use flight::Recording;
@@ -41,7 +43,7 @@ enum File {
 fn begin(setting: Setting, text: &mut [u8]) -> Flight
     requires { ⌜ (settingRefusal setting ≡ 0) × (65536 ≤ length (now text)) ⌝ }
     ensures { λ r. ⌜ flownOf (now (text .exit)) r ≡ started setting ⌝ }
-    ensures { λ r. ⌜ Records (now (text .exit)) (r .recording) × (length (now (text .exit)) ≡ length (now (text .entry))) ⌝ }
+    ensures { λ r. ⌜ Records (now (text .exit)) (r .recording) × (length (now (text .exit)) ≡ length (now (text .entry))) × (r .changed ≡ false) ⌝ }
 {
     let recording = flight::begin(setting.arrangement, text);
     Flight {
@@ -49,7 +51,7 @@ fn begin(setting: Setting, text: &mut [u8]) -> Flight
         fixes: 0,
         full: 0,
         bad: 0,
-        changed: false,
+        changed: false, // no line yet
     }
 }
 
@@ -129,10 +131,11 @@ fn record_line(
     flight: Flight,
     waits: &mut [u64],
 ) -> Flight
-    requires { ⌜ Records (now text) (flight .recording) × (lineCount flight < number) ⌝ }
+    requires { ⌜ Records (now text) (flight .recording) × (number ≡ lineCount flight + 1) ⌝ }
     ensures { λ r. ⌜ flownOf (now (text .exit)) r ≡ withLine setting (length (now (text .entry))) (flownOf (now (text .entry)) flight) (now (line .entry)) ⌝ }
     ensures { λ r. ⌜ Records (now (text .exit)) (r .recording) ⌝ }
     ensures { λ r. ⌜ Noted (now (text .entry)) flight (now (text .exit)) r ⌝ }
+    ensures { λ _. ⌜ now (waits .exit) ≡ waitsAfter number (taken (lineCode setting (now (line .entry))) (length (now (text .entry))) (take (flight .recording .length) (now (text .entry)))) (now (waits .entry)) ⌝ }
 {
     match flight::take_line(setting, line, text, flight.recording) {
         Taken::Fix(recording) => with_fix(flight, recording),

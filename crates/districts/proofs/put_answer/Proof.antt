@@ -1,5 +1,5 @@
 -- `districts::put_answer` meets its contract: each case has its line. Assumes nothing.
-use mathlib.Core.Path.{sym, ap, _∙_}
+use mathlib.Core.Path.{refl, sym, ap, _∙_}
 use Rattle.districts.specs.Question.{questionLine, refusalOf}
 use Rattle.districts.proofs.Lines.{put-as}
 use native.Mathlib.Omega.{arith}
@@ -26,7 +26,7 @@ returns : tie.Need-returns
 returns c =
     let w = c .before .before .put-word .ensures in
     let g = c .before .before .before .before .before .questioned .given in
-    (put-as (ap questionLine (sym (g .1))) (w .0), (sym (ap refusalOf (g .1)), w .1))
+    (put-as (ap questionLine (sym (g .1))) (w .0), (sym (ap refusalOf (g .1)), refl, w .1))
 
 same-length-2 : tie.Need-same-length-2
 same-length-2 c = search needs
@@ -36,7 +36,7 @@ unfolding questionLine
 returns-2 c =
     let q = c .before .before .refused .ensures in
     let g = c .before .before .before .before .before .questioned2 .given in
-    (put-as (ap questionLine (sym (g .1))) (q .0), (q .1 .0 ∙ sym (ap refusalOf (g .1)), q .1 .1))
+    (put-as (ap questionLine (sym (g .1))) (q .0), (q .1 .0 ∙ sym (ap refusalOf (g .1)), q .1 .1, q .1 .2))
 
 pub put-answer-spec : {M : Type 1} → statement M
 put-answer-spec =

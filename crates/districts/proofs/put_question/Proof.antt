@@ -1,11 +1,13 @@
 -- `districts::put_question` meets its contract: the name first, then the text, then its counters. Assumes nothing.
 use mathlib.Core.Path.{sym, ap, subst, _∙_}
+use Prim.Native.Nat.{ℕ}
 use Rattle.cell.specs.Cell.{IsArrangement}
+use Rattle.reader.specs.Check.{placeWith}
 use Rattle.summary.specs.Summary.{zeros}
-use Rattle.summary.specs.Laws.Answer.{kept-text, refused-text}
+use Rattle.summary.specs.Laws.Answer.{kept-text, refused-text, refused-place}
 use Rattle.districts.specs.Question.{keptArrangement}
 use Rattle.districts.proofs.Lines.{put-as, kept-counters}
-use Rattle.districts.proofs.Question.{kept-arranged, stopped, no-name, no-text, answered}
+use Rattle.districts.proofs.Question.{kept-arranged, stopped, no-name, no-name-place, name-place, no-text, answered}
 use native.Mathlib.Omega.{arith}
 use borrow.Author.Needs.{needs}
 use Rattle.districts.proofs.put_question.Statement.{statement}
@@ -55,7 +57,8 @@ returns c =
     let a = m .before .before .before .before .before .before .before .args in
     let u = no-name (a .text .now) (a .name .now) (m .before .kept-arrangement .result) (m .name-code .ensures) (n .refusal .given .1) in
     let v = stopped (a .text .now) (a .name .now) (u .0) (u .1) in
-    (put-as (v .0) (q .0), (q .1 .0 ∙ v .1, q .1 .1))
+    let p = no-name-place (a .text .now) (a .name .now) (m .before .kept-arrangement .result) (m .name-code .ensures) (n .refusal .given .1) in
+    (put-as (v .0) (q .0), (q .1 .0 ∙ v .1, q .1 .1 ∙ p, q .1 .2))
 
 same-length-2 : tie.Need-same-length-2
 same-length-2 c = search needs
@@ -68,10 +71,12 @@ returns-2 c =
     let m = n .before .before in
     let k = m .before .before in
     let a = k .before .before .before .before .before .args in
-    let w = refused-text (a .text .now) (sym (z .summarized .given .1) ∙ k .summarize .ensures .0) in
+    let s = sym (z .summarized .given .1) ∙ k .summarize .ensures .0 in
+    let w = refused-text (a .text .now) s in
     let u = no-text (a .text .now) (a .name .now) (m .before .kept-arrangement .result) (m .name-code .ensures) (n .code .given .1) (w .0) (w .1) in
     let v = stopped (a .text .now) (a .name .now) (u .0) (u .1) in
-    (put-as (v .0) (q .0), (q .1 .0 ∙ v .1, q .1 .1))
+    let p = refused-place (a .text .now) s ∙ name-place (a .text .now) (a .name .now) (m .before .kept-arrangement .result) (m .name-code .ensures) (n .code .given .1) in
+    (put-as (v .0) (q .0), (q .1 .0 ∙ v .1, q .1 .1 ∙ p, q .1 .2))
 
 same-length-3 : tie.Need-same-length-3
 same-length-3 c = search needs
@@ -91,7 +96,9 @@ returns-3 c =
     let x =
     answered (a .text .now) (a .name .now) (m .before .kept-arrangement .result) (m .name-code .ensures) (n .code .given .1) (r .0) j
     (kept-counters (a .text .now) zeros (k .summarize .ensures .1) (r .0)) (y .question .ensures) in
-    (put-as (x .0) (p .0), (p .1 .0 ∙ x .1, p .1 .1))
+    let none = sym (ap (λ (q : ℕ). placeWith q (a .text .now)) (r .0)) in
+    let there = name-place (a .text .now) (a .name .now) (m .before .kept-arrangement .result) (m .name-code .ensures) (n .code .given .1) in
+    (put-as (x .0) (p .0), (p .1 .0 ∙ x .1, p .1 .1 ∙ none ∙ there, p .1 .2))
 
 pub put-question-spec : {M : Type 1} → statement M
 put-question-spec =

@@ -1,12 +1,13 @@
 -- `districts::put_summary` meets its contract: the lines are those of the text's counters. Assumes nothing.
-use mathlib.Core.Path.{_≡_, sym, subst, _∙_}
+use mathlib.Core.Path.{_≡_, sym, ap, subst, _∙_}
+use Prim.Native.Nat.{ℕ}
 use Rattle.cell.specs.Cell.{IsArrangement}
 use Rattle.reading.specs.TextReading.{textArrangement}
 use Rattle.reading.specs.Laws.TextReading.{text-arranged}
-use Rattle.reader.specs.Check.{textRefusal}
+use Rattle.reader.specs.Check.{textRefusal, placeWith}
 use Rattle.reader.specs.Laws.Answer.{text-read}
 use Rattle.summary.specs.Summary.{zeros}
-use Rattle.summary.specs.Laws.Answer.{kept-text, refused-text}
+use Rattle.summary.specs.Laws.Answer.{kept-text, refused-text, refused-place}
 use Rattle.districts.proofs.Lines.{put-as, text-counters, lines-kept, lines-refused}
 use native.Mathlib.Omega.{arith}
 use borrow.Author.Needs.{needs}
@@ -51,7 +52,7 @@ returns c =
     let n = c .before .before .before .before .before .before in
     let t = n .before .before .before .before .before .before .args .text .now in
     let r = read-in n in
-    (put-as (lines-kept t zeros (n .before .before .summarize .ensures .1) (r .0)) (d .0), (sym (r .0), d .1))
+    (put-as (lines-kept t zeros (n .before .before .summarize .ensures .1) (r .0)) (d .0), (sym (r .0), sym (ap (λ (q : ℕ). placeWith q t) (r .0)), d .1))
 
 same-length-2 : tie.Need-same-length-2
 same-length-2 c = search needs
@@ -61,8 +62,9 @@ returns-2 c =
     let q = c .before .before .refused .ensures in
     let n = c .before .before .before .before .before in
     let t = n .before .before .before .before .before .before .args .text .now in
-    let u = refused-text t (sym (n .refusal .given .1) ∙ n .before .before .summarize .ensures .0) in
-    (put-as (lines-refused t (u .0) (u .1)) (q .0), (q .1 .0 ∙ sym (u .0), omega (arith, q .1 .1)))
+    let s = sym (n .refusal .given .1) ∙ n .before .before .summarize .ensures .0 in
+    let u = refused-text t s in
+    (put-as (lines-refused t (u .0) (u .1)) (q .0), (q .1 .0 ∙ sym (u .0), q .1 .1 ∙ refused-place t s, omega (arith, q .1 .2)))
 
 pub put-summary-spec : {M : Type 1} → statement M
 put-summary-spec =

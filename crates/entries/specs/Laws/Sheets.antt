@@ -3,9 +3,9 @@ use mathlib.Core.Path.{_≡_, refl, sym, ap, ap₂, subst, _∙_}
 use mathlib.Core.Logic.{_↔_, _⊎_, inl, inr, ⊎-elim}
 use mathlib.Core.Bool.{Bool, true, false, cond}
 use mathlib.Core.List.{List, [], _∷_, _++_, map}
-use Prim.Native.Nat.{ℕ, zero, suc, _*_, _≤_, _<_}
+use Prim.Native.Nat.{ℕ, zero, suc, _+_, _*_, _≤_, _<_}
 use native.Mathlib.Omega.{arith}
-use lib.ListN.{length, take, drop}
+use lib.ListN.{length, take, drop, getD, List·getD-map}
 use lib.Seq.{take-append-seam, drop-append-seam}
 use lib.Dec.{ltb}
 use borrow.Author.Tests.{le-ltb}
@@ -24,12 +24,14 @@ use Rattle.reading.specs.TextReading.{nodesOf, textArrangement, isText}
 use Rattle.reading.specs.Laws.TextReading.{text-arranged}
 use Rattle.reader.specs.Check.{WrongVersion, textRefusal, placeWith, answer, checkedOf}
 use Rattle.reader.specs.Laws.Answer.{text-read}
+use Rattle.listing.specs.List.{codesOf}
 use Rattle.sheet.specs.declared.Record.{Record}
 use Rattle.sheet.specs.declared.Judged.{Judged}
 use Rattle.sheet.specs.declared.Judged.the-variants as judged-as
 use Rattle.sheet.specs.Sheet.{recordOf, recordsOf, joined, sheetOf, Yes, FirstWrong, sheetRefusal, sheetIn, written}
 use Rattle.sheet.specs.Verdict.{leading, same, verdict, judged, judgedOf}
 use Rattle.sheet.specs.Laws.Bytes.{length-joined}
+use Rattle.sheet.specs.Laws.Numbers.{numberAt, Stand, all-at, text-codes, sheet-stands}
 use Rattle.sheet.specs.Laws.Sheet.{right-same, same-right, wrong-first, yes-exactly, cut-short, written-passes}
 use Rattle.sheet.specs.Laws.Stands.{text-cells, length-records}
 use Rattle.entries.specs.declared.CodeAnswer.{CodeAnswer}
@@ -190,6 +192,41 @@ sheet-neighbours t e =
     let i = text-read t (sym (check-refusal t) ∙ e) in
     all-answered (text-arranged t i) (wholeCells (nodesOf t)) (text-cells t i .0)
 
+-- ---- where each number stands, in bytes: the codes are those that listing gives, and the neighbours those that `jgv_neighbour` answers for them
+
+-- "one record of five 64-bit numbers, low byte first": from a place on a code and its neighbours up, right, down and left
+pub record NumbersFrom (b : List ℕ) (at code : ℕ) : Type 0 where
+  pub own : numberAt b at ≡ code
+  pub up : neighbourCode code 0 ≡ record { refusal = 0; code = numberAt b (at + 8) }
+  pub right : neighbourCode code 1 ≡ record { refusal = 0; code = numberAt b (at + 16) }
+  pub down : neighbourCode code 2 ≡ record { refusal = 0; code = numberAt b (at + 24) }
+  pub left : neighbourCode code 3 ≡ record { refusal = 0; code = numberAt b (at + 32) }
+
+stood : {b : List ℕ} {at code : ℕ} (r : Record) → r .code ≡ code → Stand b at r → AsAnswered r → NumbersFrom b at code
+stood {b} {at} {code} r e s n =
+    record {
+      own = s .code ∙ e;
+      up = answer-is 0 (s .up) (n .up);
+      right = answer-is 1 (s .right) (n .right);
+      down = answer-is 2 (s .down) (n .down);
+      left = answer-is 3 (s .left) (n .left);
+    }
+  where
+    answer-is : (d : ℕ) {x y : ℕ} → x ≡ y → neighbourCode (r .code) d ≡ record { refusal = 0; code = y } → neighbourCode code d ≡ record { refusal = 0; code = x }
+    answer-is d f k = ap (λ (c : ℕ). neighbourCode c d) (sym e) ∙ k ∙ ap (λ (c : ℕ). record { refusal = 0; code = c }) (sym f)
+
+abbrev noRecord : Record
+noRecord = record { code = 0; up = 0; right = 0; down = 0; left = 0 }
+
+-- record k of the sheet of our rules stands from byte 40 k on
+ours-from : (t : List ℕ) → checkNumbers (checkedOf t) .refusal ≡ 0 → (k : ℕ) → k < checkNumbers (checkedOf t) .cells → NumbersFrom (sheetOf t) (40 * k) (getD (codesOf t) k 0)
+ours-from t e k l =
+    let i = text-read t (sym (check-refusal t) ∙ e) in
+    let h : k < length (recordsOf t) = omega (arith, length-records t, check-cells t e) in
+    stood (getD (recordsOf t) k noRecord)
+    (sym (List·getD-map (λ (r : Record). r .code) (recordsOf t) k noRecord) ∙ ap (λ (x : List ℕ). getD x k 0) (text-codes t))
+    (sheet-stands t i noRecord k h) (all-at AsAnswered noRecord (recordsOf t) (sheet-neighbours t e) k h)
+
 -- ---- writing
 
 pub sheet-in-order : (t : List ℕ) (room : ℕ) → inOrder order (numbers (sheetWriteTests t room)) ≡ true
@@ -284,6 +321,14 @@ module _ (t lent : List ℕ) where
     sheet-long =
         long ∙ length-joined (recordsOf t)
         ∙ ap (λ (n : ℕ). 40 * n) (length-records t ∙ sym (check-cells t (check-refusal t ∙ both (textRefusal t) _ none .0)))
+
+    -- record k, of as many as checking answers cells, stands from byte 40 k on: the k-th code that listing gives, and what `jgv_neighbour` answers for it
+    pub sheet-numbers :
+        (k : ℕ) → k < checkNumbers (checkedOf t) .cells → NumbersFrom (take (sheetWriteAnswer .length) sheetMemory) (40 * k) (getD (codesOf t) k 0)
+    unfolding sheetRefusal
+    sheet-numbers k l =
+        subst (λ (b : List ℕ). NumbersFrom b (40 * k) (getD (codesOf t) k 0)) (sym sheet-written)
+        (ours-from t (check-refusal t ∙ both (textRefusal t) _ none .0) k l)
 
     -- and "always passes"
     pub sheet-passes : sheetAnswer t (take (sheetWriteAnswer .length) sheetMemory) ≡ record { refusal = 0; place = 0; right = 1; «record» = 0 }

@@ -1,4 +1,5 @@
 -- `begin` meets its contract. Assumes nothing.
+use mathlib.Core.Path.{refl}
 use Rattle.flight.specs.Laws.Setting.{usable-exactly}
 use Rattle.flight.specs.Recording.{Flown}
 use native.Mathlib.Omega.{arith}
@@ -13,7 +14,7 @@ same-length : tie.Need-same-length
 same-length c = search needs
 
 returns : tie.Need-returns
-returns c = let b = c .before .before .begin .ensures in ((λ i. record { text = b .0 i; fixes = 0; full = 0; bad = 0 }), b .1)
+returns c = let b = c .before .before .begin .ensures in ((λ i. record { text = b .0 i; fixes = 0; full = 0; bad = 0 }), (b .1 .0, b .1 .1, refl))
 
 pub begin-spec : {M : Type 1} → statement M
 begin-spec = tie.close (tie.spec begin-requires same-length returns)

@@ -19,7 +19,7 @@ use Rattle.record.proofs.record_all.Tie as tie
 abbrev Inv-loop : tie.InvT-loop
 Inv-loop setting path bytes₀ room₀ text₀ waits₀ from₀ end₀ flight₀ number₀ t17 bytes room text waits from end flight number =
     (from ≤ end) × (end ≤ length bytes) × Records text (flight .recording) × (length bytes ≡ length bytes₀) × (length room ≡ length room₀) × (length text ≡ length text₀)
-    × (lineCount flight ≤ number) × OfEnded (withLine setting (length text₀)) (started setting) (flownOf text flight) × (length waits ≡ length waits₀)
+    × (lineCount flight ≡ number) × OfEnded (withLine setting (length text₀)) (started setting) (flownOf text flight) × (length waits ≡ length waits₀)
 
 abbrev μ-loop : tie.MeasureT-loop
 μ-loop setting path bytes₀ room₀ text₀ waits₀ from₀ end₀ flight₀ number₀ t17 bytes room text waits from end flight number = 18446744073709551615 - number

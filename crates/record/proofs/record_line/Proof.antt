@@ -1,7 +1,8 @@
 -- `record_line` meets its contract: a fix that was taken, or a refused line. Assumes nothing.
-use mathlib.Core.Path.{sym, _∙_, subst}
+use mathlib.Core.Path.{sym, ap, _∙_, subst}
 use Rattle.flight.specs.declared.Taken.{Taken}
 use Rattle.flight.specs.Recording.{Records, recordingAfter}
+use Rattle.record.specs.Recorded.{waitsAfter}
 use Rattle.record.proofs.Laws.{fix-recorded, refused-recorded, fix-noted, refused-noted}
 use native.Mathlib.Omega.{arith}
 use borrow.Author.Needs.{needs}
@@ -38,9 +39,12 @@ returns c =
       fix-recorded (a .setting) (a .line .now) (a .text .now) (t .last .1 .1 .0) (a .flight) (c .with-fix .result) _ (sym e ∙ t .ensures .0) (t .ensures .1 .0) d,
       (
         subst (Records (t .last .1 .1 .0)) (sym (d .0)) (subst (λ (x : Taken). Records (t .last .1 .1 .0) (recordingAfter x (a .flight .recording))) e (t .ensures .1 .1)),
-        fix-noted (a .setting) (a .line .now) (a .text .now) (t .last .1 .1 .0) (a .flight) (c .with-fix .result) _
-            (c .before .before .before .before .before .before .before .before .before .before .before .pre .0)
-            (sym e ∙ t .ensures .0) (t .ensures .1 .0) d,
+        (
+          fix-noted (a .setting) (a .line .now) (a .text .now) (t .last .1 .1 .0) (a .flight) (c .with-fix .result) _
+              (c .before .before .before .before .before .before .before .before .before .before .before .pre .0)
+              (sym e ∙ t .ensures .0) (t .ensures .1 .0) d,
+          ap (λ (x : Taken). waitsAfter (a .number) x (a .waits .now)) (sym e ∙ t .ensures .0),
+        ),
       ),
     )
 
@@ -55,11 +59,15 @@ returns-2 c =
     let a = c .before .before .before .before .before .before .before .before .before .before .before .before .before .before .before .args in
     let t = c .before .before .before .before .before .before .before .before .before .before .take-line in
     let e = c .before .before .before .before .before .before .refusal .given .1 in
+    let w = c .before .before .before .say-refused .ensures in
     let d = c .with-refused .ensures in (
       refused-recorded (a .setting) (a .line .now) (a .text .now) (t .last .1 .1 .0) (a .flight) (c .with-refused .result) _ (sym e ∙ t .ensures .0) (t .ensures .1 .0) d,
       (
         subst (Records (t .last .1 .1 .0)) (sym (d .0)) (subst (λ (x : Taken). Records (t .last .1 .1 .0) (recordingAfter x (a .flight .recording))) e (t .ensures .1 .1)),
-        refused-noted (a .setting) (a .line .now) (a .text .now) (t .last .1 .1 .0) (a .flight) (c .with-refused .result) _ (sym e ∙ t .ensures .0) (t .ensures .1 .0) d,
+        (
+          refused-noted (a .setting) (a .line .now) (a .text .now) (t .last .1 .1 .0) (a .flight) (c .with-refused .result) _ (sym e ∙ t .ensures .0) (t .ensures .1 .0) d,
+          w ∙ ap (λ (x : Taken). waitsAfter (a .number) x (a .waits .now)) (sym e ∙ t .ensures .0),
+        ),
       ),
     )
 

@@ -1,13 +1,16 @@
--- After any run of commands a file holds the encoding of what the calls hand back, and `read` prints what was accepted under a revision. Assumes nothing.
+-- After any run of commands a file holds the encoding of what the calls hand back, and `read` and `list` print what was accepted under a revision.
+-- Assumes nothing.
 use mathlib.Core.Path.{_≡_, refl, sym, ap, _∙_}
-use mathlib.Core.Bool.{Bool, true, cond}
-use mathlib.Core.List.{List, [], _∷_}
+use mathlib.Core.Bool.{Bool, true, false, cond}
+use mathlib.Core.List.{List, [], _∷_, _++_}
 use Prim.Native.Nat.{ℕ, zero, suc}
 use native.Mathlib.Omega.{arith}
 use lib.Dec.{eqb}
 use lib.ListN.{getD}
 use borrow.Author.Tests.{eq-eqb, ne-eqb}
 use Rattle.logic.specs.Refusal.{given}
+use Rattle.logic.specs.Laws.Refusal.{given-value}
+use Rattle.decimal.specs.Decimal.{printed}
 use Rattle.history.specs.declared.Settings.{Settings}
 use Rattle.history.specs.declared.History.{History}
 use Rattle.history.specs.declared.HistoryAnswer.{HistoryAnswer}
@@ -20,10 +23,11 @@ use Rattle.history.specs.Laws.Valid.{run-valid, fresh-valid}
 use Rattle.encoding.specs.declared.Decoded.{Decoded}
 use Rattle.encoding.specs.Encoding.{encodingOf}
 use Rattle.encoding.specs.Laws.Encoding.{decode-encode}
-use Rattle.report.specs.History.{settingsLine}
+use Rattle.report.specs.History.{settingsLine, revisionLine}
 use Rattle.console.specs.declared.Loaded.{Loaded}
 use Rattle.console.specs.History.{loadedFrom}
 use Rattle.settings.specs.declared.Change.{Change}
+use Rattle.settings.specs.declared.Change.the-variants.{Fresh}
 use Rattle.settings.specs.Answered.{answered, changedFrom, readLine}
 use Rattle.settings.specs.Files.{commandOf, fileAfter, filesAfter}
 
@@ -31,6 +35,16 @@ use Rattle.settings.specs.Files.{commandOf, fileAfter, filesAfter}
 loaded : (h : History) → Valid h → loadedFrom (encodingOf h) ≡ record { done = true; history = h }
 unfolding loadedFrom
 loaded h v = ap (λ (d : Decoded). record { done = eqb (d .refusal) 0; history = d .history }) (decode-encode h v)
+
+-- `fresh` makes the fresh history of its settings, whatever stood before it, or none where they are refused
+module _ (h : History) (x : Settings) where
+  pub fresh-made : settingsRefusal x ≡ 0 → changedFrom (record { done = true; history = h }) (Fresh x) ≡ record { done = true; history = fresh x .history }
+  unfolding changedFrom
+  fresh-made e = ap (λ (r : ℕ). record { done = eqb r 0; history = fresh x .history }) (kept .starts x ∙ e)
+
+  pub fresh-none : (settingsRefusal x ≡ 0 → ⊥) → changedFrom (record { done = true; history = h }) (Fresh x) .done ≡ false
+  unfolding changedFrom
+  fresh-none n = ne-eqb (fresh x .refusal) 0 (λ z. n (sym (kept .starts x) ∙ z))
 
 same-call : (h : History) (c : Call) → answered h (commandOf c) ≡ asCall h c
 same-call h (change from x) = refl
@@ -89,3 +103,17 @@ module _ (x : Settings) (e : settingsRefusal x ≡ 0) (run : List Call) where
       ∙ sym (given-line (readRefusal (h .newest) r) (placed h r))
       ∙ ap (λ (p : ℕ × Settings). given (p .0) (settingsLine (p .1)) []) (kept .reads x e run r)
       ∙ given-line (readRefusal (newest log) r) (getD log r none)
+
+  -- and so says the line of each revision that is listed
+  pub file-lists : (r : ℕ) →
+      let log = logOf (x ∷ []) run in
+      readRefusal (newest log) r ≡ 0 → revisionLine (loadedFrom file .history) r ≡ (printed r ++ (32 ∷ [])) ++ settingsLine (getD log r none)
+  unfolding readOf
+  file-lists r q =
+      let h = after keeper (fresh x .history) run in
+      let log = logOf (x ∷ []) run in
+      let k = kept .reads x e run r in
+      let own : readRefusal (h .newest) r ≡ 0 = ap (λ (p : ℕ × Settings). p .0) k ∙ q in
+      let there : placed h r ≡ getD log r none =
+      sym (given-value (placed h r) none own) ∙ ap (λ (p : ℕ × Settings). p .1) k ∙ given-value (getD log r none) none q in
+      ap (λ (l : Loaded). revisionLine (l .history) r) file-loaded ∙ ap (λ (y : Settings). (printed r ++ (32 ∷ [])) ++ settingsLine y) there

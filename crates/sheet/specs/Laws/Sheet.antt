@@ -73,7 +73,7 @@ all-in xs = all-mem (λ (x : ℕ). Mem x xs) xs (λ x h. h)
 -- ---- records with right neighbours
 
 module _ (a : Arrangement) where
-  record-codes : (cs : List Cell) → codesIn (map (recordOf a) cs) ≡ map (codeOf a) cs
+  pub record-codes : (cs : List Cell) → codesIn (map (recordOf a) cs) ≡ map (codeOf a) cs
   unfolding recordOf
   record-codes [] = refl
   record-codes (c ∷ cs) = ap (λ (xs : List ℕ). codeOf a c ∷ xs) (record-codes cs)
@@ -115,7 +115,7 @@ module _ (a : Arrangement) where
           right-neighbours cs (v .1),
         )
 
-    all-words : (cs : List Cell) → Cells cs → All Words (map (recordOf a) cs)
+    pub all-words : (cs : List Cell) → Cells cs → All Words (map (recordOf a) cs)
     unfolding recordOf
     all-words [] v = tt
     all-words (c ∷ cs) v =

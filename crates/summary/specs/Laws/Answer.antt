@@ -4,7 +4,7 @@ use mathlib.Core.List.{List}
 use Prim.Native.Nat.{ℕ, zero, suc}
 use native.Mathlib.Omega.{arith}
 use Rattle.reading.specs.TextReading.{textArrangement}
-use Rattle.reader.specs.Check.{textRefusal}
+use Rattle.reader.specs.Check.{textRefusal, placeWith}
 use Rattle.summary.specs.declared.Summarized.the-variants.{Kept, Refused}
 use Rattle.summary.specs.Summary.{summarized}
 
@@ -24,3 +24,12 @@ module _ (t : List ℕ) where
       go : (q : ℕ) → textRefusal t ≡ q → Refused r p ≡ summarized q t → (textRefusal t ≡ r) × (r ≡ 0 → ⊥)
       go zero h e = let k : _≡_ {A = ℕ} 0 1 = cc in absurd (omega arith)
       go (suc q) h e = let i : r ≡ suc q = cc in (h ∙ sym i, λ z. omega arith)
+
+  -- the place beside a refusal is the text's
+  pub refused-place : {r p : ℕ} → Refused r p ≡ summarized (textRefusal t) t → p ≡ placeWith (textRefusal t) t
+  unfolding summarized
+  refused-place {r} {p} e = go (textRefusal t) e
+    where
+      go : (q : ℕ) → Refused r p ≡ summarized q t → p ≡ placeWith q t
+      go zero e = let k : _≡_ {A = ℕ} 0 1 = cc in absurd (omega arith)
+      go (suc q) e = cc

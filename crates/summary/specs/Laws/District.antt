@@ -14,13 +14,13 @@ use Rattle.counting.specs.Count.{countOf, between}
 use Rattle.counting.specs.Laws.Count.{count-same, count-part}
 use Rattle.cell.specs.declared.Cell.{Cell}
 use Rattle.cell.specs.declared.Arrangement.{Arrangement}
-use Rattle.cell.specs.Cell.{IsCell}
-use Rattle.code.specs.Code.{sizeOf, codeOf}
-use Rattle.code.specs.Laws.Code.{code-order}
+use Rattle.cell.specs.Cell.{IsCell, IsArrangement}
+use Rattle.code.specs.Code.{sizeOf, codeOf, cellOf}
+use Rattle.code.specs.Laws.Code.{code-order, cell-code}
 use Rattle.code.specs.Inside.{Inside, startOf, endOf}
 use Rattle.code.specs.Laws.Inside.{start-code, inside-within, within-inside, end-small}
-use Rattle.code.specs.Number.{numberOf, startAs, endAs, cellAs}
-use Rattle.code.specs.Laws.Number.{start-as, end-as, cell-as, as-fine, as-start}
+use Rattle.code.specs.Number.{numberOf, startAs, endAs, codeAs, cellAs}
+use Rattle.code.specs.Laws.Number.{start-as, end-as, code-as, cell-as, as-fine, as-start, as-cell}
 use Rattle.code.specs.Laws.Size.{finest-at, finest-between}
 use Rattle.reading.specs.Ground.{Finest, Covers, Cells}
 use Rattle.summary.specs.Summary.{coveredAt, counterOf, allFull, isFull}
@@ -40,6 +40,15 @@ module _ (d : Cell) (w : IsCell d) (two : d .resolution ≡ 2) where
   -- one of 486
   pub block-number : numberOf d < 486
   block-number = omega (arith, block-end, end-small d w, w .faced)
+
+  -- and the cell of that number
+  pub block-cell : cellAs 2 (numberOf d) ≡ d
+  block-cell =
+      let a : Arrangement = record { north = 0; south = 0 } in
+      let g : IsArrangement a = record { northern = omega arith; southern = omega arith } in
+      sym (as-cell 2 (numberOf d) (omega arith) block-number g)
+      ∙ ap cellOf (ap (λ (k : ℕ). codeAs a k (numberOf d)) (sym two) ∙ code-as a d w)
+      ∙ cell-code g d w
 
   -- "the number of covered finest cells inside it"
   pub block-counter : (qs : List Cell) → counterOf qs (numberOf d) ≡ countOf (sizeOf d) (startOf d) (coveredAt qs)
