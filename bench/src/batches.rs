@@ -5,6 +5,7 @@ use crate::library::Batch;
 use crate::measure::{compare, pair, Plan, Row, Work};
 use crate::plain::batches::{cell_codes, code_cells};
 use jeguarivo::{jgv_cell_codes, jgv_code_cells};
+use std::cell::RefCell;
 
 pub fn run(plan: Plan, random: &mut Random) -> Vec<Row> {
     let mixed = codes(random, plan.count(10_000_000));
@@ -22,33 +23,53 @@ const BATCH: usize = 1_000;
 
 type Both = (Batch, Batch);
 
-/// Both entries on a part of the codes. Between them the refusals are left out, as a caller does: the way back takes cells without.
-/// `all` is called with the seven numbers of each batch; the sum is over the codes that come back, which depend on all of them.
-fn there_and_back((out, back): Both, codes: &[u64], mut all: impl FnMut(&[u64])) -> u64 {
-    let (mut seven, mut six, mut two) = ([0; 7 * BATCH], [0; 6 * BATCH], [0; 2 * BATCH]);
-    let mut sum = 0;
-    for batch in codes.chunks_exact(BATCH) {
-        let cells = unsafe { out(batch.as_ptr(), BATCH, seven.as_mut_ptr(), seven.len()) };
-        all(&seven);
-        for (cell, kept) in seven.chunks_exact(7).zip(six.chunks_exact_mut(6)) {
-            kept.copy_from_slice(&cell[1..]);
-        }
-        let again = unsafe { back(six.as_ptr(), six.len(), two.as_mut_ptr(), two.len()) };
-        sum ^= cells.refusal ^ cells.count ^ again.refusal ^ again.count;
-        sum = two
-            .iter()
-            .fold(sum, |sum: u64, &number| sum.rotate_left(5) ^ number);
+/// What a caller lends, batch after batch.
+struct Room {
+    seven: Vec<u64>,
+    six: Vec<u64>,
+    two: Vec<u64>,
+}
+
+impl Room {
+    fn new() -> Room {
+        let [seven, six, two] = [7, 6, 2].map(|numbers| vec![0; numbers * BATCH]);
+        Room { seven, six, two }
     }
-    sum
+
+    /// Both entries on a part of the codes. Between them the refusals are left out, as a caller does: the way back takes cells without.
+    /// `all` is called with the seven numbers of each batch; the sum is over the codes that come back, which depend on all of them.
+    fn there_and_back(
+        &mut self,
+        (out, back): Both,
+        codes: &[u64],
+        mut all: impl FnMut(&[u64]),
+    ) -> u64 {
+        let Room { seven, six, two } = self;
+        let mut sum = 0;
+        for batch in codes.chunks_exact(BATCH) {
+            let cells = unsafe { out(batch.as_ptr(), BATCH, seven.as_mut_ptr(), seven.len()) };
+            all(seven);
+            for (cell, kept) in seven.chunks_exact(7).zip(six.chunks_exact_mut(6)) {
+                kept.copy_from_slice(&cell[1..]);
+            }
+            let again = unsafe { back(six.as_ptr(), six.len(), two.as_mut_ptr(), two.len()) };
+            sum ^= cells.refusal ^ cells.count ^ again.refusal ^ again.count;
+            sum = two
+                .iter()
+                .fold(sum, |sum: u64, &number| sum.rotate_left(5) ^ number);
+        }
+        sum
+    }
 }
 
 fn row(plan: Plan, work: &str, codes: &[u64], goal: Option<f64>) -> Vec<Row> {
     let library: Both = (jgv_code_cells, jgv_cell_codes);
     let plain: Both = (code_cells, cell_codes);
     // before the clock starts: every number of every cell, on both sides
+    let room = RefCell::new(Room::new());
     let numbers = |sides: Both| {
         let mut sum: u64 = 0;
-        there_and_back(sides, codes, |seven| {
+        room.borrow_mut().there_and_back(sides, codes, |seven| {
             sum = seven
                 .iter()
                 .fold(sum, |sum, &number| sum.rotate_left(5) ^ number);
@@ -60,7 +81,8 @@ fn row(plan: Plan, work: &str, codes: &[u64], goal: Option<f64>) -> Vec<Row> {
         std::process::exit(1);
     }
     let sides = pair(goal, library, plain, |sides, turn| {
-        there_and_back(sides, &codes[turn * PART..][..PART], |_| ())
+        room.borrow_mut()
+            .there_and_back(sides, &codes[turn * PART..][..PART], |_| ())
     });
     let work = Work {
         name: work,
