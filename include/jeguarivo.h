@@ -86,6 +86,16 @@ jgv_code jgv_cell_code(uint64_t n, uint64_t s, uint64_t face, uint64_t resolutio
 /* The arrangement and the cell of a code. Refusal 4. */
 jgv_cell jgv_code_cell(uint64_t code);
 
+/* The same of many codes, three levels at a time: for each code the seven numbers that jgv_code_cell answers, in the order of jgv_cell, so an
+ * array of jgv_cell can be lent; room is counted in numbers. A code that is no cell's has its 4 in its own place, and the batch goes on. `count` is
+ * the number of codes. Refusal 8, and then nothing is changed. */
+jgv_count jgv_code_cells(const uint64_t *codes, size_t count, uint64_t *numbers, size_t room);
+
+/* The codes of many cells, of six numbers each (n, s, face, resolution, row, column; up to five numbers behind the last cell are none): for each the
+ * two numbers that jgv_cell_code answers, in the order of jgv_code; room is counted in numbers. A cell that is refused has its number in its own place.
+ * `count` in the answer is the number of cells. Refusal 8, and then nothing is changed. */
+jgv_count jgv_cell_codes(const uint64_t *numbers, size_t count, uint64_t *codes, size_t room);
+
 /* The code of a name in an arrangement: a face letter and a digit 0 to 8 for each resolution. Refusals 5, 2, 1, 3. */
 jgv_code jgv_name_code(uint64_t n, uint64_t s, const uint8_t *name, size_t length);
 

@@ -1,12 +1,13 @@
 //! The entries, of the library and of the plain Rust beside it, and a sum over their answers.
 
 use jeguarivo::{
-    Add, Ask, Cell, Check, Code, Compare, Fix, Frame, FrameAnswer, Length, List, MarkAnswer, Name,
-    Sheet, SheetLength, Summary, SummaryAsk, Z,
+    Add, Ask, Cell, Check, Code, Compare, Count, Fix, Frame, FrameAnswer, Length, List, MarkAnswer,
+    Name, Sheet, SheetLength, Summary, SummaryAsk, Z,
 };
 
 pub type CellCode = extern "C" fn(u64, u64, u64, u64, u64, u64) -> Code;
 pub type CodeCell = extern "C" fn(u64) -> Cell;
+pub type Batch = unsafe extern "C" fn(*const u64, usize, *mut u64, usize) -> Count;
 pub type NameCode = unsafe extern "C" fn(u64, u64, *const u8, usize) -> Code;
 pub type CodeName = unsafe extern "C" fn(u64, *mut u8, usize) -> Name;
 pub type FixCode = extern "C" fn(u64, u64, u64, i64, i64) -> Code;
@@ -80,7 +81,9 @@ impl Fold for Summary {
     fn fold(&self, sum: u64) -> u64 {
         let numbers = [self.refusal, self.place, self.n, self.s];
         let add = |sum: u64, number: &u64| sum.rotate_left(5) ^ number;
-        self.counters.iter().fold(numbers.iter().fold(sum, add), add)
+        self.counters
+            .iter()
+            .fold(numbers.iter().fold(sum, add), add)
     }
 }
 

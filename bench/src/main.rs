@@ -1,6 +1,7 @@
 //! Compares the proved library with what people would use instead. `bench [--check] [--seed N] [--rounds N] [--only PART,..]`.
 
 mod adding;
+mod batches;
 mod codes;
 mod coverage;
 mod fixes;
@@ -40,9 +41,10 @@ fn main() {
     eprintln!("bench: seed {seed}");
     let random = &mut Random(seed);
     refusals::run(random, if plan.check { 200_000 } else { 20_000 });
-    let parts: [(&str, fn(Plan, &mut Random) -> Vec<Row>); 6] = [
+    let parts: [(&str, fn(Plan, &mut Random) -> Vec<Row>); 7] = [
         ("fixes", fixes::run),
         ("codes", codes::run),
+        ("batches", batches::run),
         ("plotter", plotter::run),
         ("coverage", coverage::run),
         ("adding", adding::run),

@@ -2,6 +2,7 @@
 
 use crate::inputs::{code, swath, Random};
 use crate::plain::adding::coverage_add;
+use crate::plain::batches::{cell_codes, code_cells};
 use crate::plain::codes::{cell_code, code_cell, code_name, name_code};
 use crate::plain::comparing::coverage_compare;
 use crate::plain::coverage::{coverage_ask, coverage_check, coverage_list};
@@ -36,6 +37,7 @@ pub fn run(random: &mut Random, count: usize) {
         names(random);
     }
     for _ in 0..count / 100 {
+        batches(random);
         texts(random);
         lists(random);
     }
@@ -87,6 +89,30 @@ fn numbers(random: &mut Random) {
     metres(random, n, s, code);
     edges(random, n, s, k);
     ends(random, n, s, k);
+}
+
+/// Batches with bad codes and bad cells in them, into rooms that are enough or not: the answers and the lent numbers.
+fn batches(random: &mut Random) {
+    let codes: Vec<u64> = (0..random.below(20)).map(|_| any_code(random)).collect();
+    let room =
+        (7 * codes.len() + random.below(16) as usize).saturating_sub(random.below(10) as usize);
+    let (mut library, mut plain) = (vec![1; room], vec![1; room]);
+    same(
+        "a batch of codes",
+        lent::code_cells(&codes, &mut library),
+        unsafe { code_cells(codes.as_ptr(), codes.len(), plain.as_mut_ptr(), room) },
+    );
+    same("the cells of a batch", &library, &plain);
+    let numbers: Vec<u64> = (0..random.below(120)).map(|_| random.below(6)).collect();
+    let room =
+        (numbers.len() / 3 + random.below(8) as usize).saturating_sub(random.below(6) as usize);
+    let (mut library, mut plain) = (vec![1; room], vec![1; room]);
+    same(
+        "a batch of cells",
+        lent::cell_codes(&numbers, &mut library),
+        unsafe { cell_codes(numbers.as_ptr(), numbers.len(), plain.as_mut_ptr(), room) },
+    );
+    same("the codes of a batch", library, plain);
 }
 
 /// A sine, or an end of its range or a unit beside it, on a sphere, WGS84, the flattest ellipsoid or any, or one past that.

@@ -133,6 +133,7 @@ macro_rules! depths {
 fn numbers(inputs: &Inputs) -> Vec<(&'static str, usize)> {
     let (codes, points) = (&inputs.codes, &inputs.points);
     let (mut name, mut corners) = ([0; 16], [0; 4]);
+    let (mut seven, mut two) = ([0; 7], [0; 2]);
     let frame = Frame {
         left: 1e7,
         bottom: -1.0,
@@ -142,6 +143,8 @@ fn numbers(inputs: &Inputs) -> Vec<(&'static str, usize)> {
     depths! {
         jgv_cell_code: codes, &code => (code & 3, code >> 2 & 3, code % 7, code >> 12 & 15, code % 20_000_000 / 3, code % 10_000_019);
         jgv_code_cell: codes, &code => (code);
+        jgv_code_cells: codes, code => (code, 1, seven.as_mut_ptr(), 7);
+        jgv_cell_codes: codes, _ => (seven[1..].as_ptr(), 6, two.as_mut_ptr(), 2);
         jgv_name_code: codes, &code => (code & 3, code >> 2 & 3, name.as_ptr(), 1 + (code >> 4 & 15) as usize);
         jgv_code_name: codes, &code => (code, name.as_mut_ptr(), 16);
         jgv_parent: codes, &code => (code);

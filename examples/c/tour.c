@@ -61,6 +61,26 @@ static void codes_and_names(void) {
     printf("name_code: X1 -> refused with %" PRIu64 "\n", bad.refusal);
 }
 
+/* Many at once: each code or cell gets what it gets alone, a bad one its refusal. Rooms are counted in numbers: seven to a cell, two to a code. */
+static void batches(void) {
+    uint64_t codes[2];
+    codes[0] = code_of("P41");
+    codes[1] = 256; /* no cell's */
+    jgv_cell cells[2];
+    jgv_count turned = jgv_code_cells(codes, 2, (uint64_t *)cells, 14);
+    expect_answer(turned.refusal);
+    printf("code_cells: P41 -> n %" PRIu64 ", s %" PRIu64 ", face %" PRIu64, cells[0].n, cells[0].s, cells[0].face);
+    printf(", resolution %" PRIu64 ", row %" PRIu64 ", column %" PRIu64 "\n", cells[0].resolution, cells[0].row, cells[0].column);
+    printf("code_cells: 256 -> refused with %" PRIu64 "\n", cells[1].refusal);
+
+    static const uint64_t numbers[] = {0, 0, 2, 2, 3, 4, 0, 0, 6, 2, 3, 4};
+    jgv_code back[2];
+    turned = jgv_cell_codes(numbers, 12, (uint64_t *)back, 4);
+    expect_answer(turned.refusal);
+    printf("cell_codes: n 0, s 0, face 2, resolution 2, row 3, column 4 -> %s\n", name_of(code_in(back[0])).text);
+    printf("cell_codes: n 0, s 0, face 6, resolution 2, row 3, column 4 -> refused with %" PRIu64 "\n", back[1].refusal);
+}
+
 /* Each cell but the finest has nine children, 0 top left to 8 bottom right. The size is the number of finest cells inside. */
 static void families(void) {
     printf("parent: P41 -> %s\n", name_of(code_in(jgv_parent(code_of("P41")))).text);
@@ -511,6 +531,7 @@ static void dispatch(void) {
 
 int main(void) {
     codes_and_names();
+    batches();
     families();
     shapes();
     plane();

@@ -226,6 +226,8 @@ def _entry(name: str, answer: type, *arguments):
 
 _cell_code = _entry("jgv_cell_code", _Code, _U64, _U64, _U64, _U64, _U64, _U64)
 _code_cell = _entry("jgv_code_cell", _Cell, _U64)
+_code_cells = _entry("jgv_code_cells", _Count, _CODES, c_size_t, _CODES, c_size_t)
+_cell_codes = _entry("jgv_cell_codes", _Count, _CODES, c_size_t, _CODES, c_size_t)
 _name_code = _entry("jgv_name_code", _Code, _U64, _U64, _BYTES, c_size_t)
 _code_name = _entry("jgv_code_name", _Name, _U64, _ROOM, c_size_t)
 _parent = _entry("jgv_parent", _Code, _U64)
@@ -272,6 +274,22 @@ def code_cell(code: int) -> Cell:
     """The arrangement n and s, and the face, resolution, row and column of a code."""
     got = _code_cell(code)
     return Cell(got.n, got.s, got.face, got.resolution, got.row, got.column)
+
+
+def code_cells(codes: Iterable[int]) -> List[Union[Cell, Refused]]:
+    """What `code_cell` answers for each of many codes; a bad one has its Refused in its place."""
+    given = [_U64.from_param(code) for code in codes]
+    numbers = (c_uint64 * (7 * len(given)))()
+    _code_cells((c_uint64 * len(given))(*given), len(given), numbers, len(numbers))
+    return [Refused(numbers[at]) if numbers[at] else Cell(*numbers[at + 1 : at + 7]) for at in range(0, len(numbers), 7)]
+
+
+def cell_codes(cells: Iterable[Cell]) -> List[Union[int, Refused]]:
+    """What `cell_code` answers for each of many cells; a bad one has its Refused in its place."""
+    given = [_U64.from_param(number) for n, s, face, resolution, row, column in cells for number in (n, s, face, resolution, row, column)]
+    codes = (c_uint64 * (len(given) // 3))()
+    _cell_codes((c_uint64 * len(given))(*given), len(given), codes, len(codes))
+    return [Refused(codes[at]) if codes[at] else codes[at + 1] for at in range(0, len(codes), 2)]
 
 
 def name_code(n: int, s: int, name: Union[str, bytes]) -> int:

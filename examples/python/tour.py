@@ -29,6 +29,17 @@ def codes_and_names():
         print(f"name_code: X1 -> refused with {refused.number}")
 
 
+def batches():
+    """Many at once: each code or cell gets what it gets alone, a bad one its refusal."""
+    good, bad = jgv.code_cells([code_of("P41"), 256])  # 256 is no cell's
+    place = f"face {good.face}, resolution {good.resolution}, row {good.row}, column {good.column}"
+    print(f"code_cells: P41 -> n {good.n}, s {good.s}, {place}")
+    print(f"code_cells: 256 -> refused with {bad.number}")
+    code, bad = jgv.cell_codes([good, good._replace(face=6)])
+    print(f"cell_codes: n 0, s 0, face 2, resolution 2, row 3, column 4 -> {code_name(code)}")
+    print(f"cell_codes: n 0, s 0, face 6, resolution 2, row 3, column 4 -> refused with {bad.number}")
+
+
 def families():
     """Each cell but the finest has nine children, 0 top left to 8 bottom right. The size is the number of finest cells inside."""
     print(f"parent: P41 -> {code_name(jgv.parent(code_of('P41')))}")
@@ -293,7 +304,7 @@ def dispatch():
 
 if __name__ == "__main__":
     for part in (
-        codes_and_names, families, shapes, plane, ground, neighbours, corners, coverage, additions, two_arrangements, handhelds, plotter, office,
+        codes_and_names, batches, families, shapes, plane, ground, neighbours, corners, coverage, additions, two_arrangements, handhelds, plotter, office,
         crews, sheets, dispatch,
     ):
         part()

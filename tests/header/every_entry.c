@@ -201,6 +201,44 @@ static void code_cell(void) {
     CELL(jgv_code_cell(UINT64_MAX), 4, 0, 0, 0, 0, 0, 0);
 }
 
+/* 02, W-202: what each gets is what it gets alone; 7 numbers to a cell and 2 to a code, and 8 only where the room is short. */
+static void code_cells(void) {
+    const uint64_t codes[5] = {27, no_code, code_at(3, 2, "P41"), UINT64_MAX, GREATEST};
+    static const uint64_t want[35] = {0, 2, 3, 0, 1, 0, 0, /* N0 at n = 2 and s = 3 */
+                                      4, 0, 0, 0, 0, 0, 0, 0, 3, 2, 2, 2, 3, 4, 4, 0, 0, 0, 0, 0, 0,
+                                      0, 3, 3, 5, 15, 14348906, 14348906};
+    for (size_t count = 0; count <= 5; count++)
+        for (size_t room = 0; room <= 36; room++) {
+            size_t written = room < 7 * count ? 0 : 7 * count;
+            jgv_count got = jgv_code_cells(codes, count, lend_codes(), room);
+            CHECK(got.refusal, room < 7 * count ? 8 : 0, "jgv_code_cells: refusal");
+            CHECK(got.count, written / 7, "jgv_code_cells: count");
+            CHECK(memcmp(lent_codes + GUARD, want, written * 8), 0, "jgv_code_cells: numbers");
+            CHECK(code_strays(written), 0, "jgv_code_cells: bytes about the numbers");
+        }
+    jgv_count none = jgv_code_cells(NULL, 0, NULL, 0);
+    CHECK(none.refusal, 0, "jgv_code_cells of nothing: refusal");
+    CHECK(none.count, 0, "jgv_code_cells of nothing: count");
+}
+
+static void cell_codes(void) {
+    static const uint64_t numbers[29] = {2, 3, 0, 1, 0, 0, 0, 4, 6, 16, 3, 3, 0, 0, 0, 1, 0, WIDE, 3, 3, 5, 15, 14348906, 14348906,
+                                         0, 0, 0, 0, 0}; /* five numbers at the end are no cell */
+    static const uint64_t want[8] = {0, 27, 5, 0, 3, 0, 0, GREATEST};
+    for (size_t count = 0; count <= 29; count++)
+        for (size_t room = 0; room <= 9; room++) {
+            size_t written = room < 2 * (count / 6) ? 0 : 2 * (count / 6);
+            jgv_count got = jgv_cell_codes(numbers, count, lend_codes(), room);
+            CHECK(got.refusal, room < 2 * (count / 6) ? 8 : 0, "jgv_cell_codes: refusal");
+            CHECK(got.count, written / 2, "jgv_cell_codes: count");
+            CHECK(memcmp(lent_codes + GUARD, want, written * 8), 0, "jgv_cell_codes: codes");
+            CHECK(code_strays(written), 0, "jgv_cell_codes: bytes about the codes");
+        }
+    jgv_count none = jgv_cell_codes(NULL, 0, NULL, 0);
+    CHECK(none.refusal, 0, "jgv_cell_codes of nothing: refusal");
+    CHECK(none.count, 0, "jgv_cell_codes of nothing: count");
+}
+
 static jgv_code named_at(uint64_t n, uint64_t s, const char *name) {
     memcpy(lend(), name, strlen(name));
     jgv_code answer = jgv_name_code(n, s, lent + GUARD, strlen(name));
@@ -1491,6 +1529,8 @@ static void settings(void) {
 int main(void) {
     cell_code();
     code_cell();
+    code_cells();
+    cell_codes();
     name_code();
     code_name();
     families();

@@ -2,6 +2,7 @@
 //! through a C entry that is not inlined.
 
 pub mod adding;
+pub mod batches;
 pub mod codes;
 pub mod comparing;
 pub mod coverage;

@@ -1,7 +1,7 @@
--- What the functions answer where something is refused, and where nothing is; a path of sixteen digits. Assumes nothing.
+-- What taking a code apart answers, and a path of sixteen digits. Assumes nothing.
 use mathlib.Core.Path.{_≡_, refl, sym, ap, ap₂, _∙_}
 use mathlib.Core.Bool.{Bool, true, false, _&&_}
-use Prim.Native.Nat.{ℕ, zero, suc, _+_, _-_, _*_, _/_, _%_, _^_, _≤_, _<_}
+use Prim.Native.Nat.{ℕ, _+_, _-_, _*_, _/_, _%_, _^_, _≤_, _<_}
 use native.Mathlib.Nat.{div-add-mod', dvd-mul-right, mod-mod-of-dvd}
 use native.Mathlib.Omega.{arith}
 use lib.Dec.{eqb, ltb}
@@ -12,24 +12,9 @@ use Rattle.ternary.specs.Laws.Weave.{weave-more, row-more, column-more}
 use Rattle.cell.specs.declared.Cell.{Cell}
 use Rattle.cell.specs.declared.Arrangement.{Arrangement}
 use Rattle.cell.specs.Cell.{IsCell, IsArrangement}
-use Rattle.code.specs.declared.Coded.the-variants.{Code, Refused}
 use Rattle.code.specs.declared.Split.the-variants as split-as
-use Rattle.code.specs.Code.{coded, cellSplit, arrangementOf, isOf, isCellCode, cellCodeRefusal, pathOf, pathIn}
+use Rattle.code.specs.Code.{cellSplit, arrangementOf, isOf, isCellCode, cellCodeRefusal, pathOf, pathIn}
 use Rattle.code.specs.Laws.Code.{path-weave, path-in-small, cell-code-passes, cell-code-stops}
-
-refusal : (r code : ℕ) → (r ≡ 0 → ⊥) → Refused r ≡ coded r code
-unfolding coded
-refusal zero code h = absurd (h refl)
-refusal (suc r) code h = refl
-
--- a refusal is handed on
-pub refused : {r s : ℕ} (code : ℕ) → r ≡ s → (r ≡ 0 → ⊥) → Refused r ≡ coded s code
-refused {r} code e h = refusal r code h ∙ ap (λ (x : ℕ). coded x code) e
-
--- with none, the code
-pub answered : {r s x code : ℕ} → r ≡ s → r ≡ 0 → x ≡ code → Code x ≡ coded s code
-unfolding coded
-answered {code = code} e z h = ap Code h ∙ ap (λ (x : ℕ). coded x code) (sym z ∙ e)
 
 -- a face has a whole number of cells of each size, so the face need not be taken off
 pub rest-cut : (n j : ℕ) → j ≤ 15 → n % 9 ^ 15 % 9 ^ j ≡ n % 9 ^ j

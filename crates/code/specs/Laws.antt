@@ -1,4 +1,5 @@
 pub mod Code
+pub mod Coded
 pub mod Decoded
 pub mod Exact
 pub mod Inside

@@ -1,3 +1,4 @@
+pub mod Batches
 pub mod Corners
 pub mod Entries
 pub mod Laws

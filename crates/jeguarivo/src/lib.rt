@@ -8,6 +8,7 @@ ghost use Rattle.cell.specs.Cell.{IsCell};
 ghost use Rattle.code.specs.Code.{codeOf, cellOf, arrangementOf, Placed, foundCode};
 ghost use Rattle.name.specs.Name.{codeNameRefusal, nameIn};
 ghost use Rattle.corner.specs.List.{cornerMemory};
+ghost use Rattle.batch.specs.Batch.{cellsMemory, codesMemory};
 ghost use Rattle.reader.specs.Check.{checkedOf};
 ghost use Rattle.listing.specs.List.{listingRefusal, listed, codesIn};
 ghost use Rattle.asking.specs.Ask.{askRefusal, asked};
@@ -20,12 +21,14 @@ ghost use Rattle.writing.specs.Write.{asksFor, writeRefusal, textOf, textIn, wr
 ghost use Rattle.entries.specs.Entries.{arrangement, codedAnswer, codeAnswer, codeOfCell, codeCell, nameAnswer, writtenName, parentCode, childCode};
 ghost use Rattle.entries.specs.Entries.{cellSize, cellShape, cornerCount, cellSquare, cellNucleus, cellVertices, pointCode, neighbourCode, fixCode, groundFix};
 ghost use Rattle.entries.specs.Entries.{geodeticZ, geodeticCode, cornerCells};
+ghost use Rattle.entries.specs.Batches.{cellsAnswer, codesAnswer};
 ghost use Rattle.entries.specs.Sheets.{sheetNumbers, sheetLengthNumbers};
 ghost use Rattle.entries.specs.Plotter.{markNumbers, frameNumbers, pointMarked, codeMarked, frameBegun, frameGrown};
 ghost use Rattle.entries.specs.Summary.{summaryOf, summaryAsked};
 ghost use Rattle.entries.specs.Settings.{freshHistory, changedHistory, backHistory, readSettings};
 use adding::Added;
 use asking::Asked;
+use batch::Batched;
 use cell::Arrangement;
 use cell::Cell;
 use cell::Found;
@@ -137,6 +140,36 @@ pub extern "C" fn jgv_code_cell(code: u64) -> CellAnswer
             resolution: 0,
             row: 0,
             column: 0,
+        },
+    }
+}
+
+// For each code the seven numbers that `jgv_code_cell` answers: 8 where the room is short.
+#[no_mangle]
+pub extern "C" fn jgv_code_cells(codes: &[u64], numbers: &mut [u64]) -> CountAnswer
+    ensures { λ r. ⌜ r ≡ cellsAnswer (now (codes .entry)) (length (now (numbers .entry))) ⌝ }
+    ensures { λ r. ⌜ now (numbers .exit) ≡ cellsMemory (now (codes .entry)) (now (numbers .entry)) ⌝ }
+{
+    match batch::code_cells(codes, numbers) {
+        Batched::Count(count) => CountAnswer { refusal: 0, count }, // codes
+        Batched::Refused(refusal) => CountAnswer {
+            refusal, // of the whole batch of codes
+            count: 0, // none of the codes was answered
+        },
+    }
+}
+
+// For each six numbers the two that `jgv_cell_code` answers: 8 where the room is short.
+#[no_mangle]
+pub extern "C" fn jgv_cell_codes(numbers: &[u64], codes: &mut [u64]) -> CountAnswer
+    ensures { λ r. ⌜ r ≡ codesAnswer (now (numbers .entry)) (length (now (codes .entry))) ⌝ }
+    ensures { λ r. ⌜ now (codes .exit) ≡ codesMemory (now (numbers .entry)) (now (codes .entry)) ⌝ }
+{
+    match batch::cell_codes(numbers, codes) {
+        Batched::Count(count) => CountAnswer { refusal: 0, count }, // cells
+        Batched::Refused(refusal) => CountAnswer {
+            refusal, // of the whole batch of cells
+            count: 0, // none of the cells was answered
         },
     }
 }

@@ -26,5 +26,5 @@ pub both-fits :
     (k r p : ℕ) {a b : ℕ} → 3 ^ (k + r) * 4294967297 ≤ 2 ^ 64 → a ≡ bothIn k (p / 9 ^ r) → b ≡ bothIn r (p % 9 ^ r) → a * 3 ^ r + b < 2 ^ 64
 both-fits k r p l f s = let e = both-split k r p f s in let h = both-small (k + r) p in omega arith
 
-pub both-apart : {n : ℕ} (p : ℕ) → n ≡ bothIn 16 p → (n % 2 ^ 32 ≡ rowIn 16 p) × (n / 2 ^ 32 ≡ columnIn 16 p)
-both-apart p e = let h = row-small 16 p in (omega arith, omega arith)
+pub both-apart : {n : ℕ} (k p : ℕ) → 3 ^ k ≤ 4294967296 → n ≡ bothIn k p → (n % 2 ^ 32 ≡ rowIn k p) × (n / 2 ^ 32 ≡ columnIn k p)
+both-apart k p l e = let h = row-small k p in (omega arith, omega arith)

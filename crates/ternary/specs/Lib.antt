@@ -1,4 +1,5 @@
 pub mod Digits
 pub mod Internal
 pub mod Laws
+pub mod Threes
 pub mod Weave

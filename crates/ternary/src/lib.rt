@@ -1,12 +1,15 @@
 // Powers of three and of nine, and a row and a column woven to digits of base nine and taken from them again. To weave, four digits stand in
 // each of the four parts of a number, sixteen bits to a part, and one product or sum serves all four. To take apart, two digits at a time are
-// looked up, and the row and the column stand in one number.
+// looked up, and the row and the column stand in one number. A batch takes a table of three digits once and lends it on (02, W-202).
 ghost use mathlib.Core.Path.{_≡_};
 ghost use Prim.Native.Nat.{_*_, _/_, _%_, _^_, _≤_, _<_};
 ghost use Rattle.ternary.specs.Internal.Parts.{parts, quarters, bits};
+ghost use Rattle.ternary.specs.Threes.{Apart, Woven};
 ghost use Rattle.ternary.specs.Weave.{weave, rowIn, columnIn, bothIn};
 
+mod apart;
 mod digits;
+mod woven;
 
 // 3^15, the rows of a face at the finest resolution.
 pub const FINEST_ROWS: u64 = 14_348_907;
@@ -126,4 +129,95 @@ pub fn unwoven(path: u64) -> Pair
         row: both % 4_294_967_296,
         column: both / 4_294_967_296,
     }
+}
+
+// The table by which three digits of a path are taken apart.
+pub fn apart_table() -> [u64; 729]
+    ensures { λ r. ⌜ Apart r ⌝ }
+{
+    apart::APART
+}
+
+// The table by which three digits of a row and a column are woven.
+pub fn woven_table() -> [u16; 729]
+    ensures { λ r. ⌜ Woven r ⌝ }
+{
+    woven::WOVEN
+}
+
+// The row and the column of three digits of a path, in one number.
+fn three_apart(table: &[u64; 729], x: u64) -> u64
+    requires { ⌜ Apart (now table) × (x < 729) ⌝ }
+    ensures { λ r. ⌜ r ≡ bothIn 3 x ⌝ }
+{
+    let at = x as usize;
+    table[at]
+}
+
+// The row and the column of six digits of a path.
+fn six_apart(table: &[u64; 729], x: u64) -> u64
+    requires { ⌜ Apart (now table) × (x < 531441) ⌝ }
+    ensures { λ r. ⌜ r ≡ bothIn 6 x ⌝ }
+{
+    three_apart(table, x / 729) * 27 + three_apart(table, x % 729)
+}
+
+// The row and the column of twelve digits of a path.
+fn twelve_apart(table: &[u64; 729], x: u64) -> u64
+    requires { ⌜ Apart (now table) × (x < 282429536481) ⌝ }
+    ensures { λ r. ⌜ r ≡ bothIn 12 x ⌝ }
+{
+    six_apart(table, x / 531_441) * 729 + six_apart(table, x % 531_441)
+}
+
+// The row and the column of fifteen digits of a path. Where there are fewer, zeros before them change nothing.
+pub fn apart_by(table: &[u64; 729], path: u64) -> Pair
+    requires { ⌜ Apart (now table) × (path < 205891132094649) ⌝ }
+    ensures { λ r. ⌜ (r .row ≡ rowIn 15 path) × (r .column ≡ columnIn 15 path) ⌝ }
+{
+    let high = three_apart(table, path / 282_429_536_481) * 531_441;
+    let fifteen = high + twelve_apart(table, path % 282_429_536_481);
+    Pair {
+        row: fifteen % 4_294_967_296,
+        column: fifteen / 4_294_967_296,
+    }
+}
+
+// The three digits of a path, of a row and a column of three ternary digits.
+fn three_woven(table: &[u16; 729], row: u64, column: u64) -> u64
+    requires { ⌜ Woven (now table) × (row < 27) × (column < 27) ⌝ }
+    ensures { λ r. ⌜ r ≡ weave 3 row column ⌝ }
+{
+    let at = (27 * row + column) as usize;
+    table[at] as u64
+}
+
+// A number below 3^15 as a part of 3^15, in units of 2^-27, rounded up: products with 27 bring its digits of base 27, the first one first.
+fn part_of(x: u64) -> u64
+    requires { ⌜ x < 14348907 ⌝ }
+    ensures { λ r. ⌜ (r < 134217728) × (r * 14348907 / 134217728 ≡ x) ⌝ }
+{
+    x * 5_021_817_623 / 536_870_912 + 1
+}
+
+// The path of fifteen ternary digits of a row and a column, whose parts of 3^15 stand in one number.
+pub fn woven_by(table: &[u16; 729], row: u64, column: u64) -> u64
+    requires { ⌜ Woven (now table) × (row < 14348907) × (column < 14348907) ⌝ }
+    ensures { λ r. ⌜ r ≡ weave 15 row column ⌝ }
+{
+    let mut rest = part_of(row) * 4_294_967_296 + part_of(column);
+    let mut path: u64 = 0;
+    let mut left: u64 = 5; // times three digits
+    while left > 0 {
+        let next = rest * 27;
+        let digits = three_woven(
+            table,
+            next / 576_460_752_303_423_488,
+            next / 134_217_728 % 32,
+        );
+        path = path * 729 + digits;
+        rest = next / 4_294_967_296 % 134_217_728 * 4_294_967_296 + next % 134_217_728;
+        left = left - 1;
+    }
+    path
 }

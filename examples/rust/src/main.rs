@@ -38,6 +38,21 @@ fn codes_and_names() -> Answer<()> {
     Ok(())
 }
 
+/// Many at once: each code or cell gets what it gets alone, a bad one its refusal. A cell is seven numbers, with its refusal first; a code is two.
+fn batches() -> Answer<()> {
+    let mut room = [0; 14];
+    let cells = code_cells(&[code_of("P41")?, 256], &mut room)?; // 256 is no cell's
+    let [_, n, s, face, resolution, row, column] = cells[..7] else { unreachable!() };
+    println!("code_cells: P41 -> n {n}, s {s}, face {face}, resolution {resolution}, row {row}, column {column}");
+    println!("code_cells: 256 -> refused with {}", cells[7]);
+
+    let mut room = [0; 4];
+    let codes = cell_codes(&[0, 0, 2, 2, 3, 4, 0, 0, 6, 2, 3, 4], &mut room)?;
+    println!("cell_codes: n 0, s 0, face 2, resolution 2, row 3, column 4 -> {}", name_of(codes[1])?);
+    println!("cell_codes: n 0, s 0, face 6, resolution 2, row 3, column 4 -> refused with {}", codes[2]);
+    Ok(())
+}
+
 /// Each cell but the finest has nine children, 0 top left to 8 bottom right. The size is the number of finest cells inside.
 fn families() -> Answer<()> {
     println!("parent: P41 -> {}", name_of(parent(code_of("P41")?)?)?);
@@ -384,6 +399,7 @@ fn dispatch() -> Answer<()> {
 
 fn main() -> Answer<()> {
     codes_and_names()?;
+    batches()?;
     families()?;
     shapes()?;
     plane()?;

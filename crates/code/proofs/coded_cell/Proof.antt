@@ -4,7 +4,7 @@ use borrow.Author.Needs.{needs}
 use Rattle.logic.specs.Laws.Refusal.{stops, passes}
 use Rattle.cell.specs.Cell.{arrangementRefusal}
 use Rattle.cell.specs.Laws.Cell.{is-cell, is-arrangement}
-use Rattle.code.proofs.Laws.{refused, answered}
+use Rattle.code.specs.Laws.Coded.{refused, answered}
 use Rattle.code.proofs.coded_cell.Statement.{statement}
 use Rattle.code.proofs.coded_cell.Tie as tie
 
