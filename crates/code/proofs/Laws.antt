@@ -13,7 +13,7 @@ use Rattle.cell.specs.declared.Cell.{Cell}
 use Rattle.cell.specs.declared.Arrangement.{Arrangement}
 use Rattle.cell.specs.Cell.{IsCell, IsArrangement}
 use Rattle.code.specs.declared.Split.the-variants as split-as
-use Rattle.code.specs.Code.{cellSplit, arrangementOf, isOf, isCellCode, cellCodeRefusal, pathOf, pathIn}
+use Rattle.code.specs.Code.{cellSplit, arrangementOf, isOf, isCellCode, cellCodeRefusal, pathIn, cellCode, codeAt, codeOf}
 use Rattle.code.specs.Laws.Code.{path-weave, path-in-small, cell-code-passes, cell-code-stops}
 
 -- a face has a whole number of cells of each size, so the face need not be taken off
@@ -25,20 +25,20 @@ rest-cut n j h = ap (λ (x : ℕ). n % x % 9 ^ j) (sym (nine-split j h)) ∙ mod
 sixteen : (k : ℕ) → k ≤ 15 → 16 ≡ k + (16 - k)
 sixteen k h = omega arith
 
-module _ (c : Cell) (v : IsCell c) where
-  row-below : c .row < 43046721
-  row-below = let p : 3 ^ c .resolution ≤ 14348907 = power-le {i = c .resolution} {j = 15} (v .fine) in omega (arith, v .rowed)
+module _ (k i j : ℕ) (fine : k ≤ 15) (hi : i < 3 ^ k) (hj : j < 3 ^ k) where
+  pub both-below : (i < 14348907) × (j < 14348907)
+  both-below = let p : 3 ^ k ≤ 14348907 = power-le {i = k} {j = 15} fine in (omega (arith, hi), omega (arith, hj))
 
-  column-below : c .column < 43046721
-  column-below = let p : 3 ^ c .resolution ≤ 14348907 = power-le {i = c .resolution} {j = 15} (v .fine) in omega (arith, v .columned)
+  pub path-sixteen : weave 16 i j ≡ weave k i j
+  path-sixteen = ap (λ (x : ℕ). weave x i j) (sixteen k fine) ∙ weave-more k (16 - k) i j hi hj
 
-  pub both-below : (c .row < 43046721) × (c .column < 43046721)
-  both-below = (row-below, column-below)
+-- a cell's numbers, and its code by them
+pub cell-numbers : {c : Cell} → IsCell c → (c .face ≤ 5) × (c .resolution ≤ 15) × (c .row < 3 ^ c .resolution) × (c .column < 3 ^ c .resolution)
+cell-numbers v = (v .faced, v .fine, v .rowed, v .columned)
 
-  pub path-sixteen : weave 16 (c .row) (c .column) ≡ pathOf c
-  path-sixteen =
-      ap (λ (x : ℕ). weave x (c .row) (c .column)) (sixteen (c .resolution) (v .fine))
-      ∙ weave-more (c .resolution) (16 - c .resolution) (c .row) (c .column) (v .rowed) (v .columned) ∙ sym (path-weave c)
+pub woven-code : (a : Arrangement) (c : Cell) → codeAt a (c .face) (c .resolution) (weave (c .resolution) (c .row) (c .column)) ≡ codeOf a c
+unfolding codeAt codeOf cellCode
+woven-code a c = ap (codeAt a (c .face) (c .resolution)) (sym (path-weave c))
 
 module _ (code : ℕ) (t : isCellCode code ≡ true) where
   fine : code % 16 ≤ 15

@@ -3,6 +3,7 @@ ghost use mathlib.Core.Path.{_≡_};
 ghost use mathlib.Core.Bool.{true};
 ghost use Prim.Native.Nat.{_+_, _-_, _*_, _^_, _≤_, _<_};
 ghost use Rattle.logic.specs.Refusal.{_otherwise_};
+ghost use Rattle.ternary.specs.Weave.{weave};
 ghost use Rattle.cell.specs.Cell.{IsCell, IsArrangement, cellRefusal, arrangementRefusal, found};
 ghost use Rattle.code.specs.Code.{cellCodeAt, isCellCode, cellCodeRefusal, cellSplit};
 ghost use Rattle.code.specs.Code.{codeAt, codeOf, isCode, cellOf, arrangementOf, isOf, codeRefusal, sizeOf, coded, Placed, foundCode, split};
@@ -58,14 +59,25 @@ pub fn code_at(arrangement: Arrangement, face: u64, resolution: u64, path: u64) 
     with_arrangement(arrangement, cell_code_at(face, resolution, path))
 }
 
+// The code of a face, a resolution, a row and a column: four numbers stay in registers, where a cell is lent in memory.
+pub fn code_in(arrangement: Arrangement, face: u64, resolution: u64, row: u64, column: u64) -> u64
+    requires { ⌜ IsArrangement arrangement ⌝ }
+    requires { ⌜ (face ≤ 5) × (resolution ≤ 15) × (row < 3 ^ resolution) × (column < 3 ^ resolution) ⌝ }
+    ensures { λ r. ⌜ r ≡ codeAt arrangement face resolution (weave resolution row column) ⌝ }
+{
+    let path = ternary::path(row, column);
+    code_at(arrangement, face, resolution, path)
+}
+
 // The code of a cell.
 pub fn code_of(arrangement: Arrangement, cell: Cell) -> u64
     requires { ⌜ IsArrangement arrangement ⌝ }
     requires { ⌜ IsCell cell ⌝ }
     ensures { λ r. ⌜ r ≡ codeOf arrangement cell ⌝ }
 {
-    let path = ternary::path(cell.row, cell.column);
-    code_at(arrangement, cell.face, cell.resolution, path)
+    let row = cell.row;
+    let column = cell.column;
+    code_in(arrangement, cell.face, cell.resolution, row, column)
 }
 
 // The code of any numbers: 5 where they are no arrangement, 2, 1 or 3 where they are no cell.

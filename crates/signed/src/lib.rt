@@ -27,14 +27,17 @@ pub fn magnitude(x: i64) -> u64
     if x < 0 { (-1 - x) as u64 + 1 } else { x as u64 }
 }
 
-// x + by, which is not below 0.
+// x + by, which is not below 0. Both ways come to one sum of words, and the compiler sees that.
 pub fn shifted(x: i64, by: u64) -> u64
     requires { ⌜ by < 2 ^ 63 ⌝ }
     requires { ⌜ leZ (negℤ (pos by)) x ≡ true ⌝ }
     ensures { λ r. ⌜ r ≡ natAbs (x +ℤ pos by) ⌝ }
 {
-    let size = magnitude(x);
-    if is_negative(x) { by - size } else { by + size }
+    if x < 0 {
+        by - (-1 - x) as u64 - 1
+    } else {
+        by + x as u64
+    }
 }
 
 // x - y.

@@ -1,15 +1,15 @@
-// Powers of three and of nine, and a row and a column woven to digits of base nine and taken from them again. To weave, four digits stand in
-// each of the four parts of a number, sixteen bits to a part, and one product or sum serves all four. To take apart, two digits at a time are
-// looked up, and the row and the column stand in one number. A batch takes a table of three digits once and lends it on (02, W-202).
+// Powers of three and of nine, and a row and a column woven to digits of base nine and taken from them again. To weave, five digits at a time are
+// looked up. To take apart, two digits at a time are looked up, and the row and the column stand in one number. A batch takes a table of three
+// digits once and lends it on (02, W-202).
 ghost use mathlib.Core.Path.{_≡_};
 ghost use Prim.Native.Nat.{_*_, _/_, _%_, _^_, _≤_, _<_};
-ghost use Rattle.ternary.specs.Internal.Parts.{parts, quarters, bits};
 ghost use Rattle.ternary.specs.Threes.{Apart, Woven};
 ghost use Rattle.ternary.specs.Weave.{weave, rowIn, columnIn, bothIn};
 
 mod apart;
 mod digits;
-mod woven;
+mod spread;
+mod weaving;
 
 // 3^15, the rows of a face at the finest resolution.
 pub const FINEST_ROWS: u64 = 14_348_907;
@@ -48,45 +48,43 @@ pub fn nine_power(e: u64) -> u64
     root * root
 }
 
-// A number of sixteen ternary digits, four digits to a part.
-fn in_parts(x: u64) -> u64
-    requires { ⌜ x < 43046721 ⌝ }
-    ensures { λ r. ⌜ r ≡ quarters x ⌝ }
+// 2^56, the whole of which a part is taken.
+const WHOLE: u64 = 72_057_594_037_927_936;
+
+// 2^56 / 3^15 rounded up.
+const CELL: u64 = 5_021_817_623;
+
+// The path of the first fifteen ternary digits of two parts of a whole, a row's and a column's. Five digits of each are found by one product, and
+// looked up. The look-up stands in one place, so that the compiler puts it in here; and the six turns leave no loop.
+pub fn woven(row: u64, column: u64) -> u64
+    requires { ⌜ (row < 2 ^ 56) × (column < 2 ^ 56) ⌝ }
+    ensures { λ r. ⌜ r ≡ weave 15 (row * 3 ^ 15 / 2 ^ 56) (column * 3 ^ 15 / 2 ^ 56) ⌝ }
 {
-    let high = x / 6_561;
-    let low = x % 6_561;
-    (high + high / 81 * 65_455) * 4_294_967_296 + (low + low / 81 * 65_455)
+    let mut this = row;
+    let mut other = column;
+    let mut by: u64 = 19_683;
+    let mut then: u64 = 3;
+    let mut path: u64 = 0;
+    let mut turns: u64 = 6;
+    while turns > 0 {
+        let five = this * 243;
+        path = path * by + spread::five_digits(five / WHOLE);
+        this = other;
+        other = five % WHOLE;
+        let next = then;
+        then = by;
+        by = next;
+        turns = turns - 1;
+    }
+    path
 }
 
-// The last five bits of each part. Where every part is below 81, those of n * 171 / 512 are a third of the part, those of n * 114 / 1024 a
-// ninth, and those of n * 76 / 2048 a 27th.
-fn last_bits(x: u64) -> u64
-    ensures { λ r. ⌜ r ≡ bits x ⌝ }
-{
-    let high = x / 281_474_976_710_656 % 32 * 281_474_976_710_656
-        + x / 4_294_967_296 % 32 * 4_294_967_296;
-    high + (x / 65_536 % 32 * 65_536 + x % 32)
-}
-
-// The digits of each part n read in base nine: n + 6 (n / 3) + 54 (n / 9) + 486 (n / 27).
-fn spread(x: u64) -> u64
-    requires { ⌜ x < 43046721 ⌝ }
-    ensures { λ r. ⌜ r ≡ parts (weave 4 0 (x / 531441)) (weave 4 0 (x / 6561 % 81)) (weave 4 0 (x / 81 % 81)) (weave 4 0 (x % 81)) ⌝ }
-{
-    let n = in_parts(x);
-    let thirds = last_bits(n * 171 / 512);
-    let ninths = last_bits(n * 114 / 1_024);
-    n + 6 * thirds + 54 * ninths + 486 * last_bits(n * 76 / 2_048)
-}
-
-// The path of sixteen ternary digits of a row and a column. Where there are fewer, zeros before them change nothing.
+// The path of fifteen ternary digits of a row and a column. Where there are fewer, zeros before them change nothing.
 pub fn path(row: u64, column: u64) -> u64
-    requires { ⌜ (row < 43046721) × (column < 43046721) ⌝ }
+    requires { ⌜ (row < 14348907) × (column < 14348907) ⌝ }
     ensures { λ r. ⌜ r ≡ weave 16 row column ⌝ }
 {
-    let n = 3 * spread(row) + spread(column);
-    let high = n / 281_474_976_710_656 * 6_561 + n / 4_294_967_296 % 65_536;
-    high * 43_046_721 + (n / 65_536 % 65_536 * 6_561 + n % 65_536)
+    woven(row * CELL, column * CELL)
 }
 
 // A row and a column.
@@ -142,7 +140,7 @@ pub fn apart_table() -> [u64; 729]
 pub fn woven_table() -> [u16; 729]
     ensures { λ r. ⌜ Woven r ⌝ }
 {
-    woven::WOVEN
+    weaving::WOVEN
 }
 
 // The row and the column of three digits of a path, in one number.

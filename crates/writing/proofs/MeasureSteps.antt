@@ -166,6 +166,15 @@ pub hand-outside :
     at < length codes → startOf (nextCell codes at) < start + size → ⊥
 hand-outside start size a n h l = n (omega (arith, a .some h))
 
+-- none of the cells that are left has a code inside
+l-left :
+    {codes : List ℕ} {at first : ℕ} (left : ℕ) {start size : ℕ} → at ≤ length codes → 0 < size → StartAtPlace codes at first → start + left * size ≤ first →
+    ListMeasured codes at left start size (record { next = at; bytes = 0; wholes = 0; depth = 0 })
+l-left zero h z a l = l-none h refl
+l-left {codes} {at} {first} (suc left) {start} {size} h z a l =
+    l-out-suc codes at left start size _ z (hand-outside start size a (λ m. omega (arith, suc-mul left size)))
+    (l-left left h z a (omega (arith, suc-mul left size)))
+
 -- ---- a list, cell by cell
 
 -- what is measured of the cells that are left completes what is to be measured
@@ -178,6 +187,7 @@ pub record Measuring (codes : List ℕ) (at left start size next first child byt
   pub cells : child + more * size ≤ 9 ^ 16
   pub short : bytes + more * (2 * size) ≤ left * (2 * size)
   pub counted : count + more ≤ left
+  pub placed : child + more * size ≡ start + left * size
   pub hand : StartAtPlace codes next first
 
 pub l-starts :
@@ -195,17 +205,27 @@ l-starts h i a =
       cells = i;
       short = omega arith;
       counted = omega arith;
+      placed = refl;
       hand = a;
     }
 
-pub l-ends :
-    {codes : List ℕ} {at left start size next first child bytes count depth more : ℕ} →
-    Measuring codes at left start size next first child bytes count depth more → more ≡ 0 →
-    ListMeasured codes at left start size (record { next = next; bytes = bytes; wholes = count; depth = depth })
-l-ends {codes} {at} {left} {start} {size} {next} {first} {child} {bytes} {count} {depth} v e =
-    let i : bytes + 0 ≡ bytes = omega arith in
-    let j : count + 0 ≡ count = omega arith in
-    rw (i, j, greater-zero depth) at (v .rest _ (l-none (v .inside) e))
+module _
+    {codes : List ℕ} {at left start size next first child bytes count depth more : ℕ} (v : Measuring codes at left start size next first child bytes count depth more)
+  where
+    -- nothing more is taken
+    l-closes :
+        ListMeasured codes next more child size (record { next = next; bytes = 0; wholes = 0; depth = 0 }) →
+        ListMeasured codes at left start size (record { next = next; bytes = bytes; wholes = count; depth = depth })
+    l-closes u =
+        let i : bytes + 0 ≡ bytes = omega arith in
+        let j : count + 0 ≡ count = omega arith in
+        rw (i, j, greater-zero depth) at (v .rest _ u)
+
+    pub l-ends : more ≡ 0 → ListMeasured codes at left start size (record { next = next; bytes = bytes; wholes = count; depth = depth })
+    l-ends e = l-closes (l-none (v .inside) e)
+
+    pub l-stops : 0 < size → start + left * size ≤ first → ListMeasured codes at left start size (record { next = next; bytes = bytes; wholes = count; depth = depth })
+    l-stops y l = l-closes (l-left more (v .inside) y (v .hand) (omega (arith, v .placed)))
 
 module _
     {codes : List ℕ} {at left start size next first child bytes count depth more : ℕ} (y : 0 < size)
@@ -229,6 +249,7 @@ module _
           cells = omega (arith, v .cells, one-less more size z);
           short = omega (arith, v .short, one-less more (2 * size) z, m .short);
           counted = omega (arith, v .counted, m .few);
+          placed = omega (arith, v .placed, one-less more size z);
           hand = a;
         })
 
@@ -245,5 +266,6 @@ module _
           cells = omega (arith, v .cells, one-less more size z);
           short = omega (arith, v .short, one-less more (2 * size) z);
           counted = omega (arith, v .counted);
+          placed = omega (arith, v .placed, one-less more size z);
           hand = v .hand;
         })

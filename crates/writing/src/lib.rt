@@ -113,6 +113,7 @@ fn measure_list(codes: &[u64], at: usize, left: u64, start: u64, size: u64) -> M
     requires { ⌜ (allCodes (now codes) ≡ true) × (at ≤ length (now codes)) × (left ≤ 9) × (0 < size) × (start + left * size ≤ 9 ^ 16) ⌝ }
     ensures { λ r. ⌜ ListMeasured (now (codes .entry)) at left start size r ⌝ }
 {
+    let limit = start + left * size;
     let mut next = at;
     let mut first = start_at(codes, at);
     let mut child = start;
@@ -129,6 +130,14 @@ fn measure_list(codes: &[u64], at: usize, left: u64, start: u64, size: u64) -> M
             wholes = wholes + node.wholes;
             depth = greater(depth, node.depth);
             first = start_at(codes, next);
+            if limit <= first {
+                return Measure {
+                    next,
+                    bytes,
+                    wholes,
+                    depth, // no code is left for the other cells
+                };
+            }
         }
         child = end;
         more = more - 1;

@@ -1,30 +1,21 @@
 -- `ternary::path` meets its contract. Assumes nothing.
-use mathlib.Core.Path.{ap₂, _∙_}
-use Prim.Native.Nat.{ℕ, _+_, _*_}
-use native.Mathlib.Omega.{arith}
+use mathlib.Core.Path.{_∙_}
 use borrow.Author.Needs.{needs}
-use Rattle.ternary.proofs.Parts.{both-parts, long, apart-small}
+use Rattle.ternary.proofs.ByFive.{path-of}
 use Rattle.ternary.proofs.path.Statement.{statement}
 use Rattle.ternary.proofs.path.Tie as tie
 
+mul-woven : tie.Need-mul-woven
+mul-woven c = search needs
+
+mul-woven-2 : tie.Need-mul-woven-2
+mul-woven-2 c = search needs
+
+woven-requires : tie.Need-woven-requires
+woven-requires c κs = search needs
+
 returns : tie.Need-returns
-returns c =
-    let a = c .before .before .args in
-    long (3 * c .before .spread .result + c .spread2 .result) (a .row) (a .column)
-    (ap₂ (λ (x y : ℕ). 3 * x + y) (c .before .spread .ensures) (c .spread2 .ensures) ∙ both-parts (a .row) (a .column))
+returns c = c .woven .ensures ∙ path-of (c .before .args .row) (c .before .args .column) (c .before .pre .0) (c .before .pre .1)
 
 pub path-spec : {M : Type 1} → statement M
-path-spec =
-    tie.close
-    (tie.spec
-    (λ c κs. search needs)
-    (λ c. omega (arith, apart-small (c .before .args .row) (c .spread .ensures)))
-    (λ c κs. search needs)
-    (λ c. omega (arith, apart-small (c .before .before .args .row) (c .before .spread .ensures), apart-small (c .before .before .args .column) (c .spread2 .ensures)))
-    (λ c. search needs)
-    (λ c. search needs)
-    (λ c. search needs)
-    (λ c. search needs)
-    (λ c. search needs)
-    (λ c. search needs)
-    returns)
+path-spec = tie.close (tie.spec mul-woven mul-woven-2 woven-requires returns)

@@ -101,12 +101,6 @@ column-more = read-more column-reads
 
 -- ---- weaving
 
--- one digit of each
-pub weave-step : (k i j : ℕ) → 0 < k → weave k i j ≡ weave (k - 1) (i / 3) (j / 3) * 9 + (3 * (i % 3) + j % 3)
-unfolding weave
-weave-step zero i j h = absurd (omega arith)
-weave-step (suc k) i j h = let e : suc k - 1 ≡ k = omega arith in rw e
-
 pub weave-small : (k i j : ℕ) → weave k i j < 9 ^ k
 unfolding weave
 weave-small zero i j = omega arith

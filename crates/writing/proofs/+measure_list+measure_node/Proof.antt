@@ -1,6 +1,6 @@
 -- The proof of the cycle of calls {measure_list, measure_node}. The measures are twice the size, and one more for the list. What each hands back, and how far
 -- the list has come, is said by the laws of MeasureSteps. Assumes nothing.
-use mathlib.Core.Path.{sym, _∙_}
+use mathlib.Core.Path.{refl, sym, _∙_}
 use native.Mathlib.Nat.{mul-left-comm}
 use native.Mathlib.Omega.{arith}
 use borrow.Author.Needs.{needs}
@@ -60,12 +60,18 @@ abbrev for-node : ℕ → measure-node-lts.Claims
 for-node t = (size-in-reads.Asked, size-in-reads.Learnt, measure-list-below t, measure-list.Post, depth-above-reads.Asked, depth-above-reads.Learnt)
 
 abbrev measure-list-Inv-loop : measure-list-lts.InvT-loop
-measure-list-Inv-loop codes at left start size next₀ first₀ child₀ bytes₀ wholes₀ depth₀ more₀ next first child bytes wholes depth more =
+measure-list-Inv-loop codes at left start size limit next₀ first₀ child₀ bytes₀ wholes₀ depth₀ more₀ next first child bytes wholes depth more =
     ms.Measuring codes at left start size next first child bytes wholes depth more
 
 abbrev measure-list-μ-loop : measure-list-lts.MeasureT-loop
-measure-list-μ-loop codes at left start size next₀ first₀ child₀ bytes₀ wholes₀ depth₀ more₀ next first child bytes wholes depth more =
+measure-list-μ-loop codes at left start size limit next₀ first₀ child₀ bytes₀ wholes₀ depth₀ more₀ next first child bytes wholes depth more =
     more
+
+measure-list-mul-limit : (t : ℕ) → measure-list-lts.Need-mul-limit (for-list t) (measure-list-at t) measure-list.Post measure-list-Inv-loop measure-list-μ-loop
+measure-list-mul-limit t c = search needs
+
+measure-list-add-limit : (t : ℕ) → measure-list-lts.Need-add-limit (for-list t) (measure-list-at t) measure-list.Post measure-list-Inv-loop measure-list-μ-loop
+measure-list-add-limit t c = search needs
 
 measure-list-start-at-requires : (t : ℕ) → measure-list-lts.Need-start-at-requires (for-list t) (measure-list-at t) measure-list.Post measure-list-Inv-loop measure-list-μ-loop
 measure-list-start-at-requires t c κs = search needs
@@ -116,12 +122,20 @@ measure-list-loop-less t c = search needs
 measure-list-loop-again : (t : ℕ) → measure-list-lts.Need-loop-again (for-list t) (measure-list-at t) measure-list.Post measure-list-Inv-loop measure-list-μ-loop
 measure-list-loop-again t c =
     let v = c .before .before .loop .inv in
-    ⊎-elim (λ x. ms.l-takes (omega arith) v (λ e. omega arith) (x .0 .taken) (x .1 .ensures) (x .5 .ensures) (x .6) (x .7) (x .8) (x .9) (x .10 ∙ x .4 .ensures))
+    ⊎-elim (λ x. ms.l-takes (omega arith) v (λ e. omega arith) (x .0 .taken) (x .1 .ensures) (x .5 .ensures) (x .7) (x .8) (x .9) (x .10) (x .11 ∙ x .4 .ensures))
     (λ x. ms.l-skips (omega arith) v (λ e. omega arith) (λ l. omega (arith, x .0 .left)) (x .1) (x .2) (x .3) (x .4) (x .5))
     (c .if1 .came)
 
 measure-list-returns : (t : ℕ) → measure-list-lts.Need-returns (for-list t) (measure-list-at t) measure-list.Post measure-list-Inv-loop measure-list-μ-loop
-measure-list-returns t c = ms.l-ends (c .before .loop .inv) (omega arith)
+measure-list-returns t c =
+    let n = c .before .before .before .before .before in
+    ms.l-stops
+    (ms.l-takes (omega arith) (n .before .before .before .loop .inv) (λ e. omega arith) (n .before .if1 .taken) (n .measure-node .ensures) (c .before .start-at2 .ensures)
+    refl refl refl refl (c .before .before .greater .ensures))
+    (omega arith) (c .if2 .taken)
+
+measure-list-returns-2 : (t : ℕ) → measure-list-lts.Need-returns-2 (for-list t) (measure-list-at t) measure-list.Post measure-list-Inv-loop measure-list-μ-loop
+measure-list-returns-2 t c = ms.l-ends (c .before .loop .inv) (omega arith)
 
 measure-node-add-t7 : (t : ℕ) → measure-node-lts.Need-add-t7 (for-node t) (measure-node-at t) measure-node.Post
 measure-node-add-t7 t c = search needs
@@ -170,6 +184,8 @@ pub +measure-list+measure-node-spec : {M : Type 1} → statement M
     measure-list.Post
     measure-list-Inv-loop
     measure-list-μ-loop
+    (measure-list-mul-limit t)
+    (measure-list-add-limit t)
     (measure-list-start-at-requires t)
     (measure-list-loop-holds t)
     (measure-list-add-end t)
@@ -178,10 +194,11 @@ pub +measure-list+measure-node-spec : {M : Type 1} → statement M
     (measure-list-add-wholes t)
     (measure-list-greater-requires t)
     (measure-list-start-at-requires-2 t)
+    (measure-list-returns t)
     (measure-list-sub-more t)
     (measure-list-loop-less t)
     (measure-list-loop-again t)
-    (measure-list-returns t))
+    (measure-list-returns-2 t))
     λ t. measure-node-lts.spec
     (for-node t)
     (measure-node-at t)
