@@ -35,3 +35,20 @@ done
 try "bad names without end" "yes X 2>/dev/null | timeout 10 '$bin/coverage' write 0 0" '' 'line 1: 1'
 try "good names, then bad ones without end" "(printf 'P3\nP41\n'; yes P9 2>/dev/null) | timeout 10 '$bin/coverage' write 0 0" '' 'line 3: 3'
 try "a bad name, then good ones without end" "(echo $(times 17 P); yes P 2>/dev/null) | timeout 10 '$bin/coverage' write 0 0" '' 'line 1: 2'
+
+# where standard output fails the program stops there, and says so once; whoever reads a pipe no longer ends it
+full='standard output: No space left on device'
+printf "${H}OP(34(1))" >flown.cvr
+printf "${H}NOQRS" >other.cvr
+try "three listings on a full device" "compare flown.cvr other.cvr >/dev/full" '' "$full"
+try "a refusal on a full device" "compare flown.cvr /dev/null >/dev/full" '' "$full; 9 at place 0"
+try "names on a full device" "coverage list flown.cvr >/dev/full" '' "$full"
+try "a frame on a full device" "coverage frame flown.cvr 9 >/dev/full" '' "$full"
+many=$(for a in 0 1 2 3 4 5 6 7 8; do for b in 0 1 2 3 4 5 6 7; do for c in 0 1 2 3 4 5 6 7; do echo "Q$a$b$c$c$b$a$c$b$a$b$c$a$b$c"; done; done; done)
+for i in 1 2 3 4 5 6 7 8; do echo "$many" | sed "s/^Q/Q$i/; s/^\(Q[0-8]\{15\}\).*/\1/"; done >names
+try "a long list" "coverage write 0 0 <names >long.cvr; coverage list long.cvr" @names ''
+try "names in parts on a full device" "coverage list long.cvr >/dev/full" '' "$full"
+try "listings in parts on a full device" "compare long.cvr other.cvr >/dev/full" '' "$full"
+for command in "compare long.cvr other.cvr" "coverage list long.cvr" "coverage frame flown.cvr 9"; do
+    try "a pipe that nobody reads" "$command | true" '' ''
+done

@@ -47,8 +47,10 @@ use Rattle.coverage.specs.declared.Taken.the-variants as taken-as
 use Rattle.coverage.specs.declared.NamesRead.the-variants as read-as
 use Rattle.coverage.specs.Names.{Names, read, stopped, namedOr, withName, NameTaken, AllTaken}
 use Rattle.coverage.specs.Own.{Own}
-use Rattle.console.specs.Names.{NamesWritten}
-use Rattle.coverage.specs.Printed.{askedName, ListWritten, TextWritten, NamesText}
+use Rattle.console.specs.declared.Room.{Room}
+use Rattle.console.specs.declared.Room.the-variants.{From, Failed}
+use Rattle.console.specs.Names.{NamesIn}
+use Rattle.coverage.specs.Printed.{askedName, waits, ListWritten, TextWritten, NamesText}
 
 -- ---- one name
 
@@ -222,12 +224,18 @@ name-asked t name a c o e f =
 
 -- ---- what is handed on
 
+-- what waits has its room
+pub waits-fit : (codes out : List ℕ) (room : Room) → NamesIn codes out room → waits room ≤ length out
+waits-fit codes out (From end) w = w .fits
+waits-fit codes out Failed w = omega arith
+
 module _ (t codes : List ℕ) {r : Listed} (e : r ≡ listed (listingRefusal t (length codes)) t) where
   pub list-written :
-      (n : ℕ) (later out : List ℕ) (waiting : ℕ) → r ≡ listed-by.Count n → later ≡ given (listingRefusal t (length codes)) (codesIn t codes) codes → NamesWritten (take n later) out waiting →
-      ListWritten (listingRefusal t (length codes)) t out waiting
-  list-written n later out waiting f g w =
-      subst (λ (q : ℕ). ListWritten q t out waiting) (sym (listed-allowed t codes e n f)) (subst (λ (l : List ℕ). NamesWritten l out waiting) (listed-taken t codes e n later f g) w)
+      (n : ℕ) (later out : List ℕ) (room : Room) (waiting : ℕ) → r ≡ listed-by.Count n → later ≡ given (listingRefusal t (length codes)) (codesIn t codes) codes →
+      NamesIn (take n later) out room → waiting ≡ waits room → ListWritten (listingRefusal t (length codes)) t out waiting
+  list-written n later out room waiting f g w z =
+      subst (λ (q : ℕ). ListWritten q t out waiting) (sym (listed-allowed t codes e n f))
+      (room, subst (λ (l : List ℕ). NamesIn l out room) (listed-taken t codes e n later f g) w, z)
 
   pub list-refused :
       (q p : ℕ) {out later : List ℕ} {end : ℕ} → r ≡ listed-by.Refused q p → Put 0 (numberLine q) out later end → end ≤ length out → ListWritten (listingRefusal t (length codes)) t later end

@@ -10,12 +10,13 @@ ghost use Rattle.report.specs.Put.{Put};
 ghost use Rattle.report.specs.Lines.{checkLine, askedLine};
 ghost use Rattle.coverage.specs.Names.{NameTaken, AllTaken};
 ghost use Rattle.coverage.specs.Own.{Own};
-ghost use Rattle.coverage.specs.Printed.{askedName, ListWritten, TextWritten, NamesText};
+ghost use Rattle.coverage.specs.Printed.{askedName, waits, ListWritten, TextWritten, NamesText};
 use asking::Asked;
 use cell::Arrangement;
 use code::Coded;
 use console::BytesRead;
 use console::LineRead;
+use console::Room;
 use decimal::Whole;
 use listing::Listed;
 use reader::Checked;
@@ -131,6 +132,16 @@ fn check_text(text: &[u8], out: &mut [u8]) -> Shown
     }
 }
 
+// How much waits in front: nothing where printing failed, for then nothing more is to be printed.
+fn waiting(room: Room) -> usize
+    ensures { λ r. ⌜ r ≡ waits room ⌝ }
+{
+    match room {
+        Room::From(end) => end,
+        Room::Failed => 0,
+    }
+}
+
 // list: the names of the whole cells, or the refusal's line: what is left of them in front, behind what was printed.
 fn list_text(text: &[u8], codes: &mut [u64], out: &mut [u8]) -> Shown
     requires { ⌜ 21 ≤ length (now out) ⌝ }
@@ -139,7 +150,7 @@ fn list_text(text: &[u8], codes: &mut [u64], out: &mut [u8]) -> Shown
 {
     match listing::list(text, codes) {
         Listed::Count(count) => Shown {
-            end: console::put_all_names(&codes[..count as usize], out),
+            end: waiting(console::put_all_names(&codes[..count as usize], out)),
             refusal: 0,
             place: 0,
         },
