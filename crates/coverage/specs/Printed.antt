@@ -42,11 +42,11 @@ TextWritten f codes room text (Length n) = (take n text ≡ textOf (asksFor (f .
 TextWritten f codes room text (Refused r) = (writeRefusal (f .version) (f .depth) (f .arrangement) codes room ≡ r) × (r ≡ 0 → ⊥)
 TextWritten f codes room text None = ⊥
 
--- `coverage write`: the text of the names on the lines of some bytes, read in the arrangement that the text is of; or the list is refused. Where a line
--- stops the reading, or the input fails, there is no text
+-- `coverage write`: the text of all names on the lines of some bytes, read in the arrangement that the text is of, whatever is held of them; or their list
+-- is refused. Where a line stops the reading, or the input fails, there is no text
 abbrev pub NamesText : Form → (most room : ℕ) (text : List ℕ) → Text → Type 0
 NamesText f most room text (Length n) =
-    (codes : List ℕ) × OfBytes (withName (f .arrangement) most) (read []) (read codes) × TextWritten f codes room text (Length n)
+    (codes : List ℕ) × (held : List ℕ) × OfBytes (withName (f .arrangement) most) (read [] []) (read codes held) × TextWritten f codes room text (Length n)
 NamesText f most room text (Refused r) =
-    (codes : List ℕ) × OfBytes (withName (f .arrangement) most) (read []) (read codes) × TextWritten f codes room text (Refused r)
+    (codes : List ℕ) × (held : List ℕ) × OfBytes (withName (f .arrangement) most) (read [] []) (read codes held) × TextWritten f codes room text (Refused r)
 NamesText f most room text None = Unit {0}

@@ -49,11 +49,15 @@ same-length-2 c = search needs
 
 returns : tie.Need-returns
 returns c =
-    let a = c .before .before .before .before .before .before .before .before .before .before .before .before .before .before .before .before .args in
-    let l = c .before .before .before .before .before .before .before .before .before .before .before .list in
-    let p = c .before .before .before .put-all-names in
+    let c3 = c .before .before .before in
+    let c7 = c3 .before .before .before .before in
+    let c11 = c7 .before .before .before .before in
+    let c16 = c11 .before .before .before .before .before in
+    let a = c16 .args in
+    let l = c11 .list in
+    let p = c3 .put-all-names in
     let w = c .waiting .ensures in (
-      list-written (a .text .now) (a .codes .now) (l .ensures .0) _ (l .last .1 .0) (p .last .1 .0) (p .result) _ (c .before .before .before .before .before .before .before .count .given .1) (l .ensures .1) (p .ensures) w,
+      list-written (a .text .now) (a .codes .now) (l .ensures .0) _ (l .last .1 .0) (p .last .1 .0) (p .result) _ (c7 .count .given .1) (l .ensures .1) (p .ensures) w,
       omega (arith, w, waits-fit _ (p .last .1 .0) (p .result) (p .ensures)),
     )
 
