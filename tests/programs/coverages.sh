@@ -196,7 +196,7 @@ printf '%s\n' {N,O}{0..8}{0..8}{0..8}{0..8}{0..7} >apart.names
 try "as many as are held, and none to merge" 'head -n 65680 apart.names | coverage write 0 0' '' 13
 try "one more" 'coverage write 0 0 <apart.names' '' 'line 65681: 13'
 deep=N
-for i in 1 2 3 4 5 6 7 8 9 10 11 12 13 14 15; do printf '%s\n' $deep{0..7}; deep+=8; done >deep.names
+for i in 1 2 3 4 5 6 7 8 9 10 11 12 13 14 15; do printf '%s\n' "$deep"{0..7}; deep+=8; done >deep.names
 try "the last of nine at each of fifteen depths" "(cat deep.names; echo $deep) | coverage write 0 0" "${H}N" ''
 try "and not the last" "(cat deep.names; echo O) | coverage write 0 0 | wc -c" "$((7 + 1 + 8 * 15 + 14 + 2 * 15 + 1))\n" ''
 # names of parts that are wholly there, many levels deeper than their cells, and their text by 01's words

@@ -44,11 +44,8 @@ try "three listings on a full device" "compare flown.cvr other.cvr >/dev/full" '
 try "a refusal on a full device" "compare flown.cvr /dev/null >/dev/full" '' "$full; 9 at place 0"
 try "names on a full device" "coverage list flown.cvr >/dev/full" '' "$full"
 try "a frame on a full device" "coverage frame flown.cvr 9 >/dev/full" '' "$full"
-many=$(for a in 0 1 2 3 4 5 6 7 8; do for b in 0 1 2 3 4 5 6 7; do for c in 0 1 2 3 4 5 6 7; do echo "Q$a$b$c$c$b$a$c$b$a$b$c$a$b$c"; done; done; done)
-for i in 1 2 3 4 5 6 7 8; do echo "$many" | sed "s/^Q/Q$i/; s/^\(Q[0-8]\{15\}\).*/\1/"; done >names
-try "a long list" "coverage write 0 0 <names >long.cvr; coverage list long.cvr" @names ''
-try "names in parts on a full device" "coverage list long.cvr >/dev/full" '' "$full"
-try "listings in parts on a full device" "compare long.cvr other.cvr >/dev/full" '' "$full"
-for command in "compare long.cvr other.cvr" "coverage list long.cvr" "coverage frame flown.cvr 9"; do
+try "names in parts on a full device" "coverage list full.cvr >/dev/full" '' "$full"
+try "listings in parts on a full device" "compare full.cvr other.cvr >/dev/full" '' "$full"
+for command in "compare full.cvr other.cvr" "coverage list full.cvr" "coverage frame flown.cvr 9"; do
     try "a pipe that nobody reads" "$command | true" '' ''
 done
