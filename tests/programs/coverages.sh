@@ -183,11 +183,59 @@ try "a bad name at the end" "printf 'P3\nT' | coverage write 0 0" '' 'line 2: 1'
 try "an empty line" "printf 'P3\n\nP41\n' | coverage write 0 0" '' 'line 2: 1'
 printf '%s\n' {N,O}{0..8}{0..8}{0..8}{0..8}{0..8} >names
 try "65,536 names" 'head -n 65536 names | coverage write 0 0' "${H}NO(0(012345678(012345678(0(0123456)))))" ''
-try "more than 65,536 names" 'head -n 65537 names | coverage write 0 0' '' 'line 65537: 13'
-try "many more" 'coverage write 0 0 <names' '' 'line 65537: 13'
+try "more than 65,536 names" 'head -n 65537 names | coverage write 0 0' "${H}NO(0(012345678(012345678(0(01234567)))))" ''
+try "many more" 'coverage write 0 0 <names' "${H}NO" ''
+try "many more for handhelds" 'coverage write 0 0 0 <names' 'CVR\x00\x0200aNO' ''
+try "a bad name behind many more" '(cat names; echo T) | coverage write 0 0' '' 'line 118099: 1'
+try "11 behind many more" '(cat names; echo N) | coverage write 0 0' '' 11
+try "many more, one of them missing" "grep -v O88887 names | coverage write 0 0" "${H}NO(012345678(012345678(012345678(012345678(01234568)))))" ''
 try "a bad name after 65,536 good ones" '(head -n 65536 names; echo T) | coverage write 0 0' '' 'line 65537: 1'
 try "a bad name in an input that never ends" "yes X | coverage write 0 0" '' 'line 1: 1'
-try "too many names in an input that never ends" "yes N | coverage write 0 0" '' 'line 65537: 13'
+try "too many names in an input that never ends" "yes N | coverage write 0 0" '' 'line 65681: 13'
+printf '%s\n' {N,O}{0..8}{0..8}{0..8}{0..8}{0..7} >apart.names
+try "as many as are held, and none to merge" 'head -n 65680 apart.names | coverage write 0 0' '' 13
+try "one more" 'coverage write 0 0 <apart.names' '' 'line 65681: 13'
+deep=N
+for i in 1 2 3 4 5 6 7 8 9 10 11 12 13 14 15; do printf '%s\n' "$deep"{0..7}; deep+=8; done >deep.names
+try "the last of nine at each of fifteen depths" "(cat deep.names; echo $deep) | coverage write 0 0" "${H}N" ''
+try "and not the last" "(cat deep.names; echo O) | coverage write 0 0 | wc -c" "$((7 + 1 + 8 * 15 + 14 + 2 * 15 + 1))\n" ''
+# names of parts that are wholly there, many levels deeper than their cells, and their text by 01's words
+for seed in 1 2 3; do
+    python3 -c 'if True:
+        import random, sys
+        random.seed(int(sys.argv[1]))
+        names = []
+
+        def whole(name, levels):
+            if levels == 0:
+                names.append(name)
+            else:
+                for digit in "012345678":
+                    whole(name + digit, levels - 1)
+
+        def text(name, depth):
+            # the text of one cell: None where nothing of it is there
+            kind = random.choice("wwwpp" if depth < 5 else "wwww" if depth < 9 else "w")
+            if depth > 0 and random.random() < 0.1:
+                return None
+            if kind == "w" and depth > 0:
+                whole(name, random.choice((0, 0, 1, 2, 3)))
+                return name[-1]
+            parts = [text(name + digit, depth + 1) for digit in "012345678"]
+            parts = [part for part in parts if part is not None]
+            if not parts:
+                return None
+            if len(parts) == 9 and all(len(part) == 1 for part in parts):
+                return name[-1]
+            return name[-1] + "(" + "".join(parts) + ")"
+
+        while len(names) < 100000:
+            names.clear()
+            body = "".join(filter(None, (text(face, 0) for face in "NOPQRS")))
+        print("\n".join(names))
+        open("wanted.cvr", "wb").write(b"CVR\0\1" + b"00" + body.encode())' $seed >many.names
+    try "more than 100,000 names, seed $seed" 'coverage write 0 0 <many.names' @wanted.cvr ''
+done
 try "a folder as input" 'coverage write 0 0 <.' '' 'coverage: standard input: Is a directory'
 try "an input that fails" "failing 'P3\nP4' coverage write 0 0" '' 'coverage: standard input: Resource temporarily unavailable'
 try "no input" 'coverage write 0 0 <&-' '' 'coverage: standard input: Bad file descriptor'

@@ -35,3 +35,17 @@ done
 try "bad names without end" "yes X 2>/dev/null | timeout 10 '$bin/coverage' write 0 0" '' 'line 1: 1'
 try "good names, then bad ones without end" "(printf 'P3\nP41\n'; yes P9 2>/dev/null) | timeout 10 '$bin/coverage' write 0 0" '' 'line 3: 3'
 try "a bad name, then good ones without end" "(echo $(times 17 P); yes P 2>/dev/null) | timeout 10 '$bin/coverage' write 0 0" '' 'line 1: 2'
+
+# where standard output fails the program stops there, and says so once; whoever reads a pipe no longer ends it
+full='standard output: No space left on device'
+printf "${H}OP(34(1))" >flown.cvr
+printf "${H}NOQRS" >other.cvr
+try "three listings on a full device" "compare flown.cvr other.cvr >/dev/full" '' "$full"
+try "a refusal on a full device" "compare flown.cvr /dev/null >/dev/full" '' "$full; 9 at place 0"
+try "names on a full device" "coverage list flown.cvr >/dev/full" '' "$full"
+try "a frame on a full device" "coverage frame flown.cvr 9 >/dev/full" '' "$full"
+try "names in parts on a full device" "coverage list full.cvr >/dev/full" '' "$full"
+try "listings in parts on a full device" "compare full.cvr other.cvr >/dev/full" '' "$full"
+for command in "compare full.cvr other.cvr" "coverage list full.cvr" "coverage frame flown.cvr 9"; do
+    try "a pipe that nobody reads" "$command | true" '' ''
+done

@@ -1,5 +1,7 @@
 -- A listing in its room, the names in front of all but the last byte and a line feed behind them; and the three listings, or the number. Assumes nothing.
 use mathlib.Core.Path.{_≡_, refl, sym, ap, _∙_, subst}
+use mathlib.Core.Bool.{true}
+use mathlib.Core.Logic.{inl, inr}
 use mathlib.Core.List.{List, [], _∷_, _++_}
 use Prim.Native.Nat.{ℕ, zero, suc, _+_, _-_, _*_, _≤_, _<_}
 use native.Mathlib.Numerals.{add-one}
@@ -16,7 +18,8 @@ use Rattle.report.specs.Laws.Put.{put-taken}
 use Rattle.comparing.specs.Compare.{ThreeLists, lists, sharedCodes, comparePlace}
 use Rattle.comparing.specs.Laws.Answer.{AllInFront}
 use Rattle.compare.specs.Loaded.{bytesOf}
-use Rattle.compare.specs.Printed.{ListingWritten, ListingsWritten}
+use Rattle.compare.specs.declared.Shown.{Shown}
+use Rattle.compare.specs.Printed.{ListingWritten, ThreePrinted, ListingsWritten}
 
 module _ (codes out ys : List ℕ) (end : ℕ) (h : 18 ≤ length out) (l : length ys ≡ length (take (length out - 1) out)) (w : NamesWritten codes ys end) where
   abbrev room : List ℕ
@@ -46,25 +49,32 @@ module _ (codes out ys : List ℕ) (end : ℕ) (h : 18 ≤ length out) (l : leng
         fits = omega (arith, end-inside, length-set room end 10);
       }
 
+-- what does not have room without the last byte does not have it with one
+pub listing-unprinted : (codes out ys : List ℕ) → 18 ≤ length out → length ys ≡ length (take (length out - 1) out) → length ys < 17 * length codes → length (ys ++ drop (length out - 1) out)
+    < 17 * length codes + 1
+listing-unprinted codes out ys h l w =
+    omega (arith, length-take-le (length out - 1) out (omega arith), length-append ys (drop (length out - 1) out), length-drop (length out - 1) out)
+
 pub listings-written :
-    (t u : List ℕ) {q a b c e f g : ℕ} {lent later : ThreeLists} {x y z : List ℕ} → (q ≡ 0) × AllInFront (sharedCodes t u) lent later a b c →
-    ListingWritten (take a (later .firsts)) x e → ListingWritten (take b (later .seconds)) y f → ListingWritten (take c (later .boths)) z g →
-    ListingsWritten q t u (lists x y z) (record { firsts = e; seconds = f; boths = g; refusal = 0; place = 0 })
-listings-written t u {e = e} {f = f} {g = g} {x = x} {y = y} {z = z} k v w o =
-    subst (λ (n : ℕ). ListingsWritten n t u (lists x y z) (record { firsts = e; seconds = f; boths = g; refusal = 0; place = 0 })) (sym (k .0)) (
-      subst (λ (l : List ℕ). ListingWritten l x e) (k .1 .firsts .are) v,
-      subst (λ (l : List ℕ). ListingWritten l y f) (k .1 .seconds .are) w,
-      subst (λ (l : List ℕ). ListingWritten l z g) (k .1 .boths .are) o,
-      refl,
-      refl,
-    )
+    (t u : List ℕ) {q a b c : ℕ} {lent later rooms : ThreeLists} {shown : Shown} → (q ≡ 0) × AllInFront (sharedCodes t u) lent later a b c →
+    ThreePrinted (lists (take a (later .firsts)) (take b (later .seconds)) (take c (later .boths))) rooms shown → ListingsWritten q t u rooms shown
+listings-written t u {rooms = rooms} {shown} k (inl w) =
+    subst (λ (n : ℕ). ListingsWritten n t u rooms shown) (sym (k .0)) (inl (record {
+      done = w .done;
+      firsts = subst (λ (l : List ℕ). ListingWritten l (rooms .firsts) (shown .firsts)) (k .1 .firsts .are) (w .firsts);
+      seconds = subst (λ (l : List ℕ). ListingWritten l (rooms .seconds) (shown .seconds)) (k .1 .seconds .are) (w .seconds);
+      boths = subst (λ (l : List ℕ). ListingWritten l (rooms .boths) (shown .boths)) (k .1 .boths .are) (w .boths);
+      refusal = w .refusal;
+      place = w .place;
+    }))
+listings-written t u {rooms = rooms} {shown} k (inr w) = subst (λ (n : ℕ). ListingsWritten n t u rooms shown) (sym (k .0)) (inr w)
 
 pub number-written :
     (t u y z : List ℕ) (p : ℕ) {q r end : ℕ} {out later : List ℕ} → (q ≡ r) × (r ≡ 0 → ⊥) × (p ≡ comparePlace t u) → Put 0 (numberLine r) out later end → end ≤ length out →
-    ListingsWritten q t u (lists later y z) (record { firsts = end; seconds = 0; boths = 0; refusal = r; place = p })
+    ListingsWritten q t u (lists later y z) (record { done = true; firsts = end; seconds = 0; boths = 0; refusal = r; place = p })
 number-written t u y z p {r = zero} k w h = absurd (k .1 refl)
 number-written t u y z p {r = suc r} {end = end} {later = later} k w h =
-    subst (λ (n : ℕ). ListingsWritten n t u (lists later y z) (record { firsts = end; seconds = 0; boths = 0; refusal = suc r; place = p })) (sym (k .0))
+    subst (λ (n : ℕ). ListingsWritten n t u (lists later y z) (record { done = true; firsts = end; seconds = 0; boths = 0; refusal = suc r; place = p })) (sym (k .0))
     (put-taken w h, refl, k .2)
 
 -- the bytes of a file, or none, have their room

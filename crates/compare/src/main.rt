@@ -3,14 +3,16 @@ ghost use mathlib.Core.Path.{_≡_};
 ghost use Prim.Native.Nat.{_≤_};
 ghost use lib.ListN.{length};
 ghost use Rattle.comparing.specs.Compare.{lists, compareRefusal};
-ghost use Rattle.compare.specs.Printed.{ListingWritten, ListingsWritten};
+ghost use Rattle.compare.specs.Printed.{ListingIn, ListingPrinted, Stopped, ThreePrinted, ListingsWritten};
 ghost use Rattle.compare.specs.Loaded.{bytesOf};
 use comparing::Compared;
 use console::BytesRead;
+use console::Room;
 use reader::Checked;
 
-// How many bytes stand in each of the three rooms; and the refusal that is to be said, 0 for none, with its place.
+// Whether all was printed. How many bytes stand in each of the three rooms then; and the refusal that is to be said, 0 for none, with its place.
 struct Shown {
+    done: bool,
     firsts: usize,
     seconds: usize,
     boths: usize,
@@ -23,16 +25,76 @@ fn usage() {
     console::say(b"  lists the cells only in the first text, only in the second, and in both\n");
 }
 
-// A listing: its names, one a line, and an empty line. What is left of it stands in front, behind what was printed, and is printed too.
-fn print_listing(codes: &[u64], out: &mut [u8]) -> usize
+// A listing: its names, one a line, and an empty line. What is left of it stands in front, behind what was printed.
+fn put_listing(codes: &[u64], out: &mut [u8]) -> Room
     requires { ⌜ 18 ≤ length (now out) ⌝ }
-    ensures { λ r. ⌜ ListingWritten (now (codes .entry)) (now (out .exit)) r ⌝ }
+    ensures { λ r. ⌜ ListingIn (now (codes .entry)) (now (out .exit)) r ⌝ }
 {
     let last = out.len() - 1;
-    let end = console::put_all_names(codes, &mut out[..last]);
+    let Room::From(end) = console::put_all_names(codes, &mut out[..last]) else {
+        return Room::Failed;
+    };
     out[end] = b'\n';
-    console::print_first(out, end + 1);
-    end + 1
+    Room::From(end + 1)
+}
+
+// The same, and what is left of it is printed too.
+fn print_listing(codes: &[u64], out: &mut [u8]) -> Room
+    requires { ⌜ 18 ≤ length (now out) ⌝ }
+    ensures { λ r. ⌜ ListingPrinted (now (codes .entry)) (now (out .exit)) r ⌝ }
+{
+    let Room::From(end) = put_listing(codes, out) else {
+        return Room::Failed;
+    };
+    if console::printed_first(out, end) {
+        return Room::From(end);
+    }
+    Room::Failed
+}
+
+// What is left where printing failed: nothing more is printed.
+fn stopped() -> Shown
+    ensures { λ r. ⌜ Stopped r ⌝ }
+{
+    Shown {
+        done: false,
+        firsts: 0,
+        seconds: 0,
+        boths: 0,
+        refusal: 0, // the texts are not refused
+        place: 0,
+    }
+}
+
+// The three listings, up to the first that is not printed whole.
+fn print_three(
+    firsts: &[u64],
+    seconds: &[u64],
+    boths: &[u64],
+    one: &mut [u8],
+    two: &mut [u8],
+    three: &mut [u8],
+) -> Shown
+    requires { ⌜ (18 ≤ length (now one)) × (18 ≤ length (now two)) × (18 ≤ length (now three)) ⌝ }
+    ensures { λ r. ⌜ ThreePrinted (lists (now (firsts .entry)) (now (seconds .entry)) (now (boths .entry))) (lists (now (one .exit)) (now (two .exit)) (now (three .exit))) r ⌝ }
+{
+    let Room::From(first) = print_listing(firsts, one) else {
+        return stopped();
+    };
+    let Room::From(second) = print_listing(seconds, two) else {
+        return stopped();
+    };
+    let Room::From(both) = print_listing(boths, three) else {
+        return stopped();
+    };
+    Shown {
+        done: true,
+        firsts: first,
+        seconds: second,
+        boths: both,
+        refusal: 0,
+        place: 0,
+    }
 }
 
 // The three listings, or the refusal number on its line. The program "lends 65,536 codes a listing".
@@ -54,17 +116,19 @@ fn print_compared(
             first,
             second,
             both,
-        } => Shown {
-            firsts: print_listing(&firsts[..first.count as usize], one),
-            seconds: print_listing(&seconds[..second.count as usize], two),
-            boths: print_listing(&boths[..both.count as usize], three),
-            refusal: 0,
-            place: 0,
-        },
+        } => print_three(
+            &firsts[..first.count as usize],
+            &seconds[..second.count as usize],
+            &boths[..both.count as usize],
+            one,
+            two,
+            three,
+        ),
         Compared::Refused { refusal, place } => {
             let end = report::put_line(refusal, one);
             console::print_first(one, end);
             Shown {
+                done: true,
                 firsts: end,
                 seconds: 0,
                 boths: 0,

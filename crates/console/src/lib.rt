@@ -8,7 +8,7 @@ ghost use Rattle.console.specs.Beside.{besideOf, Folder};
 ghost use Rattle.console.specs.History.{loadedFrom, OfBytes, revisionWanted, settingAt, settingWanted};
 ghost use Rattle.console.specs.Input.{unread, Given, Fits, lastLine};
 ghost use Rattle.console.specs.Room.{Made};
-ghost use Rattle.console.specs.Names.{NamesWritten};
+ghost use Rattle.console.specs.Names.{NamesIn};
 use cell::Arrangement;
 use decimal::Whole;
 use flight::Latitude;
@@ -83,6 +83,13 @@ pub fn print(text: &[u8]) {
     printed(text);
 }
 
+// Whether the first bytes of a buffer went to standard output.
+pub fn printed_first(buf: &[u8], count: usize) -> bool
+    requires { ⌜ count ≤ length (now buf) ⌝ }
+{
+    printed(&buf[..count])
+}
+
 // The first bytes of a buffer, to standard output.
 pub fn print_first(buf: &[u8], count: usize)
     requires { ⌜ count ≤ length (now buf) ⌝ }
@@ -104,20 +111,22 @@ pub fn make_room(out: &[u8], at: usize, size: usize) -> Room
     Room::From(at)
 }
 
-// The names of codes, one a line: what is left of them in front, behind what was printed.
-pub fn put_all_names(codes: &[u64], out: &mut [u8]) -> usize
+// The names of codes, one a line: what is left of them in front, behind what was printed. Where printing fails no further name is put.
+pub fn put_all_names(codes: &[u64], out: &mut [u8]) -> Room
     requires { ⌜ 17 ≤ length (now out) ⌝ }
-    ensures { λ r. ⌜ NamesWritten (now (codes .entry)) (now (out .exit)) r ⌝ }
+    ensures { λ r. ⌜ NamesIn (now (codes .entry)) (now (out .exit)) r ⌝ }
 {
     let mut from: usize = 0;
     let mut end: usize = 0;
     while from < codes.len() {
-        print_first(out, end);
+        let Room::From(_) = make_room(out, end, out.len()) else {
+            return Room::Failed; // all that follows too
+        };
         let names = report::put_names(&codes[from..], out);
         from = from + names.count;
         end = names.end;
     }
-    end
+    Room::From(end)
 }
 
 // A number in decimal, to standard error.

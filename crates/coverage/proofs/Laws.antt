@@ -4,11 +4,10 @@ use mathlib.Core.Logic.{_⊎_, ⊎-elim}
 use mathlib.Core.Bool.{Bool, true, false, not}
 use mathlib.Core.List.{List, [], _∷_, _++_}
 use Prim.Native.Nat.{ℕ, zero, suc, _+_, _-_, _≤_, _<_}
-use native.Mathlib.Numerals.{add-one}
 use native.Mathlib.Omega.{arith}
 use lib.Dec.{leb, ltb}
-use lib.ListN.{length, take, drop, set, length-set}
-use lib.Seq.{take-all, take-suc-set, take-at, length-take-le}
+use lib.ListN.{length, take, drop}
+use lib.Seq.{take-all, length-take-le}
 use borrow.Author.Tests.{lt-ltb, ltb-false, lt-leb, le-leb}
 use Rattle.logic.specs.Laws.Order.{lt-or}
 use Rattle.logic.specs.Refusal.{refuse, given, _otherwise_}
@@ -20,7 +19,12 @@ use Rattle.code.specs.Laws.Code.{code-passes}
 use Rattle.decimal.specs.Decimal.{trimmed}
 use Rattle.decimal.specs.Laws.Long.{trimmed-length, trimmed-take}
 use Rattle.name.specs.Name.{nameRefusal, nameCode, firstLetter, allDigits}
-use Rattle.lines.specs.Fold.{OfBytes, OfEnded}
+use Rattle.name.specs.Laws.Name.{accepted, name-code-is}
+use Rattle.lines.specs.Lines.{linesOf}
+use Rattle.lines.specs.Fold.{after, OfBytes, OfEnded}
+use Rattle.gathering.specs.Gather.{gathered}
+use Rattle.gathering.specs.Laws.Gather.{Holds, holds-none, holds-more, text-alike, refused-alike}
+use Rattle.writing.specs.Write.{asksFor}
 use Rattle.lines.specs.Laws.Fold.{then-line, then-last, then-none}
 use Rattle.console.specs.declared.LineRead.the-variants.{Line, Last}
 use Rattle.console.specs.Input.{Given}
@@ -28,6 +32,7 @@ use Rattle.report.specs.Put.{Put}
 use Rattle.report.specs.Lines.{numberLine}
 use Rattle.report.specs.Laws.Put.{put-taken}
 use Rattle.cell.specs.declared.Arrangement.{Arrangement}
+use Rattle.cell.specs.Cell.{IsArrangement}
 use Rattle.reading.specs.TextReading.{textArrangement}
 use Rattle.reader.specs.Check.{textRefusal, placeWith}
 use Rattle.asking.specs.declared.Asked.the-variants.{Refused}
@@ -44,11 +49,13 @@ use Rattle.coverage.specs.declared.Text.the-variants.{Length}
 use Rattle.coverage.specs.declared.Taken.{Taken}
 use Rattle.coverage.specs.declared.Taken.the-variants as taken-as
 use Rattle.coverage.specs.declared.NamesRead.the-variants as read-as
-use Rattle.coverage.specs.Names.{Names, read, stopped, namedOr, withName, NameTaken, AllTaken}
+use Rattle.coverage.specs.Names.{Names, read, stopped, lineRefusal, namedOr, withName, NameTaken, AllTaken}
 use Rattle.coverage.specs.Own.{Own}
 use Rattle.coverage.specs.Laws.Asked.{named-code, named-in}
-use Rattle.console.specs.Names.{NamesWritten}
-use Rattle.coverage.specs.Printed.{askedName, ListWritten, TextWritten, NamesText}
+use Rattle.console.specs.declared.Room.{Room}
+use Rattle.console.specs.declared.Room.the-variants.{From, Failed}
+use Rattle.console.specs.Names.{NamesIn}
+use Rattle.coverage.specs.Printed.{askedName, waits, ListWritten, TextWritten, NamesText}
 
 -- ---- one name
 
@@ -73,13 +80,20 @@ module _ (a : Arrangement) (line codes : List ℕ) (count : ℕ) (h : count ≤ 
   held : length (take count codes) ≡ count
   held = length-take-le count codes h
 
-  pub name-taken : (code : ℕ) → x ≡ coded-as.Code code → count < length codes → NameTaken a line codes count (set codes count code) (taken-as.Count (count + 1))
-  name-taken code f l =
+  -- a name's code is a code
+  pub name-coded : IsArrangement a → (code : ℕ) → x ≡ coded-as.Code code → isCode code ≡ true
+  name-coded g code f =
+      let k = as-code (nameRefusal (trimmed line)) (nameCode a (trimmed line)) code (sym named ∙ f) in
+      ap isCode (sym (k .1)) ∙ name-code-is (trimmed line) g (accepted (trimmed line) (k .0))
+
+  pub name-taken :
+      (code n : ℕ) (later : List ℕ) → x ≡ coded-as.Code code → count < length codes → take n later ≡ gathered a code (take count codes) → n ≤ length later →
+      NameTaken a line codes count later (taken-as.Count n)
+  name-taken code n later f l w i =
       let k = as-code (nameRefusal (trimmed line)) (nameCode a (trimmed line)) code (sym named ∙ f) in (
         passes _ (k .0) ∙ ap (λ (b : Bool). refuse b 13) (ap (leb (length codes)) held ∙ lt-leb (length codes) count l),
-        rw (add-one count) (take-suc-set codes count code l) ∙ ap (λ (y : ℕ). take count codes ++ (y ∷ [])) (sym (k .1)),
-        omega (arith, length-set codes count code),
-        omega arith,
+        w ∙ ap (λ (y : ℕ). gathered a y (take count codes)) (sym (k .1)),
+        i,
       )
 
   pub name-full : (code : ℕ) → x ≡ coded-as.Code code → length codes ≤ count → NameTaken a line codes count codes (taken-as.Refused 13)
@@ -98,55 +112,61 @@ long-name : (y : List ℕ) → 18 ≤ length y → nameRefusal (trimmed y) ≡ 2
 unfolding nameRefusal _otherwise_
 long-name y h = rw (lt-ltb 16 (length (trimmed y)) (omega (arith, trimmed-length y))) refl
 
-stops-long : (a : Arrangement) (size : ℕ) (codes y : List ℕ) → 18 ≤ length y → withName a size (read codes) y ≡ stopped (suc (length codes)) 2
-stops-long a size codes y h =
-    ap (λ (q : ℕ). namedOr q codes (nameCode a (trimmed y))) (stops (nameRefusal (trimmed y)) _ (λ z. absurd (two (sym (long-name y h) ∙ z))) ∙ long-name y h)
+stops-long : (a : Arrangement) (size : ℕ) (codes held y : List ℕ) → 18 ≤ length y → withName a size (read codes held) y ≡ stopped (suc (length codes)) 2
+stops-long a size codes held y h =
+    ap (λ (q : ℕ). namedOr a q codes held (nameCode a (trimmed y))) (stops (nameRefusal (trimmed y)) _ (λ z. absurd (two (sym (long-name y h) ∙ z))) ∙ long-name y h)
   where
     two : _≡_ {A = ℕ} 2 0 → ⊥
     two z = omega arith
 
-cut-name : (a : Arrangement) (size room : ℕ) (codes x : List ℕ) → 18 ≤ room → withName a size (read codes) (take room x) ≡ withName a size (read codes) x
-cut-name a size room codes x h =
+cut-name : (a : Arrangement) (size room : ℕ) (codes held x : List ℕ) → 18 ≤ room → withName a size (read codes held) (take room x) ≡ withName a size (read codes held) x
+cut-name a size room codes held x h =
     ⊎-elim
     (λ l.
     let z : length (take room x) ≡ room = length-take-le room x (omega arith) in
-    stops-long a size codes (take room x) (omega arith) ∙ sym (stops-long a size codes x (omega arith)))
-    (λ l. ap (withName a size (read codes)) (take-all room x l)) (lt-or room (length x))
+    stops-long a size codes held (take room x) (omega arith) ∙ sym (stops-long a size codes held x (omega arith)))
+    (λ l. ap (withName a size (read codes held)) (take-all room x l)) (lt-or room (length x))
 
 -- ---- a line more
 
-module _ (a : Arrangement) (room : List ℕ) (big : 18 ≤ length room) (codes later : List ℕ) (count n : ℕ) (o : OfEnded (withName a (length codes)) (read []) (read (take count codes))) where
+module _ (a : Arrangement) (room : List ℕ) (big : 18 ≤ length room) (all codes later : List ℕ) (count n : ℕ)
+    (o : OfEnded (withName a (length codes)) (read [] []) (read all (take count codes))) where
+  abbrev kept : List ℕ
+  kept = take count codes
+
+  abbrev line-code : ℕ
+  line-code = nameCode a (trimmed (take n room))
+
   -- what the line comes to
   abbrev comes : (r : Taken) → NameTaken a (take n room) codes count later r → Names
-  comes (taken-as.Count k) h = read (take k later)
-  comes (taken-as.Refused r) h = stopped (suc (length (take count codes))) r
+  comes (taken-as.Count k) h = read (all ++ (line-code ∷ [])) (take k later)
+  comes (taken-as.Refused r) h = stopped (suc (length all)) r
 
-  is : (r : Taken) (h : NameTaken a (take n room) codes count later r) → withName a (length codes) (read (take count codes)) (take n room) ≡ comes r h
-  is (taken-as.Count k) (e, f, i, j) = ap (λ (q : ℕ). namedOr q (take count codes) (nameCode a (trimmed (take n room)))) e ∙ ap read (sym f)
-  is (taken-as.Refused r) (e, f) = ap (λ (q : ℕ). namedOr q (take count codes) (nameCode a (trimmed (take n room)))) e ∙ some r f
+  is : (r : Taken) (h : NameTaken a (take n room) codes count later r) → withName a (length codes) (read all kept) (take n room) ≡ comes r h
+  is (taken-as.Count k) (e, f, i) = ap (λ (q : ℕ). namedOr a q all kept line-code) e ∙ ap (read (all ++ (line-code ∷ []))) (sym f)
+  is (taken-as.Refused r) (e, f) = ap (λ (q : ℕ). namedOr a q all kept line-code) e ∙ some r f
     where
-      some : (q : ℕ) → (q ≡ 0 → ⊥) → namedOr q (take count codes) (nameCode a (trimmed (take n room))) ≡ stopped (suc (length (take count codes))) q
+      some : (q : ℕ) → (q ≡ 0 → ⊥) → namedOr a q all kept line-code ≡ stopped (suc (length all)) q
       some zero g = absurd (g refl)
       some (suc q) g = refl
 
-  whole : (x : List ℕ) → take n room ≡ take (length room) x → (r : Taken) (h : NameTaken a (take n room) codes count later r) → withName a (length codes) (read (take count codes)) x
-      ≡ comes r h
+  whole : (x : List ℕ) → take n room ≡ take (length room) x → (r : Taken) (h : NameTaken a (take n room) codes count later r) → withName a (length codes) (read all kept) x ≡ comes r h
   whole x f r h =
-      sym (cut-name a (length codes) (length room) (take count codes) x big) ∙ ap (withName a (length codes) (read (take count codes))) (sym f) ∙ is r h
+      sym (cut-name a (length codes) (length room) all kept x big) ∙ ap (withName a (length codes) (read all kept)) (sym f) ∙ is r h
 
   line-comes : (left bytes : List ℕ) (from end : ℕ) → Given left bytes room (Line n from end) → (r : Taken) (h : NameTaken a (take n room) codes count later r) → OfEnded
-      (withName a (length codes)) (read []) (comes r h)
-  line-comes left bytes from end (more, x, u, g, f, i, j, l) r h = subst (OfEnded (withName a (length codes)) (read [])) (whole x f r h) (then-line (withName a (length codes)) x u o)
+      (withName a (length codes)) (read [] []) (comes r h)
+  line-comes left bytes from end (more, x, u, g, f, i, j, l) r h = subst (OfEnded (withName a (length codes)) (read [] [])) (whole x f r h) (then-line (withName a (length codes)) x u o)
 
-  last-comes : (left bytes : List ℕ) → Given left bytes room (Last n) → (r : Taken) (h : NameTaken a (take n room) codes count later r) → OfBytes (withName a (length codes)) (read []) (comes r h)
-  last-comes left bytes (more, u, l, f, i) r h = subst (OfBytes (withName a (length codes)) (read [])) (whole (left ++ more) f r h) (then-last (withName a (length codes)) (left ++ more) u l o)
+  last-comes : (left bytes : List ℕ) → Given left bytes room (Last n) → (r : Taken) (h : NameTaken a (take n room) codes count later r) → OfBytes (withName a (length codes)) (read [] []) (comes r h)
+  last-comes left bytes (more, u, l, f, i) r h = subst (OfBytes (withName a (length codes)) (read [] [])) (whole (left ++ more) f r h) (then-last (withName a (length codes)) (left ++ more) u l o)
 
   module _ {r : Taken} (h : NameTaken a (take n room) codes count later r) where
-    pub taken-more : (k : ℕ) → r ≡ taken-as.Count k → (k ≤ length later) × (suc count ≤ k)
-    taken-more k e = let g = subst (NameTaken a (take n room) codes count later) e h in (g .2, g .3)
+    pub taken-fits : (k : ℕ) → r ≡ taken-as.Count k → k ≤ length later
+    taken-fits k e = (subst (NameTaken a (take n room) codes count later) e h) .2
 
-    pub line-read : (left bytes : List ℕ) (from end k : ℕ) → Given left bytes room (Line n from end) → r ≡ taken-as.Count k → OfEnded (withName a (length codes)) (read [])
-        (read (take k later))
+    pub line-read : (left bytes : List ℕ) (from end k : ℕ) → Given left bytes room (Line n from end) → r ≡ taken-as.Count k → OfEnded (withName a (length codes)) (read [] [])
+        (read (all ++ (line-code ∷ [])) (take k later))
     line-read left bytes from end k g e = line-comes left bytes from end g (taken-as.Count k) (subst (NameTaken a (take n room) codes count later) e h)
 
     pub line-stops : (left bytes : List ℕ) (from end q : ℕ) → Given left bytes room (Line n from end) → r ≡ taken-as.Refused q → AllTaken a (length codes) later (read-as.Stopped q)
@@ -154,10 +174,34 @@ module _ (a : Arrangement) (room : List ℕ) (big : 18 ≤ length room) (codes l
         (_, then-none (withName a (length codes)) (line-comes left bytes from end g (taken-as.Refused q) (subst (NameTaken a (take n room) codes count later) e h)))
 
     pub last-read : (left bytes : List ℕ) (k : ℕ) → Given left bytes room (Last n) → r ≡ taken-as.Count k → AllTaken a (length codes) later (read-as.Count k)
-    last-read left bytes k g e = (last-comes left bytes g (taken-as.Count k) (subst (NameTaken a (take n room) codes count later) e h), taken-more k e .0)
+    last-read left bytes k g e = (_, last-comes left bytes g (taken-as.Count k) (subst (NameTaken a (take n room) codes count later) e h), taken-fits k e)
 
     pub last-stops : (left bytes : List ℕ) (q : ℕ) → Given left bytes room (Last n) → r ≡ taken-as.Refused q → AllTaken a (length codes) later (read-as.Stopped q)
     last-stops left bytes q g e = (_, last-comes left bytes g (taken-as.Refused q) (subst (NameTaken a (take n room) codes count later) e h))
+
+-- ---- what is held of all names
+
+abbrev Sound : Arrangement → Names → Type 0
+Sound a (read codes held) = Holds a codes held
+Sound a (stopped n r) = Unit {0}
+
+module _ (a : Arrangement) (g : IsArrangement a) (room : ℕ) where
+  sound-name : (s : Names) (line : List ℕ) → Sound a s → Sound a (withName a room s line)
+  sound-name (stopped n r) line h = tt
+  sound-name (read codes held) line h = go (lineRefusal room held line) refl
+    where
+      go : (q : ℕ) → lineRefusal room held line ≡ q → Sound a (namedOr a q codes held (nameCode a (trimmed line)))
+      go (suc q) e = tt
+      go zero e =
+          let k = both (nameRefusal (trimmed line)) _ e .0 in
+          holds-more g (nameCode a (trimmed line)) codes held (name-code-is (trimmed line) g (accepted (trimmed line) k)) (named-in a g (trimmed line) k) h
+
+  sound-all : (s : Names) (lines : List (List ℕ)) → Sound a s → Sound a (after (withName a room) s lines)
+  sound-all s [] h = h
+  sound-all s (line ∷ lines) h = sound-all (withName a room s line) lines (sound-name s line h)
+
+  names-held : (codes held : List ℕ) → OfBytes (withName a room) (read [] []) (read codes held) → Holds a codes held
+  names-held codes held (bytes, e) = subst (Sound a) (sym e) (sound-all (read [] []) (linesOf bytes) (holds-none a))
 
 -- ---- a name asked for
 
@@ -214,12 +258,18 @@ name-asked t name a c o e f =
 
 -- ---- what is handed on
 
+-- what waits has its room
+pub waits-fit : (codes out : List ℕ) (room : Room) → NamesIn codes out room → waits room ≤ length out
+waits-fit codes out (From end) w = w .fits
+waits-fit codes out Failed w = omega arith
+
 module _ (t codes : List ℕ) {r : Listed} (e : r ≡ listed (listingRefusal t (length codes)) t) where
   pub list-written :
-      (n : ℕ) (later out : List ℕ) (waiting : ℕ) → r ≡ listed-by.Count n → later ≡ given (listingRefusal t (length codes)) (codesIn t codes) codes → NamesWritten (take n later) out waiting →
-      ListWritten (listingRefusal t (length codes)) t out waiting
-  list-written n later out waiting f g w =
-      subst (λ (q : ℕ). ListWritten q t out waiting) (sym (listed-allowed t codes e n f)) (subst (λ (l : List ℕ). NamesWritten l out waiting) (listed-taken t codes e n later f g) w)
+      (n : ℕ) (later out : List ℕ) (room : Room) (waiting : ℕ) → r ≡ listed-by.Count n → later ≡ given (listingRefusal t (length codes)) (codesIn t codes) codes →
+      NamesIn (take n later) out room → waiting ≡ waits room → ListWritten (listingRefusal t (length codes)) t out waiting
+  list-written n later out room waiting f g w z =
+      subst (λ (q : ℕ). ListWritten q t out waiting) (sym (listed-allowed t codes e n f))
+      (room, subst (λ (l : List ℕ). NamesIn l out room) (listed-taken t codes e n later f g) w, z)
 
   pub list-refused :
       (q p : ℕ) {out later : List ℕ} {end : ℕ} → r ≡ listed-by.Refused q p → Put 0 (numberLine q) out later end → end ≤ length out → ListWritten (listingRefusal t (length codes)) t later end
@@ -232,18 +282,28 @@ module _ (t codes : List ℕ) {r : Listed} (e : r ≡ listed (listingRefusal t (
       line (suc x) n z = z
 
 pub read-fits : (a : Arrangement) (room : ℕ) (codes : List ℕ) (n : ℕ) {r : NamesRead} → AllTaken a room codes r → r ≡ read-as.Count n → n ≤ length codes
-read-fits a room codes n h e = (subst (AllTaken a room codes) e h) .1
+read-fits a room codes n h e = (subst (AllTaken a room codes) e h) .2
+
+-- the text of what is held is that of all names
+text-all :
+    (f : Form) (codes held : List ℕ) (room : ℕ) (text : List ℕ) (r : Text) → Holds (f .arrangement) codes held → TextWritten f held room text r → TextWritten f codes room text r
+text-all f codes held room text (Length m) p w = (w .0 ∙ sym (text-alike p (asksFor (f .version) (f .depth))), w .1)
+text-all f codes held room text (text-as.Refused m) p w = (refused-alike p (f .version) (f .depth) room ∙ w .0, w .1)
+text-all f codes held room text text-as.None p w = absurd w
 
 -- the text of the names read
 pub names-written :
-    (f : Form) (most room : ℕ) (codes text : List ℕ) (n : ℕ) {q : NamesRead} (r : Text) → AllTaken (f .arrangement) most codes q → q ≡ read-as.Count n →
+    (f : Form) (most room : ℕ) (codes text : List ℕ) (n : ℕ) {q : NamesRead} (r : Text) → IsArrangement (f .arrangement) → AllTaken (f .arrangement) most codes q → q ≡ read-as.Count n →
     TextWritten f (take n codes) room text r → NamesText f most room text r
-names-written f most room codes text n {q} r h e w = go r ((subst (AllTaken (f .arrangement) most codes) e h) .0) w
+names-written f most room codes text n {q} r g h e w =
+    let t = subst (AllTaken (f .arrangement) most codes) e h in
+    go r (t .0) (t .1) (text-all f (t .0) (take n codes) room text r (names-held (f .arrangement) g most (t .0) (take n codes) (t .1)) w)
   where
-    go : (x : Text) → OfBytes (withName (f .arrangement) most) (read []) (read (take n codes)) → TextWritten f (take n codes) room text x → NamesText f most room text x
-    go (Length m) o v = (take n codes, o, v)
-    go (text-as.Refused m) o v = (take n codes, o, v)
-    go text-as.None o v = absurd v
+    go :
+        (x : Text) (all : List ℕ) → OfBytes (withName (f .arrangement) most) (read [] []) (read all (take n codes)) → TextWritten f all room text x → NamesText f most room text x
+    go (Length m) all o v = (all, take n codes, o, v)
+    go (text-as.Refused m) all o v = (all, take n codes, o, v)
+    go text-as.None all o v = absurd v
 
 pub names-text-length : (f : Form) (most room : ℕ) (text : List ℕ) (n : ℕ) {r : Text} → NamesText f most room text r → r ≡ Length n → n ≤ length text
-names-text-length f most room text n h e = (subst (NamesText f most room text) e h) .2 .1
+names-text-length f most room text n h e = (subst (NamesText f most room text) e h) .3 .1

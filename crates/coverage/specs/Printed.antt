@@ -12,7 +12,9 @@ use Rattle.asking.specs.Ask.{asked}
 use Rattle.writing.specs.Write.{asksFor, textOf, writeRefusal}
 use Rattle.lines.specs.Fold.{OfBytes}
 use Rattle.listing.specs.List.{codesOf}
-use Rattle.console.specs.Names.{NamesWritten}
+use Rattle.console.specs.declared.Room.{Room}
+use Rattle.console.specs.declared.Room.the-variants.{From, Failed}
+use Rattle.console.specs.Names.{NamesIn}
 use Rattle.report.specs.Lines.{numberLine}
 use Rattle.coverage.specs.declared.Form.{Form}
 use Rattle.coverage.specs.declared.Text.{Text}
@@ -24,9 +26,14 @@ unfoldable pub askedName : (t name : List ℕ) → Asked
 unfolding asked
 askedName t name = asked (nameRefusal name otherwise textRefusal t) t (nameCode (textArrangement t) name)
 
--- `coverage list`: the names of the text's codes, or the refusal number on a line
+-- what waits to be printed: nothing, where printing failed
+abbrev pub waits : Room → ℕ
+waits (From end) = end
+waits Failed = 0
+
+-- `coverage list`: the names of the text's codes, up to where printing failed; or the refusal number on a line
 abbrev pub ListWritten : (refusal : ℕ) (t out : List ℕ) (waiting : ℕ) → Type 0
-ListWritten zero t out waiting = NamesWritten (codesOf t) out waiting
+ListWritten zero t out waiting = (room : Room) × NamesIn (codesOf t) out room × (waiting ≡ waits room)
 ListWritten (suc r) t out waiting = take waiting out ≡ numberLine (suc r)
 
 -- the text of the codes, as it is asked for; or writing is refused
@@ -35,11 +42,11 @@ TextWritten f codes room text (Length n) = (take n text ≡ textOf (asksFor (f .
 TextWritten f codes room text (Refused r) = (writeRefusal (f .version) (f .depth) (f .arrangement) codes room ≡ r) × (r ≡ 0 → ⊥)
 TextWritten f codes room text None = ⊥
 
--- `coverage write`: the text of the names on the lines of some bytes, read in the arrangement that the text is of; or the list is refused. Where a line
--- stops the reading, or the input fails, there is no text
+-- `coverage write`: the text of all names on the lines of some bytes, read in the arrangement that the text is of, whatever is held of them; or their list
+-- is refused. Where a line stops the reading, or the input fails, there is no text
 abbrev pub NamesText : Form → (most room : ℕ) (text : List ℕ) → Text → Type 0
 NamesText f most room text (Length n) =
-    (codes : List ℕ) × OfBytes (withName (f .arrangement) most) (read []) (read codes) × TextWritten f codes room text (Length n)
+    (codes : List ℕ) × (held : List ℕ) × OfBytes (withName (f .arrangement) most) (read [] []) (read codes held) × TextWritten f codes room text (Length n)
 NamesText f most room text (Refused r) =
-    (codes : List ℕ) × OfBytes (withName (f .arrangement) most) (read []) (read codes) × TextWritten f codes room text (Refused r)
+    (codes : List ℕ) × (held : List ℕ) × OfBytes (withName (f .arrangement) most) (read [] []) (read codes held) × TextWritten f codes room text (Refused r)
 NamesText f most room text None = Unit {0}

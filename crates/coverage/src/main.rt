@@ -10,12 +10,13 @@ ghost use Rattle.report.specs.Put.{Put};
 ghost use Rattle.report.specs.Lines.{checkLine, askedLine};
 ghost use Rattle.coverage.specs.Names.{NameTaken, AllTaken};
 ghost use Rattle.coverage.specs.Own.{Own};
-ghost use Rattle.coverage.specs.Printed.{askedName, ListWritten, TextWritten, NamesText};
+ghost use Rattle.coverage.specs.Printed.{askedName, waits, ListWritten, TextWritten, NamesText};
 use asking::Asked;
 use cell::Arrangement;
 use code::Coded;
 use console::BytesRead;
 use console::LineRead;
+use console::Room;
 use decimal::Whole;
 use listing::Listed;
 use reader::Checked;
@@ -41,7 +42,7 @@ enum Taken {
     Refused(u64),
 }
 
-// How many names were read; or a line stopped the reading; or the input failed.
+// How many codes are held of the names read; or a line stopped the reading; or the input failed.
 enum NamesRead {
     Count(usize),
     Stopped(u64),
@@ -131,6 +132,16 @@ fn check_text(text: &[u8], out: &mut [u8]) -> Shown
     }
 }
 
+// How much waits in front: nothing where printing failed, for then nothing more is to be printed.
+fn waiting(room: Room) -> usize
+    ensures { λ r. ⌜ r ≡ waits room ⌝ }
+{
+    match room {
+        Room::From(end) => end,
+        Room::Failed => 0,
+    }
+}
+
 // list: the names of the whole cells, or the refusal's line: what is left of them in front, behind what was printed.
 fn list_text(text: &[u8], codes: &mut [u64], out: &mut [u8]) -> Shown
     requires { ⌜ 21 ≤ length (now out) ⌝ }
@@ -139,7 +150,7 @@ fn list_text(text: &[u8], codes: &mut [u64], out: &mut [u8]) -> Shown
 {
     match listing::list(text, codes) {
         Listed::Count(count) => Shown {
-            end: console::put_all_names(&codes[..count as usize], out),
+            end: waiting(console::put_all_names(&codes[..count as usize], out)),
             refusal: 0,
             place: 0,
         },
@@ -193,7 +204,7 @@ fn ask_text(text: &[u8], name: &[u8], out: &mut [u8]) -> Shown
     }
 }
 
-// One line: a name, whose code is put behind the others. One that is none, or that has no room, is said.
+// One line: a name, whose code is gathered with the others. One that is none, or that has no room, is said.
 fn take_name(arrangement: Arrangement, line: &[u8], codes: &mut [u64], count: usize) -> Taken
     requires { ⌜ IsArrangement arrangement ⌝ }
     requires { ⌜ count ≤ length (now codes) ⌝ }
@@ -203,8 +214,7 @@ fn take_name(arrangement: Arrangement, line: &[u8], codes: &mut [u64], count: us
     match name::name_code(arrangement, &line[..length]) {
         Coded::Code(code) => {
             if count < codes.len() {
-                codes[count] = code;
-                return Taken::Count(count + 1);
+                return Taken::Count(gathering::gather(arrangement, codes, count, code));
             }
             Taken::Refused(13)
         }
@@ -212,7 +222,7 @@ fn take_name(arrangement: Arrangement, line: &[u8], codes: &mut [u64], count: us
     }
 }
 
-// All lines of the input, up to the first that stops it.
+// All lines of the input, up to the first that stops it. A loop has to end, and nothing says that an input does.
 fn take_all(
     arrangement: Arrangement,
     bytes: &mut [u8],
@@ -226,7 +236,8 @@ fn take_all(
     let mut from: usize = 0;
     let mut end: usize = 0;
     let mut count: usize = 0;
-    loop {
+    let mut line: u64 = 0;
+    while line < u64::MAX {
         match console::next_line(b"coverage", bytes, from, end, room) {
             LineRead::Line {
                 length,
@@ -238,9 +249,10 @@ fn take_all(
                         count = more;
                         from = next;
                         end = stop;
+                        line = line + 1;
                     }
                     Taken::Refused(refusal) => {
-                        console::say_line(b"coverage", count as u64 + 1, refusal);
+                        console::say_line(b"coverage", line + 1, refusal);
                         return NamesRead::Stopped(refusal);
                     }
                 }
@@ -249,7 +261,7 @@ fn take_all(
                 match take_name(arrangement, &room[..length], codes, count) {
                     Taken::Count(more) => return NamesRead::Count(more),
                     Taken::Refused(refusal) => {
-                        console::say_line(b"coverage", count as u64 + 1, refusal);
+                        console::say_line(b"coverage", line + 1, refusal);
                         return NamesRead::Stopped(refusal);
                     }
                 }
@@ -258,6 +270,7 @@ fn take_all(
             LineRead::Failed => return NamesRead::Failed,
         }
     }
+    NamesRead::Failed // no input has so many lines
 }
 
 // The text of the names read, whole or not at all.
@@ -295,7 +308,7 @@ fn write_text(form: Form)
 {
     let mut bytes = [0u8; 65536];
     let mut room = [0u8; 64];
-    let mut codes = [0u64; 65536];
+    let mut codes = [0u64; 65680]; // 144 more than whole cells in the longest text: so many may still merge
     match names_text(form, &mut bytes, &mut room, &mut codes) {
         Text::Length(length) => console::print_first(&bytes, length),
         Text::Refused(refusal) => console::say_text(b"coverage", refusal, 0),

@@ -1,12 +1,16 @@
--- `console::put_all_names` meets its contract: each turn prints what waits and puts the next names. Assumes nothing.
-use mathlib.Core.Path.{_≡_, refl, ap, _∙_}
+-- `console::put_all_names` meets its contract: each turn prints what waits, and where that is done puts the next names. Assumes nothing.
+use mathlib.Core.Path.{_≡_, refl, sym, ap, _∙_, subst}
 use mathlib.Core.Logic.{_⊎_, inl, inr, ⊎-elim}
 use mathlib.Core.List.{List}
 use Prim.Native.Nat.{ℕ, _+_, _-_, _*_, _≤_, _<_}
 use lib.ListN.{length, take, drop, length-drop}
-use lib.Seq.{take-all}
+use lib.Seq.{take-all, length-take-le}
+use borrow.Author.Tests.{ltb-true}
+use Rattle.logic.specs.Laws.Order.{lt-or}
 use Rattle.report.specs.declared.Names.{Names}
 use Rattle.report.specs.Names.{namesOf, NamesPut}
+use Rattle.console.specs.declared.Room.the-variants.{Failed}
+use Rattle.console.specs.Room.{Made}
 use Rattle.console.specs.Names.{NamesWritten}
 use Rattle.console.proofs.Parts.{part-within, part-some, part-written, part-all}
 use native.Mathlib.Omega.{arith}
@@ -30,8 +34,37 @@ abbrev μ-loop : tie.MeasureT-loop
 loop-holds : tie.Need-loop-holds Inv-loop μ-loop
 loop-holds c = (omega arith, omega arith, refl, record { first = 0; names = refl; some = λ z. omega arith; all = λ z. (refl, inl refl) })
 
-print-first-requires : tie.Need-print-first-requires Inv-loop μ-loop
-print-first-requires c κs = search needs
+make-room-requires : tie.Need-make-room-requires Inv-loop μ-loop
+make-room-requires c κs = search needs
+
+enum-told : tie.Need-enum-told Inv-loop μ-loop
+enum-told c = search needs
+
+enum-told-2 : tie.Need-enum-told-2 Inv-loop μ-loop
+enum-told-2 c = search needs
+
+same-length : tie.Need-same-length Inv-loop μ-loop
+same-length c = search needs
+
+-- where something waited that was printed, the names do not have room
+unprinted : (codes out : List ℕ) (from end : ℕ) → from < length codes → end ≤ length out → 17 ≤ length out → Waits codes out from end → Made (length out) end (length out) Failed →
+    length out < 17 * length codes
+unprinted codes out from end h k l w m = ⊎-elim (λ x. x) (λ x. absurd (none x)) (lt-or (length out) (17 * length codes))
+  where
+    none : 17 * length codes ≤ length out → ⊥
+    none x =
+        let e : from ≡ 0 = ⊎-elim (λ y. y) (λ y. absurd (omega arith)) (w .all x .1) in
+        let f : from - w .first ≡ 0 = omega arith in
+        let g : length (namesOf (take (from - w .first) (drop (w .first) codes))) ≡ 0 = ap (λ (i : ℕ). length (namesOf (take i (drop (w .first) codes)))) f in
+        let n : end ≡ 0 = sym (length-take-le end out k) ∙ ap length (w .names) ∙ g in
+        let z : length out - end < length out = ltb-true _ _ m in
+        omega arith
+
+returns : tie.Need-returns Inv-loop μ-loop
+returns c =
+    let l = c .before .before .before .before .before .loop in
+    unprinted _ (l .out) (l .from) (l .end) (c .before .before .before .before .loop-test .taken) (l .inv .1) (omega (arith, l .inv .2)) (l .inv .3)
+    (subst (Made (length (l .out)) (l .end) (length (l .out))) (c .enum-told2 .given .1) (c .before .before .make-room .ensures))
 
 mul-put-names : tie.Need-mul-put-names Inv-loop μ-loop
 mul-put-names c = search needs
@@ -50,19 +83,19 @@ put-names-requires c κs = search needs
 
 add-from : tie.Need-add-from Inv-loop μ-loop
 add-from c =
-    let l = c .before .before .before .before .before .before .before .before .before .loop in
-    let w = part-within (c .before .before .before .before .before .before .before .before .before .before .before .before .args .codes .now) (l .out) _ (l .from) (l .end) _
-    (c .before .before .before .before .before .before .before .before .loop-test .taken) (c .before .before .before .put-names .ensures) in
+    let l = c .before .before .before .before .before .before .before .before .before .before .before .loop in
+    let w = part-within (c .before .before .before .before .before .before .before .before .before .before .before .before .before .before .args .codes .now) (l .out) _ (l .from) (l .end) _
+    (c .before .before .before .before .before .before .before .before .before .before .loop-test .taken) (c .before .before .before .put-names .ensures) in
     omega (arith, w)
 
 loop-less : tie.Need-loop-less Inv-loop μ-loop
 loop-less c =
-    let l = c .before .before .before .before .before .before .before .before .before .loop in
+    let l = c .before .before .before .before .before .before .before .before .before .before .before .loop in
     let p = c .before .before .before .put-names in
-    let w = part-within (c .before .before .before .before .before .before .before .before .before .before .before .before .args .codes .now) (l .out) _ (l .from) (l .end) _
-    (c .before .before .before .before .before .before .before .before .loop-test .taken) (p .ensures) in
-    let s = part-some (c .before .before .before .before .before .before .before .before .before .before .before .before .args .codes .now) (l .out) _ (l .from) (l .end) _
-    (c .before .before .before .before .before .before .before .before .loop-test .taken) (p .ensures) (omega (arith, l .inv .2)) in
+    let w = part-within (c .before .before .before .before .before .before .before .before .before .before .before .before .before .before .args .codes .now) (l .out) _ (l .from) (l .end) _
+    (c .before .before .before .before .before .before .before .before .before .before .loop-test .taken) (p .ensures) in
+    let s = part-some (c .before .before .before .before .before .before .before .before .before .before .before .before .before .before .args .codes .now) (l .out) _ (l .from) (l .end) _
+    (c .before .before .before .before .before .before .before .before .before .before .loop-test .taken) (p .ensures) (omega (arith, l .inv .2)) in
     omega (arith, w, s)
 
 next :
@@ -79,10 +112,10 @@ next codes out later from end r h q k same w =
 
 loop-again : tie.Need-loop-again Inv-loop μ-loop
 loop-again c =
-    let codes = c .before .before .before .before .before .before .before .before .before .before .before .before .args .codes .now in
-    let l = c .before .before .before .before .before .before .before .before .before .loop in
+    let codes = c .before .before .before .before .before .before .before .before .before .before .before .before .before .before .args .codes .now in
+    let l = c .before .before .before .before .before .before .before .before .before .before .before .loop in
     let p = c .before .before .before .put-names in
-    let t = c .before .before .before .before .before .before .before .before .loop-test .taken in
+    let t = c .before .before .before .before .before .before .before .before .before .before .loop-test .taken in
     let same : length (p .last .1 .0) ≡ length (l .out) = search needs in (
       part-within codes (l .out) _ (l .from) (l .end) _ t (p .ensures),
       omega (arith, p .ensures .within, same),
@@ -90,8 +123,8 @@ loop-again c =
       next codes (l .out) (p .last .1 .0) (l .from) (l .end) _ t (p .ensures) (omega (arith, l .inv .2)) same (l .inv .3),
     )
 
-same-length : tie.Need-same-length Inv-loop μ-loop
-same-length c = search needs
+same-length-2 : tie.Need-same-length-2 Inv-loop μ-loop
+same-length-2 c = search needs
 
 ended : (codes out : List ℕ) (from end : ℕ) → from ≡ length codes → end ≤ length out → Waits codes out from end → NamesWritten codes out end
 ended codes out from end e h w =
@@ -103,8 +136,8 @@ ended codes out from end e h w =
       fits = h;
     }
 
-returns : tie.Need-returns Inv-loop μ-loop
-returns c = let l = c .before .loop in ended _ (l .out) (l .from) (l .end) (omega (arith, l .inv .0)) (l .inv .1) (l .inv .3)
+returns-2 : tie.Need-returns-2 Inv-loop μ-loop
+returns-2 c = let l = c .before .loop in ended _ (l .out) (l .from) (l .end) (omega (arith, l .inv .0)) (l .inv .1) (l .inv .3)
 
 pub put-all-names-spec : {M : Type 1} → statement M
 put-all-names-spec =
@@ -113,7 +146,11 @@ put-all-names-spec =
     Inv-loop
     μ-loop
     loop-holds
-    print-first-requires
+    make-room-requires
+    enum-told
+    enum-told-2
+    same-length
+    returns
     mul-put-names
     sub-put-names
     part-put-names-start
@@ -122,5 +159,5 @@ put-all-names-spec =
     add-from
     loop-less
     loop-again
-    same-length
-    returns)
+    same-length-2
+    returns-2)

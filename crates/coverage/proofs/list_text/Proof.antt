@@ -6,7 +6,7 @@ use lib.Seq.{length-take-le}
 use Rattle.report.specs.Lines.{numberLine}
 use Rattle.report.specs.Laws.Put.{put-length}
 use Rattle.listing.specs.Laws.Listed.{listed-fits}
-use Rattle.coverage.proofs.Laws.{list-written, list-refused}
+use Rattle.coverage.proofs.Laws.{list-written, list-refused, waits-fit}
 use native.Mathlib.Omega.{arith}
 use borrow.Author.Needs.{needs}
 use Rattle.coverage.proofs.list_text.Statement.{statement}
@@ -32,6 +32,9 @@ slice-aggregate-put-all-names c = sym (length-take-le _ _ (omega (arith, count (
 put-all-names-requires : tie.Need-put-all-names-requires
 put-all-names-requires c κs = search needs
 
+waiting-requires : tie.Need-waiting-requires
+waiting-requires c κs = search needs
+
 enum-known-refusal : tie.Need-enum-known-refusal
 enum-known-refusal c = search needs
 
@@ -46,12 +49,16 @@ same-length-2 c = search needs
 
 returns : tie.Need-returns
 returns c =
-    let a = c .before .before .before .before .before .before .before .before .before .before .before .before .before .before .before .args in
-    let l = c .before .before .before .before .before .before .before .before .before .before .list in
-    let w = c .before .before .put-all-names .ensures in (
-      list-written (a .text .now) (a .codes .now) (l .ensures .0) _ (l .last .1 .0) (c .before .before .put-all-names .last .1 .0) _
-          (c .before .before .before .before .before .before .count .given .1) (l .ensures .1) w,
-      w .fits,
+    let c3 = c .before .before .before in
+    let c7 = c3 .before .before .before .before in
+    let c11 = c7 .before .before .before .before in
+    let c16 = c11 .before .before .before .before .before in
+    let a = c16 .args in
+    let l = c11 .list in
+    let p = c3 .put-all-names in
+    let w = c .waiting .ensures in (
+      list-written (a .text .now) (a .codes .now) (l .ensures .0) _ (l .last .1 .0) (p .last .1 .0) (p .result) _ (c7 .count .given .1) (l .ensures .1) (p .ensures) w,
+      omega (arith, w, waits-fit _ (p .last .1 .0) (p .result) (p .ensures)),
     )
 
 same-length-3 : tie.Need-same-length-3
@@ -81,6 +88,7 @@ list-text-spec =
     slice-reshare-prefix-put-all-names
     slice-aggregate-put-all-names
     put-all-names-requires
+    waiting-requires
     enum-known-refusal
     put-line-requires
     same-length

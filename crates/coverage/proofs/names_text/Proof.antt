@@ -38,9 +38,10 @@ returns c =
     let a = c .before .before .before .before .before .before .before .before .before .before .before .before .before .before .before .before .before .before .before .before .before .args in
     let t = c .before .before .before .before .before .before .before .before .before .before .before .before .before .before .take-all in
     let p = c .before .before .put-text in
+    let g = c .before .before .before .before .before .before .before .before .before .before .before .before .before .before .before .before .before .before .before .before .before .pre .0 in
     let same : length (t .last .1 .0) ≡ length (a .bytes .now) = search needs in
     subst (λ (x : ℕ). NamesText (a .form) (length (a .codes .now)) x (p .last .1 .1 .1 .0) (p .result)) same
-    (names-written (a .form) (length (a .codes .now)) (length (t .last .1 .0)) (t .last .1 .1 .1 .0) (p .last .1 .1 .1 .0) _ (p .result) (t .ensures)
+    (names-written (a .form) (length (a .codes .now)) (length (t .last .1 .0)) (t .last .1 .1 .1 .0) (p .last .1 .1 .1 .0) _ (p .result) g (t .ensures)
     (c .before .before .before .before .before .before .count .given .1) (p .ensures))
 
 same-length-4 : tie.Need-same-length-4

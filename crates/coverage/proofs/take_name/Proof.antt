@@ -1,7 +1,7 @@
--- `take_name` meets its contract: a name's code stands behind the others, or the line is refused. Assumes nothing.
+-- `take_name` meets its contract: a name's code is gathered with the others, or the line is refused. Assumes nothing.
 use mathlib.Core.Path.{sym}
 use lib.Seq.{length-take-le}
-use Rattle.coverage.proofs.Laws.{name-taken, name-full, name-refused}
+use Rattle.coverage.proofs.Laws.{name-coded, name-taken, name-full, name-refused}
 use borrow.Author.Needs.{needs}
 use Rattle.coverage.proofs.take_name.Statement.{statement}
 use Rattle.coverage.proofs.take_name.Tie as tie
@@ -18,23 +18,33 @@ name-code-requires c κs = search needs
 enum-known-code : tie.Need-enum-known-code
 enum-known-code c = search needs
 
-mul-codes : tie.Need-mul-codes
-mul-codes c = search needs
-
-slice-write-codes : tie.Need-slice-write-codes
-slice-write-codes c = search needs
-
-add-t14 : tie.Need-add-t14
-add-t14 c = search needs
+gather-requires : tie.Need-gather-requires
+gather-requires c κs =
+    let c3 = c .before .before .before in
+    let c5 = c3 .before .before in
+    let c7 = c5 .before .before in
+    let c10 = c7 .before .before .before in
+    let s = c10 .args in
+    let p = c10 .pre in (
+      p .0,
+      c .before .if1 .taken,
+      name-coded (s .arrangement) (s .line .now) (s .codes .now) (s .count) (p .1) (c7 .trimmed-length .ensures .0) (c5 .name-code .ensures) (p .0) _ (c3 .code .given .1),
+    )
 
 same-length : tie.Need-same-length
 same-length c = search needs
 
 returns : tie.Need-returns
 returns c =
-    let a = c .before .before .before .before .before .before .before .before .before .args in
-    name-taken (a .arrangement) (a .line .now) (a .codes .now) (a .count) (c .before .before .before .before .before .before .before .before .before .pre .1)
-    (c .before .before .before .before .before .before .trimmed-length .ensures .0) (c .before .before .before .before .name-code .ensures) _ (c .before .before .code .given .1) (c .if1 .taken)
+    let c4 = c .before .before .before .before in
+    let c6 = c4 .before .before in
+    let c8 = c6 .before .before in
+    let c10 = c8 .before .before in
+    let c13 = c10 .before .before .before in
+    let s = c13 .args in
+    let g = c .before .before .gather in
+    name-taken (s .arrangement) (s .line .now) (s .codes .now) (s .count) (c13 .pre .1) (c10 .trimmed-length .ensures .0) (c8 .name-code .ensures) _ (g .result) _
+    (c6 .code .given .1) (c4 .if1 .taken) (g .ensures .0) (g .ensures .1)
 
 enum-known-refusal : tie.Need-enum-known-refusal
 enum-known-refusal c = search needs
@@ -59,9 +69,7 @@ take-name-spec =
     slice-aggregate-name-code
     name-code-requires
     enum-known-code
-    mul-codes
-    slice-write-codes
-    add-t14
+    gather-requires
     same-length
     returns
     enum-known-refusal
