@@ -14,6 +14,7 @@
 //! - `coverage`: the coverage text: check, list, write, ask
 //! - `plotter`: metres, marks and frames for the plotter (request W-214), with no doubles computed
 //! - `crews`: what two coverage texts cover (request W-205)
+//! - `rescue`: hand-edited coverage texts made proper (request W-206)
 //! - `sheets`: a partner's neighbour sheets (request W-211)
 //! - `summary`: the counters kept beside a text, and questions answered from them (request W-207)
 //! - `proved`: the proved library's entries, as examples/rust declares them
@@ -21,13 +22,14 @@
 //! - `settings`: settings with a past, and a history as bytes (request W-209)
 //! - `flights`: the programs `record` and `name_fixes` (`second_record` is a program of its own)
 //! - `random`: inputs, good, at borders, and bad; `fixes` for fixes, `texts` for coverage texts,
-//!   `frames` for face sides and frames
+//!   `edited` for hand-edited ones, `frames` for face sides and frames
 //! - `compare`: runs both programs on many inputs and counts what was met
 
 pub mod big;
 pub mod compare;
 pub mod coverage;
 pub mod crews;
+pub mod edited;
 pub mod ellipsoid;
 pub mod fixes;
 pub mod flights;
@@ -38,6 +40,7 @@ pub mod plotter;
 #[cfg(proved)]
 pub mod proved;
 pub mod random;
+pub mod rescue;
 pub mod sheets;
 pub mod settings;
 pub mod straight;
