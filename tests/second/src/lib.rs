@@ -3,12 +3,13 @@
 //! with the proved library, entry by entry. They prove nothing; the library's contracts do that.
 //!
 //! RATTLE_LIBS names the folder of libjeguarivo.a: `cargo test --release --offline`. Without it
-//! the tests `grid`, `straight`, `ground`, `ellipsoid`, `coverage`, `plotter`, `crews`, `settings`, `summary` and `sheets`
+//! the tests `grid`, `batches`, `straight`, `ground`, `ellipsoid`, `coverage`, `plotter`, `crews`, `settings`, `summary`, `sheets` and `rescue`
 //! fail, and without RATTLE_BIN, the folder of the proved programs, the tests `programs`, `frame_program` and `office`; the
 //! others try this program alone.
 //! SECOND_SEED sets another seed for the inputs.
 //!
 //! - `grid`: names, codes, the plane, shapes, neighbours, cells that meet at a corner
+//! - `batches`: codes into rows and columns, and back, many at a time (request W-202)
 //! - `ground`: the cell of a fix and the ground nucleus, over the whole numbers of `big`
 //! - `ellipsoid`: the authalic sine of a geodetic latitude (request W-203)
 //! - `coverage`: the coverage text: check, list, write, ask
@@ -25,6 +26,7 @@
 //!   `edited` for hand-edited ones, `frames` for face sides and frames
 //! - `compare`: runs both programs on many inputs and counts what was met
 
+pub mod batches;
 pub mod big;
 pub mod compare;
 pub mod coverage;
