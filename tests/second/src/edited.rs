@@ -174,6 +174,21 @@ impl Random {
     /// A chain of lists, at whose end a cell is covered by its parts; its siblings and theirs often are there too.
     fn covered_body(&mut self) -> Vec<Node> {
         let digits = self.pick(&[0, 0, 0, 1, 1, 2, 3, 5, 9, 12, 13, 14]);
+        let mut body = vec![self.covered_face(digits)];
+        for _ in 0..self.below(3) {
+            let letter = self.pick(&LETTERS);
+            let other = match self.below(3) {
+                0 => whole(letter),
+                1 => listed(letter, self.parts_of_whole(0)),
+                _ => body[0].clone(),
+            };
+            body.insert(self.below(body.len() as u64 + 1) as usize, other);
+        }
+        body
+    }
+
+    /// One such chain in a face.
+    fn covered_face(&mut self, digits: u64) -> Node {
         let deeper = (14 - digits).min(self.below(3));
         let mut nodes = self.parts_of_whole(deeper);
         for _ in 0..digits {
@@ -185,17 +200,7 @@ impl Random {
             around[nth].list = Some(nodes);
             nodes = around;
         }
-        let mut body = vec![listed(self.pick(&LETTERS), nodes)];
-        for _ in 0..self.below(3) {
-            let letter = self.pick(&LETTERS);
-            let other = match self.below(3) {
-                0 => whole(letter),
-                1 => listed(letter, self.parts_of_whole(0)),
-                _ => body[0].clone(),
-            };
-            body.insert(self.below(body.len() as u64 + 1) as usize, other);
-        }
-        body
+        listed(self.pick(&LETTERS), nodes)
     }
 
     /// A body of the looser form of at most so many bytes, byte by byte, of few letters and digits.
@@ -209,7 +214,8 @@ impl Random {
         let (mut body, mut open) = (Vec::new(), 0);
         while body.len() + open + 2 < most {
             let after_mark = body.last().is_some_and(|last| !b"()".contains(last));
-            if after_mark && open < 15 && self.chance(opens) {
+            // no face is whole in a long body, which it would cover
+            if after_mark && open < 15 && (open == 0 && most > 1000 || self.chance(opens)) {
                 body.push(b'(');
                 open += 1;
             } else if open > 0 && self.chance(closes) {
@@ -295,7 +301,8 @@ impl Random {
             1 => {
                 let mut body = Vec::new();
                 while body.len() < length {
-                    put(&self.covered_body(), 0, &mut body);
+                    let digits = self.pick(&[2, 3, 4, 4, 5, 9, 14]);
+                    put(&[self.covered_face(digits)], 0, &mut body);
                 }
                 body
             }
@@ -306,16 +313,19 @@ impl Random {
         };
         text.extend(body);
         cut(&mut text, length);
-        while text.len() < length {
-            text.push(self.pick(&LETTERS));
+        let left = length - text.len();
+        if left > 3 {
+            text.extend([self.pick(&LETTERS), b'(']);
+            text.resize(length - 1, b'4');
+            text.push(b')');
         }
         if self.chance(8) {
-            let at = self.below(length as u64) as usize;
+            let at = self.below(text.len() as u64) as usize;
             text[at] = self.pick(b"()08NS9x");
         }
         if self.chance(8) {
             let more = self.pick(&[1, 2, 5000]);
-            text.resize(length + more, b'O');
+            text.resize(LONGEST + more, b'O');
         }
         text
     }
