@@ -162,28 +162,34 @@ pub fn falling(text: &[u8]) -> Vec<u8> {
     [&text[..7], &body].concat()
 }
 
-/// A flight's text as a person may have left it, of at most `longest` bytes: in one list of four two nodes are exchanged, in one of eight a node is there
-/// twice, in one of sixteen an empty list stands, and in one of sixteen a whole cell is divided into nine.
+/// A flight's text as a person may have left it, of about `longest` bytes and not more.
 pub fn edited(random: &mut Random, resolution: u64, longest: usize) -> Vec<u8> {
-    let (_, text) = swath(random, resolution, longest * 3 / 4);
-    let mut change = |nodes: &mut Vec<Vec<u8>>, depth: usize| {
-        let (one, two) = (
-            random.below(nodes.len() as u64) as usize,
-            random.below(nodes.len() as u64) as usize,
-        );
-        let (whole, mark) = (nodes[one].len() == 1, nodes[one][0]);
-        match random.below(16) {
-            0..4 => nodes.swap(one, two),
-            4..6 if whole => nodes.insert(two, vec![mark]),
-            6 => nodes.insert(two, vec![mark, b'(', b')']),
-            7 if whole && depth < 15 => nodes[one].extend(b"(012345678)"),
-            _ => {}
+    let mut before = longest * 7 / 8;
+    loop {
+        let (_, text) = swath(random, resolution, before);
+        let body = relisted(&text[7..], 0, &mut |nodes, depth| {
+            edit(random, nodes, depth)
+        });
+        if body.len() + 7 <= longest {
+            return [&text[..7], &body].concat();
         }
-    };
-    let body = relisted(&text[7..], 0, &mut change);
-    let edited = [&text[..7], &body].concat();
-    assert!(edited.len() <= longest, "{} bytes", edited.len());
-    edited
+        before -= before / 16;
+    }
+}
+
+/// In one list of four two nodes are exchanged, in one of eight a whole node is there twice, in one of sixteen there is an empty list, and in one of
+/// sixteen a whole cell is divided into nine.
+fn edit(random: &mut Random, nodes: &mut Vec<Vec<u8>>, depth: usize) {
+    let mut any = || random.below(nodes.len() as u64) as usize;
+    let (one, two) = (any(), any());
+    let (whole, mark) = (nodes[one].len() == 1, nodes[one][0]);
+    match random.below(16) {
+        0..4 => nodes.swap(one, two),
+        4..6 if whole => nodes.insert(two, vec![mark]),
+        6 => nodes.insert(two, vec![mark, b'(', b')']),
+        7 if whole && depth < 15 => nodes[one].extend(b"(012345678)"),
+        _ => {}
+    }
 }
 
 /// The fixes of a survey: legs to and fro over a field, each a little north of the last, with some drift.

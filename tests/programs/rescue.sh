@@ -132,7 +132,10 @@ try "no such file" 'coverage rescue missing' '' 'coverage: missing: No such file
 try "a folder" 'coverage rescue .' '' 'coverage: .: Is a directory'
 for file in two.cvr full.cvr; do
     try "a full disk" "{ coverage rescue $file >/dev/full; } 2>&1 | uniq >&2" '' 'standard output: No space left on device'
+    try "no output" "{ coverage rescue $file 3>&2 2>&1 >&- | uniq >&3; } 3>&2" '' 'standard output: Bad file descriptor'
 done
+try "a full disk, and what was changed" "coverage rescue '$root/examples/hand_edited.cvr' >/dev/full" '' '*14 1: *; 51 2: *'
+try "a full disk, and what was changed" "coverage rescue '$root/examples/hand_edited.cvr' >/dev/full" '' '*standard output: No space left on device*'
 for words in rescue 'rescue a b' 'rescues a' 'rescu a' 'RESCUE a'; do
     try "wrong arguments" "coverage $words" '' 'usage coverage'
 done
