@@ -287,16 +287,10 @@ impl Random {
         [heading, body].concat()
     }
 
-    /// A text about as long as a text may be, or longer, or half as long; one in eight is damaged.
-    pub fn long_edited(&mut self) -> Vec<u8> {
-        let length = match self.below(4) {
-            0 => LONGEST / 2,
-            1 => LONGEST - self.below(2000) as usize,
-            _ => LONGEST,
-        };
-        let mut text = heading(FIRST, self.below(4), self.below(4));
+    /// A body of about so many bytes.
+    fn long_body(&mut self, length: usize) -> Vec<u8> {
         let edits = self.pick(&[0, 1, 3, 100]);
-        let body = match self.below(4) {
+        match self.below(4) {
             0 => self.loose_body(length - HEADING.len()),
             1 => {
                 let mut body = Vec::new();
@@ -310,8 +304,18 @@ impl Random {
                 let proper = length - self.pick(&[0, 10, 500]);
                 self.edited_body(proper, edits)
             }
+        }
+    }
+
+    /// A text about as long as a text may be, or longer, or half as long; one in eight is damaged.
+    pub fn long_edited(&mut self) -> Vec<u8> {
+        let length = match self.below(4) {
+            0 => LONGEST / 2,
+            1 => LONGEST - self.below(2000) as usize,
+            _ => LONGEST,
         };
-        text.extend(body);
+        let mut text = heading(FIRST, self.below(4), self.below(4));
+        text.extend(self.long_body(length));
         cut(&mut text, length);
         let left = length - text.len();
         if left > 3 {

@@ -157,7 +157,7 @@ mod entries {
         finish("jgv_cell_codes", met, &[0, 1, 2, 3, 5]);
     }
 
-    /// Every length of given numbers, and every room up to one more than is needed.
+    /// Every room up to one more than is needed.
     #[test]
     fn every_room() {
         let mut random = Random::for_test("rooms of batches");
@@ -179,6 +179,12 @@ mod entries {
                 assert_eq!((found.refusal, found.count), wanted);
             }
         }
+    }
+
+    /// Every number of given numbers, six to a cell and some that are none; and every room.
+    #[test]
+    fn every_length() {
+        let mut random = Random::for_test("lengths of batches");
         for given in 0..=9 * SIX {
             let numbers: Vec<u64> = (0..10).flat_map(|_| cell(&mut random, Kind::Bad)).collect();
             let count = given / SIX;

@@ -196,11 +196,11 @@ mod entry {
             proper_wanted.escape_ascii(),
             proper_found.escape_ascii()
         );
-        let differs = |(one, other): (&u64, &u64)| one != other;
-        let first = changes_wanted.iter().zip(&changes_found).position(differs);
+        let differs = |nth: &usize| changes_wanted[*nth] != changes_found[*nth];
+        let first = (0..changes_found.len()).find(differs);
         assert!(
             first.is_none(),
-            "{}, rooms {rooms:?}: number {first:?} of the changes, with their guard\n second program {:?}\n proved library {:?}",
+            "{}, rooms {rooms:?}: number {first:?} of the changes, with their guard: {:?} {:?}",
             cut.escape_ascii(),
             &changes_wanted[..changes_wanted.len().min(200)],
             &changes_found[..changes_found.len().min(200)]
