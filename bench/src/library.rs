@@ -2,7 +2,7 @@
 
 use jeguarivo::{
     Add, Ask, Cell, Check, Code, Compare, Fix, Frame, FrameAnswer, Length, List, MarkAnswer, Name,
-    Sheet, SheetLength, Summary, SummaryAsk, Z,
+    Rescue, Sheet, SheetLength, Summary, SummaryAsk, Z,
 };
 
 pub type CellCode = extern "C" fn(u64, u64, u64, u64, u64, u64) -> Code;
@@ -34,6 +34,8 @@ pub type CoverageCompare = unsafe extern "C" fn(
     *mut u64,
     usize,
 ) -> Compare;
+pub type CoverageRescue =
+    unsafe extern "C" fn(*const u8, usize, *mut u8, usize, *mut u64, usize) -> Rescue;
 pub type SheetCheck = unsafe extern "C" fn(*const u8, usize, *const u8, usize) -> Sheet;
 pub type SheetWrite = unsafe extern "C" fn(*const u8, usize, *mut u8, usize) -> SheetLength;
 pub type TextSummary = unsafe extern "C" fn(*const u8, usize) -> Summary;
@@ -71,6 +73,7 @@ folds! {
     SummaryAsk { covered }
     Add { place, length }
     Compare { place, first_cells, second_cells, both_cells, first_size, second_size, both_size }
+    Rescue { place, length, changes }
     Sheet { place, right, record }
     SheetLength { place, length }
 }
@@ -80,7 +83,9 @@ impl Fold for Summary {
     fn fold(&self, sum: u64) -> u64 {
         let numbers = [self.refusal, self.place, self.n, self.s];
         let add = |sum: u64, number: &u64| sum.rotate_left(5) ^ number;
-        self.counters.iter().fold(numbers.iter().fold(sum, add), add)
+        self.counters
+            .iter()
+            .fold(numbers.iter().fold(sum, add), add)
     }
 }
 

@@ -11,6 +11,7 @@ mod measure;
 mod plain;
 mod plotter;
 mod refusals;
+mod rescue;
 mod stack;
 mod tables;
 
@@ -40,13 +41,14 @@ fn main() {
     eprintln!("bench: seed {seed}");
     let random = &mut Random(seed);
     refusals::run(random, if plan.check { 200_000 } else { 20_000 });
-    let parts: [(&str, fn(Plan, &mut Random) -> Vec<Row>); 6] = [
+    let parts: [(&str, fn(Plan, &mut Random) -> Vec<Row>); 7] = [
         ("fixes", fixes::run),
         ("codes", codes::run),
         ("plotter", plotter::run),
         ("coverage", coverage::run),
         ("adding", adding::run),
         ("record", flight::run),
+        ("rescue", rescue::run),
     ];
     let mut rows = Vec::new();
     for (name, run) in parts {

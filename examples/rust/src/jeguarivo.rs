@@ -54,6 +54,7 @@ answers! {
     List at place { count: u64 }
     Ask at place { covered: u64, settled: u64 }
     Add at place { length: u64 }
+    Rescue at place { length: u64, changes: u64 }
     Compare at place { first_cells: u64, second_cells: u64, both_cells: u64, first_size: u64, second_size: u64, both_size: u64 }
     MarkAnswer { kind: u64, numbers: [f64; 4] }
     FrameAnswer { left: f64, bottom: f64, right: f64, top: f64 }
@@ -146,6 +147,8 @@ unsafe extern "C" {
     pub safe fn jgv_geodetic_code(n: u64, s: u64, resolution: u64, longitude: i64, sine: i64, eccentricity: u64) -> Code;
     pub safe fn jgv_ground_nucleus(code: u64) -> Fix;
     pub safe fn jgv_neighbour(code: u64, direction: u64) -> Code;
+    pub fn jgv_code_cells(codes: *const u64, count: usize, numbers: *mut u64, room: usize) -> Count;
+    pub fn jgv_cell_codes(numbers: *const u64, count: usize, codes: *mut u64, room: usize) -> Count;
     pub fn jgv_coverage_check(text: *const u8, length: usize) -> Check;
     pub fn jgv_coverage_list(text: *const u8, length: usize, codes: *mut u64, room: usize) -> List;
     pub fn jgv_coverage_write(
@@ -167,6 +170,9 @@ unsafe extern "C" {
         first: *const u8, first_length: usize, second: *const u8, second_length: usize,
         firsts: *mut u64, first_room: usize, seconds: *mut u64, second_room: usize, boths: *mut u64, both_room: usize,
     ) -> Compare;
+    pub fn jgv_coverage_rescue(
+        text: *const u8, length: usize, proper: *mut u8, room: usize, changes: *mut u64, change_room: usize,
+    ) -> Rescue;
     pub fn jgv_sheet_check(text: *const u8, length: usize, sheet: *const u8, sheet_length: usize) -> Sheet;
     pub fn jgv_sheet_write(text: *const u8, length: usize, sheet: *mut u8, room: usize) -> SheetLength;
     pub fn jgv_summary(text: *const u8, length: usize) -> Summary;
@@ -187,6 +193,14 @@ pub mod lent {
 
     pub fn corner_cells(code: u64, codes: &mut [u64]) -> Count {
         unsafe { jgv_corner_cells(code, codes.as_mut_ptr(), codes.len()) }
+    }
+
+    pub fn code_cells(codes: &[u64], numbers: &mut [u64]) -> Count {
+        unsafe { jgv_code_cells(codes.as_ptr(), codes.len(), numbers.as_mut_ptr(), numbers.len()) }
+    }
+
+    pub fn cell_codes(numbers: &[u64], codes: &mut [u64]) -> Count {
+        unsafe { jgv_cell_codes(numbers.as_ptr(), numbers.len(), codes.as_mut_ptr(), codes.len()) }
     }
 
     pub fn coverage_check(text: &[u8]) -> Check {
@@ -214,6 +228,14 @@ pub mod lent {
             jgv_coverage_compare(
                 first.as_ptr(), first.len(), second.as_ptr(), second.len(),
                 firsts.as_mut_ptr(), firsts.len(), seconds.as_mut_ptr(), seconds.len(), boths.as_mut_ptr(), boths.len(),
+            )
+        }
+    }
+
+    pub fn coverage_rescue(text: &[u8], proper: &mut [u8], changes: &mut [u64]) -> Rescue {
+        unsafe {
+            jgv_coverage_rescue(
+                text.as_ptr(), text.len(), proper.as_mut_ptr(), proper.len(), changes.as_mut_ptr(), changes.len(),
             )
         }
     }
@@ -314,6 +336,20 @@ pub fn ground_nucleus(code: u64) -> Answer<Fix> {
 /// Directions 0 to 3 are up, right, down, left.
 pub fn neighbour(code: u64, direction: u64) -> Answer<u64> {
     Ok(jgv_neighbour(code, direction).read()?.code)
+}
+
+/// What `code_cell` answers to each code of a batch, seven numbers each: its refusal, n, s, face, resolution, row and column. Refused with 8 where
+/// `numbers` is shorter.
+pub fn code_cells<'a>(codes: &[u64], numbers: &'a mut [u64]) -> Answer<&'a [u64]> {
+    let turned = lent::code_cells(codes, numbers).read()?;
+    Ok(&numbers[..7 * turned.count as usize])
+}
+
+/// What `cell_code` answers to each cell of a batch, two numbers each: its refusal and code. A cell is six numbers: n, s, face, resolution, row and
+/// column; fewer at the end are no cell.
+pub fn cell_codes<'a>(numbers: &[u64], codes: &'a mut [u64]) -> Answer<&'a [u64]> {
+    let turned = lent::cell_codes(numbers, codes).read()?;
+    Ok(&codes[..2 * turned.count as usize])
 }
 
 /// A text's version, depth, n and s, the number of its whole cells and the sum of their sizes. Version 1 has depth 15.
@@ -430,6 +466,20 @@ pub fn coverage_compare<'a>(
         second_size: found.second_size,
         both_size: found.both_size,
     })
+}
+
+/// The proper text of a hand-edited one, and what was changed: two numbers a change, its place in the hand-edited text and its kind. The text is never
+/// longer than the hand-edited one.
+#[derive(Clone, Copy, Debug, PartialEq, Eq)]
+pub struct Rescued<'a> {
+    pub text: &'a [u8],
+    pub changes: &'a [u64],
+}
+
+/// Refused with 9 where the body is not of the looser form, at the place read from that form.
+pub fn coverage_rescue<'a>(text: &[u8], proper: &'a mut [u8], changes: &'a mut [u64]) -> Answer<Rescued<'a>> {
+    let found = lent::coverage_rescue(text, proper, changes).read()?;
+    Ok(Rescued { text: &proper[..found.length as usize], changes: &changes[..2 * found.changes as usize] })
 }
 
 /// Whether a neighbour sheet is the one that our rules make of a text: nothing on yes, on no the number of the first wrong record.
