@@ -158,6 +158,7 @@ impl Met {
 #[cfg(proved)]
 mod entry {
     use super::*;
+    use second::coverage::FIRST;
     use second::proved::{coverage::rescue as proved, Like, Rescue};
     use second::rescue::numbers_of;
     use second::texts::{lent, lent_mut};
@@ -264,8 +265,11 @@ mod entry {
     fn long_texts() {
         let mut random = Random::for_test("long edited texts");
         let mut met = Met::default();
-        for _ in 0..120 {
-            let text = random.long_edited();
+        for nth in 0..120 {
+            let text = match nth {
+                0..8 => random.text_of_length(FIRST, LONGEST), // proper
+                _ => random.long_edited(),
+            };
             try_text(&mut random, &text, &mut met);
         }
         met.finish("long edited texts", &[0, 8, 9, 13], 1);
@@ -326,6 +330,7 @@ fn the_program() {
     let mut random = Random::for_test("coverage rescue");
     let mut met = Met::default();
     let mut extremes = extremes();
+    extremes.push(text_of_body(&b"O".repeat(LONGEST))); // too long
     for nth in 0..800 {
         let kind = random.pick(&KINDS);
         let text = match extremes.pop() {
