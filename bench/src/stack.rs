@@ -10,7 +10,8 @@ use std::arch::asm;
 /// An answer of many numbers is in memory of the caller, which is the hidden first argument on x86-64: here it is no part of the painted stack.
 type SummaryTo = unsafe extern "C" fn(*mut Summary, *const u8, usize);
 
-const SIZE: usize = 1 << 20;
+/// Sixteen mebibytes: rescuing a text touches more than one.
+const SIZE: usize = 1 << 24;
 const PAINT: u8 = 0xa5;
 
 struct Stack(Vec<u8>);
