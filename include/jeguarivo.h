@@ -68,6 +68,7 @@ typedef struct { uint64_t refusal, kind; double numbers[4]; } jgv_mark_answer;
 typedef struct { double left, bottom, right, top; } jgv_frame;
 typedef struct { uint64_t refusal; double left, bottom, right, top; } jgv_frame_answer;
 typedef struct { uint64_t refusal, place, first_cells, second_cells, both_cells, first_size, second_size, both_size; } jgv_compare;
+typedef struct { uint64_t refusal, place, length, changes; } jgv_rescue;
 typedef struct { uint64_t refusal, place, right, record; } jgv_sheet;
 typedef struct { uint64_t refusal, place, length; } jgv_sheet_length;
 typedef struct { uint64_t refusal, place, n, s, counters[486]; } jgv_summary_answer;
@@ -216,6 +217,15 @@ jgv_settings_answer jgv_settings_read(jgv_history history, uint64_t revision);
  * second, 14 where n or s differ, 8 where any room is short. */
 jgv_compare jgv_coverage_compare(const uint8_t *first, size_t first_length, const uint8_t *second, size_t second_length, uint64_t *firsts,
                                  size_t first_room, uint64_t *seconds, size_t second_room, uint64_t *boths, size_t both_room);
+
+/* The proper text of a hand-edited one, to the first bytes of `proper`: the accepted text of the same ground, never longer than `text`. The body may
+ * have letters and digits out of order or twice, nine whole siblings left standing, and empty lists, which cover nothing; the heading is that of
+ * version 1. What was changed goes to `changed`, two numbers a change: its place in `text`, from 0, and its kind, in order of place and then kind.
+ * Kind 1 is a letter or digit that names a whole cell named whole earlier, or one inside a larger whole cell named anywhere; 2 one not above the one
+ * right before it in the same list or body; 3 the opening bracket of an empty list; 4 the first letter or digit standing for a cell that is whole in
+ * the answer and nowhere named whole. There are no changes exactly for a proper text, which comes back unchanged. Four numbers for each byte are
+ * always room enough. Refusals 13, 10 (also for version 2), 9 with the place in the looser form, 8 for either room. */
+jgv_rescue jgv_coverage_rescue(const uint8_t *text, size_t length, uint8_t *proper, size_t room, uint64_t *changed, size_t changed_room);
 
 /* Checks a partner's neighbour sheet for a coverage text. A sheet has one record of 40 bytes for each whole cell: its code and the codes of its
  * neighbours up, right, down, left, each a 64-bit number, low byte first. `right` is 1 exactly where the records stand in rising order, each

@@ -120,6 +120,78 @@ fn next(code: u64, direction: u64) -> u64 {
     neighbour::neighbour(code, direction).code
 }
 
+/// The nodes of a list, or the faces of a body: each a letter or digit, with its list.
+fn nodes(mut bytes: &[u8]) -> Vec<&[u8]> {
+    let mut nodes = Vec::new();
+    while !bytes.is_empty() {
+        let (mut end, mut open) = (1, 0);
+        while open > 0 || bytes.get(end) == Some(&b'(') {
+            open += (bytes[end] == b'(') as u64;
+            open -= (bytes[end] == b')') as u64;
+            end += 1;
+        }
+        nodes.push(&bytes[..end]);
+        bytes = &bytes[end..];
+    }
+    nodes
+}
+
+/// The same nodes in another order, or with some more, list by list from the inmost out; `change` is told the depth.
+fn relisted(
+    bytes: &[u8],
+    depth: usize,
+    change: &mut impl FnMut(&mut Vec<Vec<u8>>, usize),
+) -> Vec<u8> {
+    let mut all: Vec<Vec<u8>> = Vec::new();
+    for node in nodes(bytes) {
+        all.push(match node {
+            [mark, b'(', list @ .., b')'] => {
+                let list = relisted(list, depth + 1, change);
+                [&[*mark, b'('], &list[..], b")"].concat()
+            }
+            mark => mark.to_vec(),
+        });
+    }
+    change(&mut all, depth);
+    all.concat()
+}
+
+/// A text with the order of each list turned round.
+pub fn falling(text: &[u8]) -> Vec<u8> {
+    let body = relisted(&text[7..], 0, &mut |nodes, _| nodes.reverse());
+    [&text[..7], &body].concat()
+}
+
+/// A flight's text as a person may have left it, of about `longest` bytes and not more.
+pub fn edited(random: &mut Random, resolution: u64, longest: usize) -> Vec<u8> {
+    let mut before = longest * 7 / 8;
+    loop {
+        let (_, text) = swath(random, resolution, before);
+        let body = relisted(&text[7..], 0, &mut |nodes, depth| {
+            edit(random, nodes, depth)
+        });
+        if body.len() + 7 <= longest {
+            return [&text[..7], &body].concat();
+        }
+        before -= before / 16;
+    }
+}
+
+/// In one list of four two nodes are exchanged, in one of eight a whole node is there twice, in one of sixteen there is an empty list, and in one of
+/// sixteen a whole cell is divided into nine.
+fn edit(random: &mut Random, nodes: &mut Vec<Vec<u8>>, depth: usize) {
+    let mut any = || random.below(nodes.len() as u64) as usize;
+    let (one, two) = (any(), any());
+    let (whole, mark) = (nodes[one].len() == 1, nodes[one][0]);
+    match random.below(16) {
+        0..4 => nodes.swap(one, two),
+        4..6 if whole => nodes.insert(two, vec![mark]),
+        6 => nodes.insert(two, vec![mark, b'(', b')']),
+        7 if whole && depth < 15 => nodes[one].extend(b"(012345678)"),
+        _ => {}
+    }
+}
+
 /// The fixes of a survey: legs to and fro over a field, each a little north of the last, with some drift.
 pub fn survey(random: &mut Random, count: usize) -> Vec<(i64, i64)> {
     let (mut longitude, mut z, mut east) = (-1_000_000_000_i64, 600_000_000_000_000_000_i64, true);

@@ -2,7 +2,7 @@
 
 use jeguarivo::{
     Add, Ask, Cell, Check, Code, Compare, Count, Fix, Frame, FrameAnswer, Length, List, MarkAnswer,
-    Name, Sheet, SheetLength, Summary, SummaryAsk, Z,
+    Name, Rescue, Sheet, SheetLength, Summary, SummaryAsk, Z,
 };
 
 pub type CellCode = extern "C" fn(u64, u64, u64, u64, u64, u64) -> Code;
@@ -35,6 +35,8 @@ pub type CoverageCompare = unsafe extern "C" fn(
     *mut u64,
     usize,
 ) -> Compare;
+pub type CoverageRescue =
+    unsafe extern "C" fn(*const u8, usize, *mut u8, usize, *mut u64, usize) -> Rescue;
 pub type SheetCheck = unsafe extern "C" fn(*const u8, usize, *const u8, usize) -> Sheet;
 pub type SheetWrite = unsafe extern "C" fn(*const u8, usize, *mut u8, usize) -> SheetLength;
 pub type TextSummary = unsafe extern "C" fn(*const u8, usize) -> Summary;
@@ -72,6 +74,7 @@ folds! {
     SummaryAsk { covered }
     Add { place, length }
     Compare { place, first_cells, second_cells, both_cells, first_size, second_size, both_size }
+    Rescue { place, length, changes }
     Sheet { place, right, record }
     SheetLength { place, length }
 }

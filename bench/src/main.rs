@@ -12,6 +12,7 @@ mod measure;
 mod plain;
 mod plotter;
 mod refusals;
+mod rescue;
 mod stack;
 mod tables;
 
@@ -41,7 +42,7 @@ fn main() {
     eprintln!("bench: seed {seed}");
     let random = &mut Random(seed);
     refusals::run(random, if plan.check { 200_000 } else { 20_000 });
-    let parts: [(&str, fn(Plan, &mut Random) -> Vec<Row>); 7] = [
+    let parts: [(&str, fn(Plan, &mut Random) -> Vec<Row>); 8] = [
         ("fixes", fixes::run),
         ("codes", codes::run),
         ("batches", batches::run),
@@ -49,6 +50,7 @@ fn main() {
         ("coverage", coverage::run),
         ("adding", adding::run),
         ("record", flight::run),
+        ("rescue", rescue::run),
     ];
     let mut rows = Vec::new();
     for (name, run) in parts {

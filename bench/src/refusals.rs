@@ -1,6 +1,6 @@
 //! The answers of both sides to inputs good and bad, one by one. No times.
 
-use crate::inputs::{code, swath, Random};
+use crate::inputs::{code, edited, swath, Random};
 use crate::plain::adding::coverage_add;
 use crate::plain::batches::{cell_codes, code_cells};
 use crate::plain::codes::{cell_code, code_cell, code_name, name_code};
@@ -11,6 +11,7 @@ use crate::plain::fixes::{
 };
 use crate::plain::neighbour::neighbour;
 use crate::plain::plotter::{frame_first, frame_grow, mark_code, mark_point};
+use crate::plain::rescue::coverage_rescue;
 use crate::plain::sheets::{sheet_check, sheet_write};
 use crate::plain::summary::{summary, summary_ask};
 use crate::plain::writing::{coverage_write, write, Profile, FULL};
@@ -292,6 +293,28 @@ fn texts(random: &mut Random) {
     add(random, &codes, &text);
     compared(random, &text);
     sheets(random, &text);
+    rescued(&mut Random(!random.0));
+}
+
+/// A hand-edited text, spoilt now and then, with room for it and its changes or not. Its numbers are drawn apart from the others'.
+fn rescued(random: &mut Random) {
+    let resolution = 1 + random.below(15);
+    let mut text = edited(random, resolution, 300);
+    spoil(random, &mut text);
+    let (room, change_room) = (random.below(320) as usize, random.below(400) as usize);
+    let (mut library, mut plain) = (([7; 320], [7; 400]), ([7; 320], [7; 400]));
+    let answers = (
+        lent::coverage_rescue(&text, &mut library.0[..room], &mut library.1[..change_room]),
+        coverage_rescue(
+            text.as_ptr(),
+            text.len(),
+            plain.0.as_mut_ptr(),
+            room,
+            plain.1.as_mut_ptr(),
+            change_room,
+        ),
+    );
+    same("rescue", (answers.0, library), (answers.1, plain));
 }
 
 /// The neighbour sheet of a text, whole or short of room; and a sheet that is ours, cut, overlong or wrong in a byte.

@@ -1,6 +1,6 @@
 //! The greatest stack depth of each entry: it runs on a painted stack, over many inputs, and the deepest byte that changed counts.
 
-use crate::inputs::{arrangement, code, swath, Points, Random};
+use crate::inputs::{arrangement, code, falling, swath, Points, Random};
 use crate::library::TextSummary;
 use crate::plain::coverage::coverage_list;
 use crate::plain::NINE;
@@ -10,7 +10,8 @@ use std::arch::asm;
 /// An answer of many numbers is in memory of the caller, which is the hidden first argument on x86-64: here it is no part of the painted stack.
 type SummaryTo = unsafe extern "C" fn(*mut Summary, *const u8, usize);
 
-const SIZE: usize = 1 << 20;
+/// Sixteen mebibytes: rescuing a text touches more than one.
+const SIZE: usize = 1 << 24;
 const PAINT: u8 = 0xa5;
 
 struct Stack(Vec<u8>);
@@ -191,6 +192,8 @@ fn texts(inputs: &Inputs) -> Vec<(&'static str, usize)> {
     let mut added = added(texts);
     let [mut firsts, mut seconds, mut boths] = [(); 3].map(|_| vec![0; 65_536]);
     let mut sheet = vec![0; 40 * 65_536];
+    let mut changes = vec![0; 4 * 65_536];
+    let backward = [&texts[0], &texts[texts.len() - 1]].map(|text| falling(text));
     let whole = b"CVR\0\x0100NOPQRS";
     let mut summary = Box::new(Summary::refused(0));
     let jgv_summary: SummaryTo = unsafe { std::mem::transmute(jgv_summary as TextSummary) };
@@ -204,6 +207,7 @@ fn texts(inputs: &Inputs) -> Vec<(&'static str, usize)> {
         jgv_summary_ask: &inputs.codes, &code => (code & 3, code >> 2 & 3, &counters, code);
         jgv_coverage_add: &mut added, (text, length, code) => (text.as_mut_ptr(), text.len(), *length, *code);
         jgv_coverage_compare: texts, text => (text.as_ptr(), text.len(), whole.as_ptr(), whole.len(), firsts.as_mut_ptr(), firsts.len(), seconds.as_mut_ptr(), seconds.len(), boths.as_mut_ptr(), boths.len());
+        jgv_coverage_rescue: texts.iter().chain(&backward), text => (text.as_ptr(), text.len(), room.as_mut_ptr(), room.len(), changes.as_mut_ptr(), changes.len());
         jgv_sheet_write: texts, text => (text.as_ptr(), text.len(), sheet.as_mut_ptr(), sheet.len());
         jgv_sheet_check: texts, text => (text.as_ptr(), text.len(), sheet.as_ptr(), sheet.len());
     }

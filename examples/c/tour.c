@@ -507,6 +507,22 @@ static void sheets(void) {
     print_told("O(), as written for P(34(1))", jgv_sheet_check(empty_list, sizeof empty_list, sheet, sizeof sheet));
 }
 
+/* A hand-edited text: O3 behind P, O3 twice, nine whole siblings left standing, and an empty list. */
+static void edited_by_hand(void) {
+    static const uint8_t text[] = {'C', 'V', 'R', 0, 1, '0', '0', 'P', 'O', '(', '3', '3', ')', 'Q', '(', '0', '1', '2', '3', '4', '5', '6', '7', '8', ')', 'S', '(', ')'};
+    static const uint8_t open_list[] = {'C', 'V', 'R', 0, 1, '0', '0', 'O', '(', '3'};
+    uint8_t proper[sizeof text];
+    uint64_t changed[4 * sizeof text];
+    jgv_rescue rescued = jgv_coverage_rescue(text, sizeof text, proper, sizeof proper, changed, 4 * sizeof text);
+    expect_answer(rescued.refusal);
+    printf("coverage_rescue: PO(33)Q(012345678)S() -> %.*s;", (int)(rescued.length - 7), (const char *)proper + 7);
+    for (uint64_t i = 0; i < rescued.changes; i++)
+        printf("%s %" PRIu64 " kind %" PRIu64, i ? "," : "", changed[2 * i], changed[2 * i + 1]);
+    printf("\n");
+    rescued = jgv_coverage_rescue(open_list, sizeof open_list, proper, sizeof proper, changed, 4 * sizeof text);
+    printf("coverage_rescue: O(3 -> refused with %" PRIu64 " at place %" PRIu64 "\n", rescued.refusal, rescued.place);
+}
+
 /* A summary kept beside the text: dispatch asks whether a cell of resolution 0 to 2 is done, and the counters answer as the text would. */
 static void dispatch(void) {
     static const uint8_t text[] = {'C', 'V', 'R', 0, 1, '0', '0', 'P', '(', '3', '4', '(', '1', ')', ')'};
@@ -546,6 +562,7 @@ int main(void) {
     office();
     crews();
     sheets();
+    edited_by_hand();
     dispatch();
     return 0;
 }

@@ -165,6 +165,7 @@ class _Summary(ctypes.Structure):
 class _Frame(ctypes.Structure):
     _fields_ = [(edge, c_double) for edge in Frame._fields]
 _Compare = _struct("jgv_compare", c_uint64, "place", "first_cells", "second_cells", "both_cells", "first_size", "second_size", "both_size")
+_Rescue = _struct("jgv_rescue", c_uint64, "place", "length", "changes")
 _Sheet = _struct("jgv_sheet", c_uint64, "place", "right", "record")
 _SheetLength = _struct("jgv_sheet_length", c_uint64, "place", "length")
 _SummaryAsk = _struct("jgv_summary_ask_answer", c_uint64, "covered")
@@ -261,6 +262,7 @@ _settings_change = _entry("jgv_settings_change", _HistoryAnswer, History, _U64, 
 _settings_back = _entry("jgv_settings_back", _HistoryAnswer, History, _U64, _U64)
 _settings_read = _entry("jgv_settings_read", _SettingsAnswer, History, _U64)
 _coverage_compare = _entry("jgv_coverage_compare", _Compare, _BYTES, c_size_t, _BYTES, c_size_t, _CODES, c_size_t, _CODES, c_size_t, _CODES, c_size_t)
+_coverage_rescue = _entry("jgv_coverage_rescue", _Rescue, _BYTES, c_size_t, _ROOM, c_size_t, _CODES, c_size_t)
 _sheet_check = _entry("jgv_sheet_check", _Sheet, _BYTES, c_size_t, _BYTES, c_size_t)
 _sheet_write = _entry("jgv_sheet_write", _SheetLength, _BYTES, c_size_t, _ROOM, c_size_t)
 
@@ -480,6 +482,14 @@ def coverage_compare(first: bytes, second: bytes) -> Tuple[Listing, Listing, Lis
         Listing(seconds[: got.second_cells], got.second_size),
         Listing(boths[: got.both_cells], got.both_size),
     )
+
+
+def coverage_rescue(text: bytes) -> Tuple[bytes, List[Tuple[int, int]]]:
+    """The proper text of a hand-edited one, and what was changed: for each change its place in the text and its kind, 1 to 4."""
+    proper = ctypes.create_string_buffer(len(text))  # never longer
+    changed = (c_uint64 * (4 * len(text)))()  # always enough
+    got = _coverage_rescue(text, len(text), proper, len(proper), changed, len(changed))
+    return proper.raw[: got.length], [(changed[2 * i], changed[2 * i + 1]) for i in range(got.changes)]
 
 
 def sheet_check(text: bytes, sheet: bytes) -> Optional[int]:

@@ -292,6 +292,17 @@ def sheets():
     print(f"sheet_check: O(), as written for P(34(1)) -> {sheet_told(empty_list, sheet)}")
 
 
+def edited_by_hand():
+    """A hand-edited text: O3 behind P, O3 twice, nine whole siblings left standing, and an empty list."""
+    proper, changed = jgv.coverage_rescue(b"CVR\0\x0100PO(33)Q(012345678)S()")
+    told = ", ".join(f"{place} kind {kind}" for place, kind in changed)
+    print(f"coverage_rescue: PO(33)Q(012345678)S() -> {proper[7:].decode()}; {told}")
+    try:
+        jgv.coverage_rescue(b"CVR\0\x0100O(3")
+    except jgv.Refused as refused:
+        print(f"coverage_rescue: O(3 -> refused with {refused.number} at place {refused.place}")
+
+
 def dispatch():
     """A summary kept beside the text: dispatch asks whether a cell of resolution 0 to 2 is done, and the counters answer as the text would."""
     kept = jgv.summary(b"CVR\0\x0100P(34(1))")
@@ -305,6 +316,6 @@ def dispatch():
 if __name__ == "__main__":
     for part in (
         codes_and_names, batches, families, shapes, plane, ground, neighbours, corners, coverage, additions, two_arrangements, handhelds, plotter, office,
-        crews, sheets, dispatch,
+        crews, sheets, edited_by_hand, dispatch,
     ):
         part()

@@ -1212,6 +1212,57 @@ static void sheet_write(void) {
     CHECK(got.length, 0, "jgv_sheet_write to no memory: length");
 }
 
+static uint8_t proper_heading[7];
+
+static void rescues(const uint8_t *text, size_t length, size_t room, const char *body, const uint64_t *want, size_t numbers) {
+    uint8_t proper[64];
+    uint64_t *changed = lend_codes();
+    memset(proper, FILL, sizeof proper);
+    jgv_rescue got = jgv_coverage_rescue(text, length, proper + GUARD, room, changed, numbers);
+    CHECK(got.refusal, 0, "jgv_coverage_rescue: refusal");
+    CHECK(got.place, 0, "jgv_coverage_rescue: place");
+    CHECK(got.length, 7 + strlen(body), "jgv_coverage_rescue: length");
+    CHECK(got.changes, numbers / 2, "jgv_coverage_rescue: number of changes");
+    CHECK(memcmp(proper + GUARD, text, 7), 0, "jgv_coverage_rescue: heading");
+    CHECK(memcmp(proper + GUARD + 7, body, strlen(body)), 0, "jgv_coverage_rescue: body");
+    CHECK(memcmp(changed, want, numbers * sizeof *want), 0, "jgv_coverage_rescue: changes");
+    CHECK(code_strays(numbers), 0, "jgv_coverage_rescue: numbers about the changes");
+    CHECK(changes(proper, proper + GUARD) + changes(proper + GUARD + got.length, proper + sizeof proper), 0, "jgv_coverage_rescue: bytes about the text");
+}
+
+static void rescues_not(const uint8_t *text, size_t length, size_t room, size_t numbers, uint64_t refusal, uint64_t place) {
+    uint8_t proper[64];
+    memset(proper, FILL, sizeof proper);
+    jgv_rescue got = jgv_coverage_rescue(text, length, proper, room, lend_codes(), numbers);
+    CHECK(got.refusal, refusal, "jgv_coverage_rescue refused: refusal");
+    CHECK(got.place, place, "jgv_coverage_rescue refused: place");
+    CHECK(got.length | got.changes, 0, "jgv_coverage_rescue refused: numbers");
+    CHECK(code_strays(0), 0, "jgv_coverage_rescue refused: lent numbers");
+    CHECK(changes(proper, proper + sizeof proper), 0, "jgv_coverage_rescue refused: lent bytes");
+}
+
+static void coverage_rescue(void) {
+    static const uint64_t none[] = {0}, turned[] = {8, 2}, twice[] = {8, 1, 8, 2}, empty[] = {8, 3}, nine[] = {7, 4}, inside[] = {9, 1, 11, 2};
+    rescues(TEXT(HEAD "P(34(1))"), 15, "P(34(1))", none, 0);
+    rescues(TEXT(HEAD "PO"), 9, "OP", turned, 2);
+    rescues(TEXT(HEAD "PP"), 8, "P", twice, 4);
+    rescues(TEXT(HEAD "O()"), 7, "", empty, 2);
+    rescues(TEXT(HEAD "O(012345678)"), 8, "O", nine, 2);
+    rescues(TEXT(HEAD "O(1)O"), 8, "O", inside, 4);
+    rescues_not(TEXT(HEAD "PO"), 8, 2, 8, 0);
+    rescues_not(TEXT(HEAD "PO"), 9, 1, 8, 0);
+    rescues_not(TEXT(HEAD "PP"), 8, 3, 8, 0);
+    rescues_not(TEXT(HEAD "O(1"), 0, 0, 9, 10); /* the order is 13, 10, 9, 8 */
+    rescues_not(TEXT(HEAD "O1"), 9, 2, 9, 8);
+    rescues_not(TEXT("CVR\0\2" "00p" "PO"), 0, 0, 10, 0); /* version 1 only */
+    rescues_not(TEXT("CVR\0"), 0, 0, 9, 4);
+    rescues_not(long_text, LONGEST + 1, 0, 0, 13, 0);
+    jgv_rescue got = jgv_coverage_rescue(TEXT(HEAD), proper_heading, sizeof proper_heading, NULL, 0);
+    CHECK(got.refusal, 0, "jgv_coverage_rescue of a heading: refusal");
+    CHECK(got.length, 7, "jgv_coverage_rescue of a heading: length");
+    CHECK(got.changes, 0, "jgv_coverage_rescue of a heading: changes");
+}
+
 /* Finest cells of N without the last child of any: nothing merges, each eight take eleven bytes and more, `d(01234567)`. */
 static void long_lists(void) {
     for (uint64_t i = 0; i < TOO_MANY; i++)
@@ -1560,6 +1611,7 @@ int main(void) {
     coverage_compare();
     sheet_check();
     sheet_write();
+    coverage_rescue();
     summary();
     long_lists(); /* last, since it fills `long_text` and `many` */
     if (failed)

@@ -9,6 +9,7 @@ pub mod coverage;
 pub mod fixes;
 pub mod neighbour;
 pub mod plotter;
+pub mod rescue;
 pub mod sheets;
 pub mod summary;
 pub mod writing;

@@ -44,7 +44,7 @@ fn refusal(version: u64, n: u64, s: u64, codes: &[u64]) -> u64 {
 }
 
 /// The whole cells of the text, as codes without n and s: a stack on which nine siblings become their parent.
-fn merged(codes: &[u64]) -> Vec<u64> {
+pub fn merged(codes: &[u64]) -> Vec<u64> {
     let mut stack = Vec::with_capacity(codes.len());
     for &code in codes {
         stack.push(code >> 4);
@@ -115,7 +115,7 @@ fn keeps(profile: Profile, cells: &[u64]) -> bool {
 }
 
 /// The text of cells that rise and are merged.
-fn text_of(profile: Profile, n: u64, s: u64, cells: &[u64]) -> Vec<u8> {
+pub fn text_of(profile: Profile, n: u64, s: u64, cells: &[u64]) -> Vec<u8> {
     let mut text = Vec::with_capacity(8 + 2 * cells.len());
     text.extend_from_slice(b"CVR\0");
     text.extend_from_slice(&[profile.version as u8, b'0' + n as u8, b'0' + s as u8]);

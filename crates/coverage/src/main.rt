@@ -1,5 +1,5 @@
 // coverage check FILE, coverage list FILE, coverage ask FILE NAME, coverage frame FILE SIDE, coverage summary FILE [NAME], coverage sheet FILE [SHEET],
-// coverage write n s [depth]: reads and writes coverage texts.
+// coverage rescue FILE, coverage write n s [depth]: reads and writes coverage texts.
 ghost use mathlib.Core.Path.{_≡_};
 ghost use Prim.Native.Nat.{_≤_};
 ghost use lib.ListN.{length, take};
@@ -20,6 +20,7 @@ use console::Room;
 use decimal::Whole;
 use listing::Listed;
 use reader::Checked;
+use rescue::Rescued;
 use sheet::Judged;
 use writing::Written;
 
@@ -28,6 +29,7 @@ enum Command {
     Check,
     List,
     Ask,
+    Rescue,
     Frame,
     Sheet,
     Summary,
@@ -73,7 +75,7 @@ struct Shown {
 fn usage() {
     console::say(b"usage: coverage check FILE | list FILE | ask FILE NAME | frame FILE SIDE\n");
     console::say(b"       coverage sheet FILE > sheet | sheet FILE SHEET\n");
-    console::say(b"       coverage summary FILE [NAME]\n");
+    console::say(b"       coverage summary FILE [NAME] | rescue FILE > text\n");
     console::say(b"       coverage write n s [depth] < names > text\n");
     console::say(b"  n and s are 0 to 3; names stand one a line, rising, none inside another;\n");
     console::say(
@@ -499,11 +501,64 @@ fn check_file(text: &[u8]) {
     show(shown, &out);
 }
 
+// What a kind of change means, to the end of the line.
+fn say_kind(kind: u64) {
+    match kind {
+        1 => console::say(b": named already, or inside a whole cell\n"),
+        2 => console::say(b": not above the one right before it\n"),
+        3 => console::say(b": an empty list\n"),
+        _ => console::say(b": whole by its parts\n"),
+    }
+}
+
+// A line for each change, place and kind, to standard error.
+fn say_changes(list: &[u64]) {
+    let mut i: usize = 0;
+    while i + 1 < list.len() {
+        let place = list[i];
+        let kind = list[i + 1];
+        console::say_whole(place);
+        console::say(b" ");
+        console::say_whole(kind);
+        say_kind(kind);
+        i = i + 2;
+    }
+}
+
+// Why there is no proper text. Rescue takes version 1 only.
+fn say_unrescued(refusal: u64, place: u64) {
+    if refusal == 10 {
+        console::say(b"coverage: refusal 10: rescue takes texts of version 1 only\n");
+        return;
+    }
+    console::say_text(b"coverage", refusal, place);
+}
+
+// rescue: the proper text to standard output, what was changed to standard error. Where it is refused nothing goes to standard output.
+fn rescue_text(text: &[u8], out: &mut [u8], list: &mut [u64]) {
+    match rescue::rescue(text, out, list) {
+        Rescued::Done { length, changes } => {
+            console::print_first(out, length as usize);
+            let numbers = changes as usize * 2;
+            say_changes(&list[..numbers]);
+        }
+        Rescued::Refused { refusal, place } => say_unrescued(refusal, place),
+    }
+}
+
+// coverage rescue FILE. Two changes for each byte are the most, and a change is two numbers.
+fn rescue_file(text: &[u8]) {
+    let mut out = [0u8; 65536];
+    let mut list = [0u64; 262144];
+    rescue_text(text, &mut out, &mut list);
+}
+
 // The commands that read a file.
 fn answer(command: Command, text: &[u8]) {
     match command {
         Command::Check => check_file(text),
         Command::List => list_file(text),
+        Command::Rescue => rescue_file(text),
         Command::Frame => frame_file(text),
         Command::Sheet => sheet_file(text),
         Command::Summary => summary_file(text),
@@ -531,6 +586,9 @@ fn command_of(word: &[u8], arguments: usize) -> Command {
     }
     if check::same(word, b"ask") && arguments == 4 {
         return Command::Ask;
+    }
+    if check::same(word, b"rescue") && arguments == 3 {
+        return Command::Rescue;
     }
     if check::same(word, b"frame") && arguments == 4 {
         return Command::Frame;

@@ -5,6 +5,7 @@ pub mod Laws
 pub mod Order
 pub mod Plotter
 pub mod Refusals
+pub mod Rescue
 pub mod Sheets
 pub mod Summary
 pub mod Settings

@@ -154,6 +154,14 @@ pub struct SheetAnswer {
 }
 
 #[repr(C)]
+pub struct RescueAnswer {
+    pub refusal: u64,
+    pub place: u64,
+    pub length: u64,
+    pub changes: u64,
+}
+
+#[repr(C)]
 pub struct SheetLengthAnswer {
     pub refusal: u64,
     pub place: u64,

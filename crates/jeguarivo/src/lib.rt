@@ -16,6 +16,11 @@ ghost use Rattle.adding.specs.Add.{textWith, addRefusal, added, placed};
 ghost use Rattle.comparing.specs.Compare.{lists, sharedCodes, compareRefusal, compared, withCodes};
 ghost use Rattle.sheet.specs.Sheet.{sheetRefusal, sheetIn, written as sheetWritten};
 ghost use Rattle.sheet.specs.Verdict.{judgedOf};
+ghost use Rattle.logic.specs.Lent.{inFront};
+ghost use Rattle.proper.specs.Proper.{properOf};
+ghost use Rattle.rescue.specs.Marks.{flat};
+ghost use Rattle.rescue.specs.Rescue.{changesOf, rescueRefusal, told};
+ghost use Rattle.entries.specs.Rescue.{rescueNumbers};
 ghost use Rattle.entries.specs.Texts.{checkNumbers, listNumbers, askNumbers, writtenNumbers, addNumbers, compareNumbers};
 ghost use Rattle.writing.specs.Write.{asksFor, writeRefusal, textOf, textIn, written};
 ghost use Rattle.entries.specs.Entries.{arrangement, codedAnswer, codeAnswer, codeOfCell, codeCell, nameAnswer, writtenName, parentCode, childCode};
@@ -49,6 +54,7 @@ use entries::ListAnswer;
 use entries::MarkAnswer;
 use entries::NameAnswer;
 use entries::PointAnswer;
+use entries::RescueAnswer;
 use entries::ShapeAnswer;
 use entries::SheetAnswer;
 use entries::SheetLengthAnswer;
@@ -68,6 +74,7 @@ use plotter::Frame;
 use plotter::Framed;
 use plotter::Mark;
 use reader::Checked;
+use rescue::Rescued;
 use sheet::Judged;
 use sheet::Written as SheetWritten;
 use summary::Questioned;
@@ -857,6 +864,34 @@ pub extern "C" fn jgv_sheet_write(text: &[u8], sheet: &mut [u8]) -> SheetLengthA
             refusal,
             place,
             length: 0, // of a sheet that is refused
+        },
+    }
+}
+
+// The proper text of a hand-edited one, and what was changed, place and kind of each change one behind the other. 13; 10 where the version is not 1; 9
+// where the body is not of the looser form; 8 where the room for the text or for the changes, counted in numbers, is short.
+#[no_mangle]
+pub extern "C" fn jgv_coverage_rescue(
+    text: &[u8],
+    proper: &mut [u8],
+    changed: &mut [u64],
+) -> RescueAnswer
+    ensures { λ r. ⌜ r ≡ rescueNumbers (told (rescueRefusal (now (text .entry)) (length (now (proper .entry))) (length (now (changed .entry)))) (now (text .entry))) ⌝ }
+    ensures { λ r. ⌜ now (proper .exit) ≡ given (rescueRefusal (now (text .entry)) (length (now (proper .entry))) (length (now (changed .entry)))) (inFront (properOf (now (text .entry))) (now (proper .entry))) (now (proper .entry)) ⌝ }
+    ensures { λ r. ⌜ now (changed .exit) ≡ given (rescueRefusal (now (text .entry)) (length (now (proper .entry))) (length (now (changed .entry)))) (inFront (flat (changesOf (now (text .entry)))) (now (changed .entry))) (now (changed .entry)) ⌝ }
+{
+    match rescue::rescue(text, proper, changed) {
+        Rescued::Done { length, changes } => RescueAnswer {
+            refusal: 0,
+            place: 0, // of a rescue
+            length,
+            changes,
+        },
+        Rescued::Refused { refusal, place } => RescueAnswer {
+            refusal,
+            place,
+            length: 0, // of a rescue that is refused
+            changes: 0,
         },
     }
 }

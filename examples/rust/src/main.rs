@@ -382,6 +382,18 @@ fn sheets() -> Answer<()> {
     Ok(())
 }
 
+/// A hand-edited text: O3 behind P, O3 twice, nine whole siblings left standing, and an empty list.
+fn edited_by_hand() -> Answer<()> {
+    let (mut proper, mut changed) = ([0; 28], [0; 4 * 28]);
+    let rescued = coverage_rescue(b"CVR\0\x0100PO(33)Q(012345678)S()", &mut proper, &mut changed)?;
+    let told: Vec<String> = rescued.changes.chunks(2).map(|change| format!("{} kind {}", change[0], change[1])).collect();
+    println!("coverage_rescue: PO(33)Q(012345678)S() -> {}; {}", String::from_utf8_lossy(&rescued.text[7..]), told.join(", "));
+    if let Err(refused) = coverage_rescue(b"CVR\0\x0100O(3", &mut proper, &mut changed) {
+        println!("coverage_rescue: O(3 -> refused with {} at place {}", refused.number, refused.place);
+    }
+    Ok(())
+}
+
 /// A summary kept beside the text: dispatch asks whether a cell of resolution 0 to 2 is done, and the counters answer as the text would.
 fn dispatch() -> Answer<()> {
     let kept = summary(b"CVR\0\x0100P(34(1))")?;
@@ -414,5 +426,6 @@ fn main() -> Answer<()> {
     office()?;
     crews()?;
     sheets()?;
+    edited_by_hand()?;
     dispatch()
 }

@@ -8,13 +8,12 @@ use crate::grid::{self, Answer, Place};
 use crate::plotter::{Edges, Mark};
 use crate::summary::Summary as Kept;
 use jeguarivo::{
-    Add, Ask, Cell, Check, Code, Compare, Count, Fix, Length, List, Name, Point, Shape, Size,
+    Add, Ask, Cell, Check, Code, Compare, Fix, Length, List, Name, Point, Shape, Size,
 };
 use jeguarivo::{Frame, FrameAnswer, MarkAnswer, Sheet, SheetLength, Square, Vertices, Z};
 use std::fmt::Debug;
 
 pub use jeguarivo::lent::{code_name, corner_cells, name_code, summary};
-pub use jeguarivo::{Summary, SummaryAsk};
 pub use jeguarivo::{
     jgv_cell_code as cell_code, jgv_child as child, jgv_code_cell as code_cell,
     jgv_corner_count as corner_count, jgv_fix_code as fix_code, jgv_frame_first as frame_first,
@@ -24,6 +23,7 @@ pub use jeguarivo::{
     jgv_point_code as point_code, jgv_shape as shape, jgv_size as size, jgv_square as square,
     jgv_summary_ask as summary_ask, jgv_vertices as vertices,
 };
+pub use jeguarivo::{Count, Rescue, Summary, SummaryAsk};
 
 /// With the frame as its four edges.
 pub fn frame_grow(side: f64, frame: Edges, code: u64) -> FrameAnswer {
@@ -45,11 +45,17 @@ pub mod settings {
     };
 }
 
+/// The entries for many codes or cells.
+pub mod batches {
+    pub use jeguarivo::lent::{cell_codes, code_cells};
+}
+
 /// The coverage entries.
 pub mod coverage {
     pub use jeguarivo::lent::{
         coverage_add as add, coverage_ask as ask, coverage_check as check,
-        coverage_compare as compare, coverage_list as list, coverage_write as write,
+        coverage_compare as compare, coverage_list as list, coverage_rescue as rescue,
+        coverage_write as write,
     };
 }
 
@@ -110,6 +116,8 @@ like! {
         first_cells: of.cells[0], second_cells: of.cells[1], both_cells: of.cells[2],
         first_size: of.sizes[0], second_size: of.sizes[1], both_size: of.sizes[2]
     };
+    Rescue at place, TextAnswer<(u64, u64)>, (length, changes) =>
+        { length: length, changes: changes };
     Sheet at place, TextAnswer<Option<u64>>, record =>
         { right: u64::from(record.is_none()), record: record.unwrap_or(0) };
     SheetLength at place, TextAnswer<u64>, length => { length: length };

@@ -1,0 +1,5 @@
+pub mod Internal
+pub mod Laws
+pub mod Look
+pub mod LooseScan
+pub mod LooseText

@@ -1,0 +1,11 @@
+pub mod Change
+pub mod Given
+pub mod Kind
+pub mod Left
+pub mod Order
+pub mod Proper
+pub mod Text
+pub mod Thin
+pub mod Thinned
+pub mod Unchanged
+pub mod Walk

@@ -1,0 +1,5 @@
+pub mod Find
+pub mod Joint
+pub mod Mark
+pub mod Marking
+pub mod Note

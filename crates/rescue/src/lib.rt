@@ -1,0 +1,350 @@
+// The rescue of a hand-edited text: its proper text, and the list of what was changed. One pass marks each byte with its kinds of change; counting
+// and writing only read the marks.
+ghost use mathlib.Core.Path.{_≡_};
+ghost use mathlib.Core.Bool.{cond};
+ghost use mathlib.Core.List.{[], _++_};
+ghost use Prim.Native.Nat.{_+_, _-_, _*_, _/_, _%_, _≤_, _<_};
+ghost use lib.Dec.{eqb};
+ghost use lib.ListN.{length, take, drop};
+ghost use Rattle.logic.specs.Rise.{Rise};
+ghost use Rattle.walk.specs.Walk.{origin, Walks};
+ghost use Rattle.rescue.specs.Marks.{hasCode, bit, Seen, lateAt, shuts, maskOf, masks, kindsAt, changesIn, flat};
+ghost use Rattle.rescue.specs.Internal.Marking.{placed, Put};
+ghost use Rattle.rescue.specs.Internal.Note.{Noted, FirstIs, FourthIs};
+ghost use Rattle.cell.specs.Cell.{IsArrangement};
+ghost use Rattle.logic.specs.Lent.{inFront};
+ghost use Rattle.loose.specs.Look.{looseArrangement, looseRefusal};
+ghost use Rattle.proper.specs.Proper.{properOf};
+ghost use Rattle.rescue.specs.Rescue.{Zeros, changesOf, RescueIs};
+ghost use Rattle.rescue.specs.declared.Rescued.the-variants.{Refused as RefusedWith};
+use cell::Arrangement;
+use loose::Looked;
+use walk::Spot;
+use writing::Written;
+
+// 0 where a code is none of the rising keys; 1 where it is one that was not met before; 2 where it was.
+fn note(keys: &[u64], seen: &mut [u8], code: u64) -> u64
+    requires { ⌜ Rise (now keys) × (length (now keys) ≤ length (now seen)) ⌝ }
+    ensures { λ r. ⌜ Noted (now (keys .entry)) (now (seen .entry)) (now (seen .exit)) code r ⌝ }
+{
+    let count = keys.len();
+    let k = track::place_of(keys, count, code);
+    if k >= count {
+        return 0;
+    }
+    if keys[k] != code {
+        return 0;
+    }
+    if seen[k] != 0 {
+        return 2;
+    }
+    seen[k] = 1;
+    1
+}
+
+// Whether a code is one of the rising keys.
+fn holds(keys: &[u64], code: u64) -> bool
+    requires { ⌜ Rise (now keys) ⌝ }
+    ensures { λ r. ⌜ r ≡ hasCode code (now (keys .entry)) ⌝ }
+{
+    let count = keys.len();
+    let k = track::place_of(keys, count, code);
+    if k >= count {
+        return false;
+    }
+    keys[k] == code
+}
+
+// Kind 1: a whole cell that is none of the largest, or was named before.
+fn first_kind(whole: bool, code: u64, largest: &[u64], named: &mut [u8]) -> bool
+    requires { ⌜ Rise (now largest) × (length (now largest) ≤ length (now named)) ⌝ }
+    ensures { λ r. ⌜ FirstIs whole code (now (largest .entry)) (now (named .entry)) (now (named .exit)) r ⌝ }
+{
+    if !whole {
+        return false;
+    }
+    let standing = note(largest, named, code);
+    standing != 1
+}
+
+// Kind 4: the first that stands for a cell of the answer that is none of the largest.
+fn fourth_kind(code: u64, largest: &[u64], answers: &[u64], stood: &mut [u8]) -> bool
+    requires { ⌜ Rise (now largest) × Rise (now answers) × (length (now answers) ≤ length (now stood)) ⌝ }
+    ensures { λ r. ⌜ FourthIs code (now (largest .entry)) (now (answers .entry)) (now (stood .entry)) (now (stood .exit)) r ⌝ }
+{
+    let standing = note(answers, stood, code);
+    if standing != 1 {
+        return false;
+    }
+    let held = holds(largest, code);
+    !held
+}
+
+// Kind 2, by the byte right before, and the numbers of the cells before and after.
+fn late(before: u8, old: u64, new: u64) -> bool
+    ensures { λ r. ⌜ r ≡ lateAt before old new ⌝ }
+{
+    if before == b'(' {
+        return false;
+    }
+    new <= old
+}
+
+// Kind 3, at an opening bracket.
+fn shut_at(body: &[u8], i: usize) -> u8
+    requires { ⌜ i < length (now body) ⌝ }
+    ensures { λ r. ⌜ r ≡ cond (shuts (drop (i + 1) (now (body .entry)))) 8 0 ⌝ }
+{
+    let next = i + 1;
+    if next == body.len() {
+        return 0;
+    }
+    if body[next] == b')' {
+        return 8;
+    }
+    0
+}
+
+fn one(t: bool) -> u8
+    ensures { λ r. ⌜ (r ≡ bit t) × (r ≤ 1) ⌝ }
+{
+    if t {
+        return 1;
+    }
+    0
+}
+
+fn mask(first: bool, second: bool, fourth: bool) -> u8
+    ensures { λ r. ⌜ r ≡ maskOf first second fourth ⌝ }
+{
+    one(first) + one(second) * 2 + one(fourth) * 4
+}
+
+// For each byte of a body, the kinds of change there.
+fn mark(
+    arrangement: Arrangement,
+    body: &[u8],
+    largest: &[u64],
+    answers: &[u64],
+    marks: &mut [u8],
+    named: &mut [u8],
+    stood: &mut [u8],
+)
+    requires { ⌜ Walks (now body) 0 origin × (length (now body) ≤ length (now marks)) × IsArrangement arrangement ⌝ }
+    requires { ⌜ Rise (now largest) × (length (now largest) ≤ length (now named)) × Seen (now largest) [] (now named) ⌝ }
+    requires { ⌜ Rise (now answers) × (length (now answers) ≤ length (now stood)) × Seen (now answers) [] (now stood) ⌝ }
+    ensures { λ _. ⌜ take (length (now (body .entry))) (now (marks .exit)) ≡ masks arrangement (now (largest .entry)) (now (answers .entry)) 40 origin [] [] (now (body .entry)) ⌝ }
+{
+    let mut spot = Spot {
+        resolution: 0,
+        number: 0,
+        first: 0,
+    };
+    let mut before: u8 = b'(';
+    let mut i: usize = 0;
+    while i < body.len() {
+        let b = body[i];
+        let old = spot.number;
+        spot = spot.after(b);
+        if b == b'(' {
+            marks[i] = shut_at(body, i);
+            before = b;
+            i = i + 1;
+            continue;
+        }
+        if b == b')' {
+            marks[i] = 0;
+            before = b;
+            i = i + 1;
+            continue;
+        }
+        let code = code::code_as(arrangement, spot.resolution, spot.number);
+        let whole = walk::whole_at(body, i);
+        let first = first_kind(whole, code, largest, named);
+        let fourth = fourth_kind(code, largest, answers, stood);
+        marks[i] = mask(first, late(before, old, spot.number), fourth);
+        before = b;
+        i = i + 1;
+    }
+}
+
+// How many changes a byte's number stands for.
+fn kinds(m: u8) -> u64
+    ensures { λ r. ⌜ (r ≡ length (kindsAt 7 m)) × (r ≤ 4) ⌝ }
+{
+    let first = one(m % 2 == 1) as u64;
+    let second = one(m / 2 % 2 == 1) as u64;
+    let third = one(m / 8 == 1) as u64;
+    let fourth = one(m / 4 % 2 == 1) as u64;
+    first + second + third + fourth
+}
+
+// How many changes the numbers stand for.
+fn count(marks: &[u8]) -> u64
+    requires { ⌜ length (now marks) ≤ 65536 ⌝ }
+    ensures { λ r. ⌜ (r ≡ length (changesIn 7 (now (marks .entry)))) × (r ≤ 262144) ⌝ }
+{
+    let mut n: u64 = 0;
+    let mut i: usize = 0;
+    while i < marks.len() {
+        n = n + kinds(marks[i]);
+        i = i + 1;
+    }
+    n
+}
+
+// A change, where there is one, to the place n of `out`; and the place behind it.
+fn put(out: &mut [u64], n: usize, place: u64, kind: u64, on: bool) -> usize
+    requires { ⌜ n + length (placed on place kind) ≤ length (now out) ⌝ }
+    ensures { λ r. ⌜ Put (now (out .entry)) (now (out .exit)) n r (placed on place kind) ⌝ }
+{
+    if !on {
+        return n;
+    }
+    out[n] = place;
+    out[n + 1] = kind;
+    n + 2
+}
+
+// The changes that a byte's number stands for, from the place n of `out` on; and the place behind them.
+fn put_kinds(out: &mut [u64], n: usize, place: u64, m: u8) -> usize
+    requires { ⌜ n + length (flat (kindsAt place m)) ≤ length (now out) ⌝ }
+    ensures { λ r. ⌜ Put (now (out .entry)) (now (out .exit)) n r (flat (kindsAt place m)) ⌝ }
+{
+    let first = put(out, n, place, 1, m % 2 == 1);
+    let second = put(out, first, place, 2, m / 2 % 2 == 1);
+    let third = put(out, second, place, 3, m / 8 == 1);
+    put(out, third, place, 4, m / 4 % 2 == 1)
+}
+
+// The changes that the numbers stand for, to the front of `out`.
+fn write(marks: &[u8], out: &mut [u64])
+    requires { ⌜ (length (now marks) ≤ 65536) × (length (flat (changesIn 7 (now marks))) ≤ length (now out)) ⌝ }
+    ensures { λ _. ⌜ now (out .exit) ≡ flat (changesIn 7 (now (marks .entry))) ++ drop (length (flat (changesIn 7 (now (marks .entry))))) (now (out .entry)) ⌝ }
+{
+    let mut n: usize = 0;
+    let mut i: usize = 0;
+    while i < marks.len() {
+        n = put_kinds(out, n, i as u64 + 7, marks[i]);
+        i = i + 1;
+    }
+}
+
+// A text, to the front of `out`.
+fn copy(text: &[u8], out: &mut [u8])
+    requires { ⌜ length (now text) ≤ length (now out) ⌝ }
+    ensures { λ _. ⌜ now (out .exit) ≡ now (text .entry) ++ drop (length (now (text .entry))) (now (out .entry)) ⌝ }
+{
+    let mut k: usize = 0;
+    while k < text.len() {
+        out[k] = text[k];
+        k = k + 1;
+    }
+}
+
+// The proper text of a looser one, to the front of `made`; and its length.
+fn make(
+    text: &[u8],
+    arrangement: Arrangement,
+    codes: &mut [u64],
+    spare: &mut [u64],
+    made: &mut [u8],
+) -> usize
+    requires { ⌜ (looseRefusal (now text) ≡ 0) × (arrangement ≡ looseArrangement (now text)) × (length (now codes) ≡ 65536) × (length (now spare) ≡ 65536) × (length (now made) ≡ 65536) ⌝ }
+    ensures { λ r. ⌜ (r ≡ length (properOf (now (text .entry)))) × (take r (now (made .exit)) ≡ properOf (now (text .entry))) × (r ≤ 65536) ⌝ }
+{
+    match proper::put_proper(text, arrangement, codes, spare, made) {
+        Written::Refused(refusal) => 0,
+        Written::Length(length) => length as usize,
+    }
+}
+
+// What is changed, by the numbers of the bytes behind the heading. `made` is the proper text.
+fn find(
+    text: &[u8],
+    arrangement: Arrangement,
+    made: &[u8],
+    codes: &mut [u64],
+    spare: &mut [u64],
+    marks: &mut [u8],
+    named: &mut [u8],
+    stood: &mut [u8],
+)
+    requires { ⌜ (looseRefusal (now text) ≡ 0) × (now made ≡ properOf (now text)) × (arrangement ≡ looseArrangement (now text)) ⌝ }
+    requires { ⌜ (length (now codes) ≡ 65536) × (length (now spare) ≡ 65536) × (length (now marks) ≡ 65536) × (length (now named) ≡ 65536) × (length (now stood) ≡ 65536) ⌝ }
+    requires { ⌜ Zeros (now named) × Zeros (now stood) ⌝ }
+    ensures { λ _. ⌜ changesIn 7 (take (length (now (text .entry)) - 7) (now (marks .exit))) ≡ changesOf (now (text .entry)) ⌝ }
+{
+    let count = proper::put_largest(text, arrangement, codes, spare);
+    let answers = proper::put_wholes(made, arrangement, spare);
+    mark(
+        arrangement,
+        &text[7..],
+        &codes[..count],
+        &spare[..answers],
+        marks,
+        named,
+        stood,
+    );
+}
+
+// The length of the proper text, and how many changes there are; or the refusal, with the place for 9.
+pub enum Rescued {
+    Done { length: u64, changes: u64 },
+    Refused { refusal: u64, place: u64 },
+}
+
+fn refused(refusal: u64, place: u64) -> Rescued
+    ensures { λ r. ⌜ r ≡ RefusedWith refusal place ⌝ }
+{
+    Rescued::Refused { refusal, place }
+}
+
+// The rescue of a looser text. Both rooms are tested before anything is written.
+fn rescue_loose(text: &[u8], arrangement: Arrangement, out: &mut [u8], list: &mut [u64]) -> Rescued
+    requires { ⌜ (looseRefusal (now text) ≡ 0) × (arrangement ≡ looseArrangement (now text)) ⌝ }
+    ensures { λ r. ⌜ RescueIs (now (text .entry)) (now (out .entry)) (now (out .exit)) (now (list .entry)) (now (list .exit)) r ⌝ }
+{
+    let mut codes = [0u64; 65536];
+    let mut spare = [0u64; 65536];
+    let mut made = [0u8; 65536];
+    let mut marks = [0u8; 65536];
+    let mut named = [0u8; 65536];
+    let mut stood = [0u8; 65536];
+    let length = make(text, arrangement, &mut codes, &mut spare, &mut made);
+    find(
+        text,
+        arrangement,
+        &made[..length],
+        &mut codes,
+        &mut spare,
+        &mut marks,
+        &mut named,
+        &mut stood,
+    );
+    let body = text.len() - 7;
+    let changes = count(&marks[..body]);
+    if out.len() < length {
+        return refused(8, 0);
+    }
+    if (list.len() as u64) < changes * 2 {
+        return refused(8, 0);
+    }
+    copy(&made[..length], out);
+    write(&marks[..body], list);
+    Rescued::Done {
+        length: length as u64,
+        changes,
+    }
+}
+
+// The rescue of any bytes: the proper text into `out`, and what was changed, place and kind one behind the other, into `list`; 13, 10, 9 or 8 where
+// there is none.
+pub fn rescue(text: &[u8], out: &mut [u8], list: &mut [u64]) -> Rescued
+    ensures { λ r. ⌜ RescueIs (now (text .entry)) (now (out .entry)) (now (out .exit)) (now (list .entry)) (now (list .exit)) r ⌝ }
+{
+    match loose::look(text) {
+        Looked::Refused { refusal, place } => refused(refusal, place),
+        Looked::Loose(arrangement) => rescue_loose(text, arrangement, out, list),
+    }
+}
