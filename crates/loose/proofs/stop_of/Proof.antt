@@ -31,7 +31,9 @@ scan-less : tie.Need-scan-less Inv-scan μ-scan
 scan-less c = search needs
 
 scan-again : tie.Need-scan-again Inv-scan μ-scan
-scan-again c = tied-on (c .before .before .before .before .before .scan .inv) (c .before .before .before .before .if1 .left) (omega arith) (open-on _ _ _ (c .before .before .if2 .taken) (not-false _ (c .before .if3 .left)) (c .if4 .left))
+scan-again c =
+    let a = c .before .before .before .before in
+    tied-on (a .before .scan .inv) (a .if1 .left) (omega arith) (open-on _ _ _ (c .before .before .if2 .taken) (not-false _ (c .before .if3 .left)) (c .if4 .left))
 
 sub-lists : tie.Need-sub-lists Inv-scan μ-scan
 sub-lists c = search needs
@@ -43,7 +45,10 @@ scan-less-2 : tie.Need-scan-less-2 Inv-scan μ-scan
 scan-less-2 c = search needs
 
 scan-again-2 : tie.Need-scan-again-2 Inv-scan μ-scan
-scan-again-2 c = tied-on (c .before .before .before .before .before .scan .inv) (c .before .before .before .before .if1 .left) (omega (arith, c .before .before .before .before .before .scan .inv .most)) (shut-on _ _ _ (c .before .before .if2 .left) (c .before .if5 .taken) (c .if6 .left))
+scan-again-2 c =
+    let a = c .before .before .before .before in
+    let l = a .before .scan .inv in
+    tied-on l (a .if1 .left) (omega (arith, l .most)) (shut-on _ _ _ (c .before .before .if2 .left) (c .before .if5 .taken) (c .if6 .left))
 
 is-name-requires : tie.Need-is-name-requires Inv-scan μ-scan
 is-name-requires c κs = search needs
@@ -55,7 +60,11 @@ scan-less-3 : tie.Need-scan-less-3 Inv-scan μ-scan
 scan-less-3 c = search needs
 
 scan-again-3 : tie.Need-scan-again-3 Inv-scan μ-scan
-scan-again-3 c = tied-on (c .before .before .before .before .before .before .scan .inv) (c .before .before .before .before .before .if1 .left) (c .before .before .before .before .before .before .scan .inv .most) (name-on _ _ _ (c .before .before .before .if2 .left) (c .before .before .if5 .left) (sym (c .before .is-name .ensures) ∙ not-false _ (c .if7 .left)))
+scan-again-3 c =
+    let a = c .before .before .before .before .before in
+    let l = a .before .scan .inv in
+    tied-on l (a .if1 .left) (l .most)
+    (name-on _ _ _ (c .before .before .before .if2 .left) (c .before .before .if5 .left) (sym (c .before .is-name .ensures) ∙ not-false _ (c .if7 .left)))
 
 returns : tie.Need-returns Inv-scan μ-scan
 returns c = tied-end (c .before .scan .inv) (c .if1 .taken)
@@ -64,13 +73,20 @@ returns-2 : tie.Need-returns-2 Inv-scan μ-scan
 returns-2 c = tied-stop (c .before .before .before .before .scan .inv) (c .before .before .before .if1 .left) (open-unnamed _ _ _ (c .before .if2 .taken) (not-true _ (c .if3 .taken)))
 
 returns-3 : tie.Need-returns-3 Inv-scan μ-scan
-returns-3 c = tied-stop (c .before .before .before .before .before .scan .inv) (c .before .before .before .before .if1 .left) (open-deep _ _ _ (c .before .before .if2 .taken) (not-false _ (c .before .if3 .left)) (c .if4 .taken))
+returns-3 c =
+    let a = c .before .before .before .before in
+    tied-stop (a .before .scan .inv) (a .if1 .left) (open-deep _ _ _ (c .before .before .if2 .taken) (not-false _ (c .before .if3 .left)) (c .if4 .taken))
 
 returns-4 : tie.Need-returns-4 Inv-scan μ-scan
-returns-4 c = tied-stop (c .before .before .before .before .before .scan .inv) (c .before .before .before .before .if1 .left) (shut-none _ _ _ (c .before .before .if2 .left) (c .before .if5 .taken) (c .if6 .taken))
+returns-4 c =
+    let a = c .before .before .before .before in
+    tied-stop (a .before .scan .inv) (a .if1 .left) (shut-none _ _ _ (c .before .before .if2 .left) (c .before .if5 .taken) (c .if6 .taken))
 
 returns-5 : tie.Need-returns-5 Inv-scan μ-scan
-returns-5 c = tied-stop (c .before .before .before .before .before .before .scan .inv) (c .before .before .before .before .before .if1 .left) (name-not _ _ _ (c .before .before .before .if2 .left) (c .before .before .if5 .left) (sym (c .before .is-name .ensures) ∙ not-true _ (c .if7 .taken)))
+returns-5 c =
+    let a = c .before .before .before .before .before in
+    tied-stop (a .before .scan .inv) (a .if1 .left)
+    (name-not _ _ _ (c .before .before .before .if2 .left) (c .before .before .if5 .left) (sym (c .before .is-name .ensures) ∙ not-true _ (c .if7 .taken)))
 
 pub stop-of-spec : {M : Type 1} → statement M
 stop-of-spec =

@@ -220,7 +220,9 @@ open-goes k u h s = ⊎-elim (λ w. clash (sym (w .1))) (λ w. go (w .0) (w .1) 
             outer = (j₁, omega arith, j₀, s .outer);
             inner = tt;
             bytes =
-                ap (λ (x : List ℕ). x ++ (40 ∷ [])) (bs ∙ ap (λ (x : Nodes). before (s .around) ++ render (levelAt (deep (s .around))) x) e ∙ ap (λ (x : List ℕ). before (s .around) ++ x) (render-join (levelAt (deep (s .around))) ms (whole c end)))
+                ap (λ (x : List ℕ). x ++ (40 ∷ []))
+                (bs ∙ ap (λ (x : Nodes). before (s .around) ++ render (levelAt (deep (s .around))) x) e
+                ∙ ap (λ (x : List ℕ). before (s .around) ++ x) (render-join (levelAt (deep (s .around))) ms (whole c end)))
                 ∙ simp (append-assoc, append-nil);
             named = refl;
           },
