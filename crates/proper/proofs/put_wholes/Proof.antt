@@ -20,7 +20,8 @@ abbrev μ-loop : tie.MeasureT-loop
 μ-loop text arrangement codes₀ spot₀ count₀ i₀ codes spot count i = length text - i
 
 -- where a whole cell stands, and its code was made
-stands : (c : tie.After-code-as Inv-loop μ-loop) → wholeAt (drop (c .before .before .before .before .before .before .loop .i) (c .before .before .before .before .before .before .before .before .before .args .text .now)) ≡ true
+stands : (c : tie.After-code-as Inv-loop μ-loop) →
+    wholeAt (drop (c .before .before .before .before .before .before .loop .i) (c .before .before .before .before .before .before .before .before .before .args .text .now)) ≡ true
 stands c = sym (c .before .before .whole-at .ensures) ∙ not-false _ (c .before .if1 .left)
 
 room : (c : tie.After-code-as Inv-loop μ-loop) → let l = c .before .before .before .before .before .before .loop in l .count < length (l .codes)

@@ -173,7 +173,8 @@ under-keeps (suc r) a m b h =
 abbrev Shares : (List Name → Nodes) → Type 0
 Shares below = (a b : List Name) → cost below (a ++ b) ≤ cost below a + cost below b
 
-side-shares : (below : List Name → Nodes) → Shares below → (l : Level) (n c : ℕ) (a b : List Name) → length (render l (side below n c (a ++ b))) ≤ length (render l (side below n c a)) + length (render l (side below n c b))
+side-shares : (below : List Name → Nodes) → Shares below → (l : Level) (n c : ℕ) (a b : List Name) →
+    length (render l (side below n c (a ++ b))) ≤ length (render l (side below n c a)) + length (render l (side below n c b))
 unfolding side
 side-shares below k l zero c a b = omega arith
 side-shares below k l (suc n) c a b =
@@ -187,7 +188,9 @@ side-shares below k l (suc n) c a b =
       side-shares below k l n (suc c) a b,
     )
 
-cost-more : (below : List Name → Nodes) (t : Name) (ts : List Name) → (1 ≤ cost below (t ∷ ts)) × (isWhole below (t ∷ ts) ≡ false → cost below (t ∷ ts) ≡ 3 + length (render Digits (below (t ∷ ts)))) × (cost below (t ∷ ts) ≤ 3 + length (render Digits (below (t ∷ ts))))
+cost-more : (below : List Name → Nodes) (t : Name) (ts : List Name) →
+    (1 ≤ cost below (t ∷ ts)) ×
+    (isWhole below (t ∷ ts) ≡ false → cost below (t ∷ ts) ≡ 3 + length (render Digits (below (t ∷ ts)))) × (cost below (t ∷ ts) ≤ 3 + length (render Digits (below (t ∷ ts))))
 unfolding cost
 cost-more below t ts = (
   by-cond (λ (n : ℕ). 1 ≤ n) (isWhole below (t ∷ ts)) (λ e. omega arith) (λ e. omega arith),

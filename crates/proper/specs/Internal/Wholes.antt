@@ -77,7 +77,8 @@ module _ {a : Arrangement} {t codes₀ codes : List ℕ} {count i : ℕ} {s s′
         }
 
 -- behind the last byte all are put
-pub lists-end : {a : Arrangement} {t codes₀ codes : List ℕ} {count i : ℕ} {s : Spot} → Lists a t codes₀ codes count i s → length t ≤ i → (count ≡ length (looseCodes a t)) × (codes ≡ looseCodes a t ++ drop (length (looseCodes a t)) codes₀)
+pub lists-end : {a : Arrangement} {t codes₀ codes : List ℕ} {count i : ℕ} {s : Spot} → Lists a t codes₀ codes count i s → length t ≤ i →
+    (count ≡ length (looseCodes a t)) × (codes ≡ looseCodes a t ++ drop (length (looseCodes a t)) codes₀)
 lists-end {a} {t} {codes₀} {codes} {count} {i} {s} l h =
     let p : take count codes ≡ looseCodes a t =
     sym (append-nil (take count codes)) ∙ sym (ap (λ (x : List Spot). take count codes ++ map (spotCode a) x) (walked t i s h)) ∙ l .put in
