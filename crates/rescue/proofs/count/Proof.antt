@@ -33,10 +33,19 @@ loop-less : tie.Need-loop-less Inv-loop μ-loop
 loop-less c = search needs
 
 loop-again : tie.Need-loop-again Inv-loop μ-loop
-loop-again c = let l = c .before .before .before .loop .inv in (omega arith, omega (arith, count-on (c .before .before .before .before .before .args .marks .now) (c .before .before .before .loop .i) (c .before .before .loop-test .taken), l .1, c .kinds .ensures .0), omega (arith, l .2, c .kinds .ensures .1))
+loop-again c =
+    let a = c .before .before .before in
+    let l = a .loop .inv in (
+      omega arith,
+      omega (arith, count-on (a .before .before .args .marks .now) (a .loop .i) (c .before .before .loop-test .taken), l .1, c .kinds .ensures .0),
+      omega (arith, l .2, c .kinds .ensures .1),
+    )
 
 returns : tie.Need-returns Inv-loop μ-loop
-returns c = let l = c .before .loop .inv in let t = c .before .before .before .args .marks .now in (omega (arith, l .1, count-end t (c .before .loop .i) (c .loop-test .left), count-length t 7), omega (arith, l .2, l .0))
+returns c =
+    let l = c .before .loop .inv in
+    let t = c .before .before .before .args .marks .now in
+    (omega (arith, l .1, count-end t (c .before .loop .i) (c .loop-test .left), count-length t 7), omega (arith, l .2, l .0))
 
 pub count-spec : {M : Type 1} → statement M
 count-spec =

@@ -114,7 +114,9 @@ mark-requires c κs =
     let g = w .put-wholes .ensures in
     let o : List ℕ = l .put-largest .last .1 .1 .0 in
     let f = ap (λ (x : ℕ). take x o) (l .put-largest .ensures .0) ∙ l .put-largest .ensures .1 in
-    let m = mark-ready t e a (take (length t - 7) (drop 7 t)) _ _ (take-all (length t - 7) (drop 7 t) (omega (arith, length-drop 7 t))) f (put-front (looseCodes (s .args .arrangement) made) z k _ (g .0) r (g .1) ∙ made-codes t e a made (s .pre .0 .1))
+    let m = mark-ready t e a (take (length t - 7) (drop 7 t)) _ _
+    (take-all (length t - 7) (drop 7 t) (omega (arith, length-drop 7 t))) f
+    (put-front (looseCodes (s .args .arrangement) made) z k _ (g .0) r (g .1) ∙ made-codes t e a made (s .pre .0 .1))
     (s .args .marks .now) (s .args .named .now) (s .args .stood .now) (s .pre .1 .0 .2) (s .pre .1 .0 .3) (s .pre .1 .0 .4) (s .pre .1 .1 .0) (s .pre .1 .1 .1) in
     ((m .0 .0, m .0 .1, arranged t e a), m .1)
 
@@ -150,7 +152,10 @@ returns c =
     let g = w .put-wholes .ensures in
     let o : List ℕ = l .put-largest .last .1 .1 .0 in
     let f = ap (λ (x : ℕ). take x o) (l .put-largest .ensures .0) ∙ l .put-largest .ensures .1 in
-    marked t e a (take (length t - 7) (drop 7 t)) _ _ (take-all (length t - 7) (drop 7 t) (omega (arith, length-drop 7 t))) f (put-front (looseCodes (s .args .arrangement) made) z k _ (g .0) r (g .1) ∙ made-codes t e a made (s .pre .0 .1)) _ (c .before .before .before .before .before .before .mark .ensures)
+    marked t e a (take (length t - 7) (drop 7 t)) _ _
+    (take-all (length t - 7) (drop 7 t) (omega (arith, length-drop 7 t))) f
+    (put-front (looseCodes (s .args .arrangement) made) z k _ (g .0) r (g .1) ∙ made-codes t e a made (s .pre .0 .1))
+    _ (c .before .before .before .before .before .before .mark .ensures)
 
 pub find-spec : {M : Type 1} → statement M
 find-spec =

@@ -39,7 +39,8 @@ add-result-3 : tie.Need-add-result-3
 add-result-3 c = search needs
 
 returns : tie.Need-returns
-returns c = kinds-are (c .before .before .before .before .args .m) (c .before .before .before .one .ensures .0) (c .before .before .one2 .ensures .0) (c .before .one3 .ensures .0) (c .one4 .ensures .0)
+returns c =
+    kinds-are (c .before .before .before .before .args .m) (c .before .before .before .one .ensures .0) (c .before .before .one2 .ensures .0) (c .before .one3 .ensures .0) (c .one4 .ensures .0)
 
 pub kinds-spec : {M : Type 1} → statement M
 kinds-spec =

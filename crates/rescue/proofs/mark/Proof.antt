@@ -41,7 +41,10 @@ loop-less : tie.Need-loop-less Inv-loop μ-loop
 loop-less c = search needs
 
 loop-again : tie.Need-loop-again Inv-loop μ-loop
-loop-again c = let l = c .before .before .before .before .before .loop .inv in (l .0, l .1, (search needs), l .3, l .4, marking-open (l .5) (c .before .before .before .before .loop-test .taken) (c .before .before .after .ensures) (c .before .if1 .taken) (c .shut-at .ensures))
+loop-again c =
+    let a = c .before .before .before .before in
+    let l = a .before .loop .inv in
+    (l .0, l .1, (search needs), l .3, l .4, marking-open (l .5) (a .loop-test .taken) (c .before .before .after .ensures) (c .before .if1 .taken) (c .shut-at .ensures))
 
 slice-write-marks-2 : tie.Need-slice-write-marks-2 Inv-loop μ-loop
 slice-write-marks-2 c = search needs
@@ -53,10 +56,17 @@ loop-less-2 : tie.Need-loop-less-2 Inv-loop μ-loop
 loop-less-2 c = search needs
 
 loop-again-2 : tie.Need-loop-again-2 Inv-loop μ-loop
-loop-again-2 c = let l = c .before .before .before .before .before .loop .inv in (l .0, l .1, (search needs), l .3, l .4, marking-shut (l .5) (c .before .before .before .before .loop-test .taken) (c .before .before .after .ensures) (c .if2 .taken))
+loop-again-2 c =
+    let a = c .before .before .before .before in
+    let l = a .before .loop .inv in
+    (l .0, l .1, (search needs), l .3, l .4, marking-shut (l .5) (a .loop-test .taken) (c .before .before .after .ensures) (c .if2 .taken))
 
 code-as-requires : tie.Need-code-as-requires Inv-loop μ-loop
-code-as-requires c κs = let l = c .before .before .before .before .before .loop .inv in let f = on (l .5) (c .before .before .before .before .loop-test .taken) (c .before .before .after .ensures) .fits in (c .before .before .before .before .before .before .before .before .before .before .before .before .pre .0 .2, (f .fine, f .small))
+code-as-requires c κs =
+    let a = c .before .before .before .before in
+    let l = a .before .loop .inv in
+    let f = on (l .5) (a .loop-test .taken) (c .before .before .after .ensures) .fits in
+    (a .before .before .before .before .before .before .before .before .pre .0 .2, (f .fine, f .small))
 
 whole-at-requires : tie.Need-whole-at-requires Inv-loop μ-loop
 whole-at-requires c κs = search needs
@@ -78,8 +88,9 @@ slice-write-marks-3 c = search needs
 
 add-i-3 : tie.Need-add-i-3 Inv-loop μ-loop
 add-i-3 c =
-    let g = c .before .before .before .before .before .before .before .before .before .before .before .before .before .before .before .before .before .before .before .before .before .before .before .before .good in
-    omega (arith, c .before .before .before .before .before .before .before .before .before .before .before .before .before .before .before .before .loop-test .taken)
+    let a = c .before .before .before .before .before .before .before .before .before .before .before .before .before .before .before .before in
+    let g = a .before .before .before .before .before .before .before .before .good in
+    omega (arith, a .loop-test .taken)
 
 loop-less-3 : tie.Need-loop-less-3 Inv-loop μ-loop
 loop-less-3 c = search needs

@@ -18,7 +18,10 @@ shared-slice-read-if2 : tie.Need-shared-slice-read-if2
 shared-slice-read-if2 c = search needs
 
 returns-2 : tie.Need-returns-2
-returns-2 c = let a = c .before .before .before .before .before .before .args in none-other (a .keys .now) (a .code) (c .before .before .before .before .before .before .pre .0) (c .before .before .before .place-of .ensures) (c .if2 .taken)
+returns-2 c =
+    let s = c .before .before .before .before .before .before in
+    let a = s .args in
+    none-other (a .keys .now) (a .code) (s .pre .0) (c .before .before .before .place-of .ensures) (c .if2 .taken)
 
 slice-read-if3 : tie.Need-slice-read-if3
 slice-read-if3 c = search needs

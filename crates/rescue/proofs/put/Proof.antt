@@ -23,7 +23,11 @@ mul-out-2 : tie.Need-mul-out-2
 mul-out-2 c = let a = c .before .args in let t = not-false _ (c .if1 .left) in let r = put-room (a .place) (a .kind) (a .n) (length (a .out .now)) (a .on) t (c .before .pre) in search needs
 
 slice-write-out-2 : tie.Need-slice-write-out-2
-slice-write-out-2 c = let a = c .before .args in let t = not-false _ (c .if1 .left) in let r = put-room (a .place) (a .kind) (a .n) (length (a .out .now)) (a .on) t (c .before .pre) in omega (arith, length-set (a .out .now) (a .n) (a .place))
+slice-write-out-2 c =
+    let a = c .before .args in
+    let t = not-false _ (c .if1 .left) in
+    let r = put-room (a .place) (a .kind) (a .n) (length (a .out .now)) (a .on) t (c .before .pre) in
+    omega (arith, length-set (a .out .now) (a .n) (a .place))
 
 add-result : tie.Need-add-result
 add-result c = let a = c .before .args in let t = not-false _ (c .if1 .left) in let r = put-room (a .place) (a .kind) (a .n) (length (a .out .now)) (a .on) t (c .before .pre) in search needs
@@ -32,7 +36,11 @@ same-length : tie.Need-same-length
 same-length c = search needs
 
 returns-2 : tie.Need-returns-2
-returns-2 c = let a = c .before .args in let t = not-false _ (c .if1 .left) in let r = put-room (a .place) (a .kind) (a .n) (length (a .out .now)) (a .on) t (c .before .pre) in put-two (a .out .now) (a .n) (a .place) (a .kind) (a .on) t r
+returns-2 c =
+    let a = c .before .args in
+    let t = not-false _ (c .if1 .left) in
+    let r = put-room (a .place) (a .kind) (a .n) (length (a .out .now)) (a .on) t (c .before .pre) in
+    put-two (a .out .now) (a .n) (a .place) (a .kind) (a .on) t r
 
 pub put-spec : {M : Type 1} → statement M
 put-spec =

@@ -83,13 +83,14 @@ refused-requires c κs = search needs
 
 returns : tie.Need-returns
 returns c =
-    let s = c .before .before .before .before .before .before .before .before .before .before .before .before .before .before .before .before .before .before .before .before .before .before .before .before .before .before in
+    let k = c .before .before .before .before .before .before .before .before .before .before .before .before .before .before .before .before .before .before .before in
+    let s = k .before .before .before .before .before .before .before in
     let t : List ℕ = s .args .text .now in
     let e = s .pre .0 in
     let o : List ℕ = s .args .out .now in
     let v : List ℕ = s .args .list .now in
     subst (RescueIs t o o v v) (sym (c .refused .ensures))
-    (no-text-room t e o v (omega (arith, c .before .if1 .taken, c .before .before .before .before .before .before .before .before .before .before .before .before .before .before .before .before .before .before .before .make .ensures .0)))
+    (no-text-room t e o v (omega (arith, c .before .if1 .taken, k .make .ensures .0)))
 
 mul-if2 : tie.Need-mul-if2
 mul-if2 c = omega (arith, c .before .count .ensures .1)
@@ -99,44 +100,54 @@ refused-requires-2 c κs = search needs
 
 returns-2 : tie.Need-returns-2
 returns-2 c =
-    let s = c .before .before .before .before .before .before .before .before .before .before .before .before .before .before .before .before .before .before .before .before .before .before .before .before .before .before .before in
+    let k = c .before .before .before .before .before .before .before .before .before .before .before .before .before .before .before .before .before .before .before .before in
+    let s = k .before .before .before .before .before .before .before in
     let t : List ℕ = s .args .text .now in
     let e = s .pre .0 in
     let o : List ℕ = s .args .out .now in
     let v : List ℕ = s .args .list .now in
     subst (RescueIs t o o v v) (sym (c .refused2 .ensures))
     (no-list-room t e o v _ (c .before .before .before .count .ensures .0 ∙ ap length (c .before .before .before .before .before .before .before .before .before .before .find .ensures))
-    (omega (arith, c .before .before .if1 .left, c .before .before .before .before .before .before .before .before .before .before .before .before .before .before .before .before .before .before .before .before .make .ensures .0)) (c .before .if2 .taken))
+    (omega (arith, c .before .before .if1 .left, k .make .ensures .0)) (c .before .if2 .taken))
 
 array-share-prefix-made-2 : tie.Need-array-share-prefix-made-2
-array-share-prefix-made-2 c = omega (arith, c .before .before .before .before .before .before .before .before .before .before .before .before .before .before .before .before .before .before .before .make .ensures .2)
+array-share-prefix-made-2 c =
+    let k = c .before .before .before .before .before .before .before .before .before .before .before .before .before .before .before .before .before .before .before in
+    omega (arith, k .make .ensures .2)
 
 slice-aggregate-copy : tie.Need-slice-aggregate-copy
-slice-aggregate-copy c = sym (length-take-le _ _ (omega (arith, c .before .before .before .before .before .before .before .before .before .before .before .before .before .before .before .before .before .before .before .before .make .ensures .2)))
+slice-aggregate-copy c =
+    let k = c .before .before .before .before .before .before .before .before .before .before .before .before .before .before .before .before .before .before .before .before in
+    sym (length-take-le _ _ (omega (arith, k .make .ensures .2)))
 
 copy-requires : tie.Need-copy-requires
 copy-requires c κs =
-    let s = c .before .before .before .before .before .before .before .before .before .before .before .before .before .before .before .before .before .before .before .before .before .before .before .before .before .before .before .before in
-    take-room (c .before .before .before .before .before .before .before .before .before .before .before .before .before .before .before .before .before .before .before .before .before .make .result) _ (length (s .args .out .now)) (omega (arith, c .before .before .before .if1 .left))
+    let k = c .before .before .before .before .before .before .before .before .before .before .before .before .before .before .before .before .before .before .before .before .before in
+    let s = k .before .before .before .before .before .before .before in
+    take-room (k .make .result) _ (length (s .args .out .now)) (omega (arith, c .before .before .before .if1 .left))
 
 array-share-prefix-marks-2 : tie.Need-array-share-prefix-marks-2
 array-share-prefix-marks-2 c =
-    let s = c .before .before .before .before .before .before .before .before .before .before .before .before .before .before .before .before .before .before .before .before .before .before .before .before .before .before .before .before .before .before .before in
+    let k = c .before .before .before .before .before .before .before .before .before .before .before .before .before .before .before .before in
+    let s = k .before .before .before .before .before .before .before .before .before .before .before .before .before .before .before in
     let t : List ℕ = s .args .text .now in
     let e = s .pre .0 in omega (arith, loose-short t e)
 
 slice-aggregate-write : tie.Need-slice-aggregate-write
 slice-aggregate-write c =
-    let s = c .before .before .before .before .before .before .before .before .before .before .before .before .before .before .before .before .before .before .before .before .before .before .before .before .before .before .before .before .before .before .before .before in
+    let k = c .before .before .before .before .before .before .before .before .before .before .before .before .before .before .before .before in
+    let s = k .before .before .before .before .before .before .before .before .before .before .before .before .before .before .before .before in
     let t : List ℕ = s .args .text .now in
     let e = s .pre .0 in sym (length-take-le _ _ (omega (arith, loose-short t e)))
 
 write-requires : tie.Need-write-requires
 write-requires c κs =
-    let s = c .before .before .before .before .before .before .before .before .before .before .before .before .before .before .before .before .before .before .before .before .before .before .before .before .before .before .before .before .before .before .before .before .before in
+    let k = c .before .before .before .before .before .before .before .before .before in
+    let m = k .before .before .before .before .before .before .before .before .before .before .before .before in
+    let s = m .before .before .before .before .before .before .before .before .before .before .before .before in
     let t : List ℕ = s .args .text .now in
     let e = s .pre .0 in
-    (take-room (length t - 7) _ 65536 (omega (arith, loose-short t e)), flat-room _ _ _ (c .before .before .before .before .before .before .before .before .before .count .ensures .0) (omega (arith, c .before .before .before .before .before .before .before .if2 .left)))
+    (take-room (length t - 7) _ 65536 (omega (arith, loose-short t e)), flat-room _ _ _ (k .count .ensures .0) (omega (arith, c .before .before .before .before .before .before .before .if2 .left)))
 
 same-length : tie.Need-same-length
 same-length c = search needs
@@ -146,15 +157,19 @@ same-length-2 c = search needs
 
 returns-3 : tie.Need-returns-3
 returns-3 c =
-    let s = c .before .before .before .before .before .before .before .before .before .before .before .before .before .before .before .before .before .before .before .before .before .before .before .before .before .before .before .before .before .before .before .before .before .before .before .before in
+    let k = c .before .before .before .before .before .before .before .before .before .before in
+    let n = k .before .before .before .before .before .before .before .before .before in
+    let m = n .before .before .before .before .before .before .before .before .before .before in
+    let s = m .before .before .before .before .before .before .before in
     let t : List ℕ = s .args .text .now in
     let e = s .pre .0 in
-    let i = c .before .before .before .before .before .before .before .before .before .before .before .before .before .before .before .before .before .before .before .before .before .before .before .before .before .before .before .before .before .make .ensures in
+    let i = m .make .ensures in
     let o : List ℕ = s .args .out .now in
     let v : List ℕ = s .args .list .now in
-    let f = c .before .before .before .before .before .before .before .before .before .before .before .before .before .before .before .before .before .before .before .find .ensures in
-    rescued-is t e o v _ (c .before .before .before .before .before .before .before .before .before .before .before .before .count .ensures .0 ∙ ap length f) (i .0) (omega (arith, c .before .before .before .before .before .before .before .before .before .before .before .if1 .left, i .0)) (omega (arith, c .before .before .before .before .before .before .before .before .before .before .if2 .left))
-    (c .before .before .before .before .before .before .before .copy .ensures ∙ ap (λ (x : List ℕ). x ++ drop (length x) o) (i .1)) (c .before .before .write .ensures ∙ ap (λ (x : List Change). flat x ++ drop (length (flat x)) v) f)
+    let f = n .find .ensures in
+    rescued-is t e o v _ (k .before .before .count .ensures .0 ∙ ap length f) (i .0) (omega (arith, k .before .if1 .left, i .0)) (omega (arith, k .if2 .left))
+    (c .before .before .before .before .before .before .before .copy .ensures ∙ ap (λ (x : List ℕ). x ++ drop (length x) o) (i .1))
+    (c .before .before .write .ensures ∙ ap (λ (x : List Change). flat x ++ drop (length (flat x)) v) f)
 
 pub rescue-loose-spec : {M : Type 1} → statement M
 rescue-loose-spec =

@@ -25,7 +25,9 @@ shared-slice-read-put-kinds : tie.Need-shared-slice-read-put-kinds Inv-loop μ-l
 shared-slice-read-put-kinds c = search needs
 
 put-kinds-requires : tie.Need-put-kinds-requires Inv-loop μ-loop
-put-kinds-requires c κs = let l = c .before .before .before .loop in left-room (c .before .before .before .before .before .before .args .marks .now) (l .i) (l .inv .3) (c .before .before .loop-test .taken)
+put-kinds-requires c κs =
+    let l = c .before .before .before .loop in
+    left-room (c .before .before .before .before .before .before .args .marks .now) (l .i) (l .inv .3) (c .before .before .loop-test .taken)
 
 add-i : tie.Need-add-i Inv-loop μ-loop
 add-i c = search needs
@@ -34,7 +36,11 @@ loop-less : tie.Need-loop-less Inv-loop μ-loop
 loop-less c = search needs
 
 loop-again : tie.Need-loop-again Inv-loop μ-loop
-loop-again c = let l = c .before .before .before .before .before .before .loop in let w = left-step (c .before .before .before .before .before .before .before .before .before .args .marks .now) (l .i) (l .inv .3) (c .before .before .before .before .before .loop-test .taken) (c .before .before .put-kinds .ensures) in (w .long, l .inv .1, omega arith, w)
+loop-again c =
+    let a = c .before .before .before .before .before in
+    let l = a .before .loop in
+    let w = left-step (a .before .before .before .before .args .marks .now) (l .i) (l .inv .3) (a .loop-test .taken) (c .before .before .put-kinds .ensures) in
+    (w .long, l .inv .1, omega arith, w)
 
 same-length : tie.Need-same-length Inv-loop μ-loop
 same-length c = search needs

@@ -96,7 +96,8 @@ unfolding any hasCode ownCodes
 any-own v [] q n m = refl
 any-own {ar} v (e ∷ es) q n m = go (e .own) (any-own v es q (n .1) m)
   where
-    go : (t : Bool) → any (names-whole q) es ≡ hasCode (codeNamed ar q) (ownCodes ar es) → ((t && same (e .name) q) || any (names-whole q) es) ≡ hasCode (codeNamed ar q) (metOwn t (codeNamed ar (e .name)) (ownCodes ar es))
+    go : (t : Bool) → any (names-whole q) es ≡ hasCode (codeNamed ar q) (ownCodes ar es) →
+        ((t && same (e .name) q) || any (names-whole q) es) ≡ hasCode (codeNamed ar q) (metOwn t (codeNamed ar (e .name)) (ownCodes ar es))
     go true k = ap₂ _||_ (same-code v (e .name) q (n .0) m) k
     go false k = k
 

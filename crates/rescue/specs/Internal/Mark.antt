@@ -61,7 +61,8 @@ item-void false false true v p = refl
 item-void false false false v p = refl
 
 tested-append :
-    (ar : Arrangement) (ms as′ : List ℕ) (xs ys : List Item) (own all : List ℕ) → tested ar ms as′ own all (xs ++ ys) ≡ tested ar ms as′ own all xs ++ tested ar ms as′ (ownAfter ar own xs) (allAfter ar all xs) ys
+    (ar : Arrangement) (ms as′ : List ℕ) (xs ys : List Item) (own all : List ℕ) →
+    tested ar ms as′ own all (xs ++ ys) ≡ tested ar ms as′ own all xs ++ tested ar ms as′ (ownAfter ar own xs) (allAfter ar all xs) ys
 unfolding tested ownAfter allAfter
 tested-append ar ms as′ [] ys own all = refl
 tested-append ar ms as′ (e ∷ xs) ys own all =
@@ -93,7 +94,8 @@ module _ (ar : Arrangement) (ms as′ : List ℕ) where
   unfolding from masks changesIn
   step-name c l h p prev k n own all bs =
       rw (not-open c l, not-shut c l, after-name c l h k n, whole-name c l bs)
-      (ap (λ (x : List Change). x ++ changesIn (p + 1) (masks ar ms as′ (first l + c) (spot k (n / 9 * 9 + c)) (metOwn (not (opens bs)) (codeAs ar k (n / 9 * 9 + c)) own) (codeAs ar k (n / 9 * 9 + c) ∷ all) bs))
+      (ap (λ (x : List Change). x ++
+      changesIn (p + 1) (masks ar ms as′ (first l + c) (spot k (n / 9 * 9 + c)) (metOwn (not (opens bs)) (codeAs ar k (n / 9 * 9 + c)) own) (codeAs ar k (n / 9 * 9 + c) ∷ all) bs))
       (kinds-mask (firstKind (not (opens bs)) (codeAs ar k (n / 9 * 9 + c)) ms own) (lateAt prev n (n / 9 * 9 + c)) (fourthKind (codeAs ar k (n / 9 * 9 + c)) ms as′ all) p))
 
   step-open :
@@ -238,7 +240,8 @@ module _ (ar : Arrangement) (ms as′ : List ℕ) where
       itemChanges (firstKind false q ms own) (ltb c lo) (fourthKind q ms as′ all) false p ++ from ar ms as′ (p + 1) (first l + c) k m own (q ∷ all) (40 ∷ inner) =
       step-name ar ms as′ c l (g .0) p prev k n own all (40 ∷ inner) ∙ rw (z, t) in
       let p₂ : p + 1 + 1 ≡ p + 2 = omega arith in
-      let b : from ar ms as′ (p + 1) (first l + c) k m own (q ∷ all) (40 ∷ inner) ≡ when (isEnd is) (record { place = p + 1; kind = 3 }) ++ from ar ms as′ (p + 2) 40 (k + 1) (m * 9) own (q ∷ all) inner =
+      let b : from ar ms as′ (p + 1) (first l + c) k m own (q ∷ all) (40 ∷ inner) ≡
+      when (isEnd is) (record { place = p + 1; kind = 3 }) ++ from ar ms as′ (p + 2) 40 (k + 1) (m * 9) own (q ∷ all) inner =
       step-open ar ms as′ (p + 1) (first l + c) k m own (q ∷ all) inner ∙ rw (shuts-nodes is (render l ns ++ rest), p₂) in
       let i : from ar ms as′ (p + 2) 40 (k + 1) (m * 9) own (q ∷ all) inner ≡
       tested ar ms as′ own (q ∷ all) xs ++ from ar ms as′ (p + 2 + length (render Digits is)) (lastPrev 40 Digits is) (k + 1) (lastIn (m * 9) is) own₁ all₁ tail =

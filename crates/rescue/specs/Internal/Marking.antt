@@ -36,7 +36,8 @@ pub marking-start :
 marking-start ar ms as′ body marks named stood w l n t f g =
     record { own = []; all = []; walks = w; long = l; named-long = n; stood-long = t; named-is = f; stood-is = g; put = refl }
 
-masks-open : (ar : Arrangement) (ms as′ : List ℕ) (prev b : ℕ) (s : Spot) (own all bs : List ℕ) → b ≡ 40 → masks ar ms as′ prev s own all (b ∷ bs) ≡ cond (shuts bs) 8 0 ∷ masks ar ms as′ b (after s b) own all bs
+masks-open : (ar : Arrangement) (ms as′ : List ℕ) (prev b : ℕ) (s : Spot) (own all bs : List ℕ) →
+    b ≡ 40 → masks ar ms as′ prev s own all (b ∷ bs) ≡ cond (shuts bs) 8 0 ∷ masks ar ms as′ b (after s b) own all bs
 unfolding masks
 masks-open ar ms as′ prev b s own all bs e = rw (eq-eqb b 40 e)
 
@@ -52,7 +53,8 @@ masks-name :
 unfolding masks
 masks-name ar ms as′ prev b s own all bs n m = rw (ne-eqb b 40 n, ne-eqb b 41 m)
 
-module _ {ar : Arrangement} {ms as′ body marks named stood : List ℕ} {prev i : ℕ} {s s′ : Spot} (m : Marking ar ms as′ body marks named stood prev i s) (h : i < length body) (e : s′ ≡ after s (getD body i 0)) where
+module _ {ar : Arrangement} {ms as′ body marks named stood : List ℕ} {prev i : ℕ} {s s′ : Spot}
+    (m : Marking ar ms as′ body marks named stood prev i s) (h : i < length body) (e : s′ ≡ after s (getD body i 0)) where
   abbrev byte : ℕ
   byte = getD body i 0
 
@@ -116,9 +118,11 @@ module _ {ar : Arrangement} {ms as′ body marks named stood : List ℕ} {prev i
       let cc′ : spotCode ar (after s byte) ≡ c = sym (ec ∙ ap (spotCode ar) e) in
       let ww : wholeAt (byte ∷ bytes) ≡ w = sym (ew ∙ ap wholeAt (byte-at body i h)) in
       let ll : lateAt prev (s .number) (after s byte .number) ≡ l = sym (el ∙ ap (λ (z : Spot). lateAt prev (s .number) (z .number)) e) in
-      let vv : maskOf (firstKind (wholeAt (byte ∷ bytes)) (spotCode ar (after s byte)) ms (m .own)) (lateAt prev (s .number) (after s byte .number)) (fourthKind (spotCode ar (after s byte)) ms as′ (m .all)) ≡ v =
+      let vv : maskOf (firstKind (wholeAt (byte ∷ bytes)) (spotCode ar (after s byte)) ms (m .own))
+      (lateAt prev (s .number) (after s byte .number)) (fourthKind (spotCode ar (after s byte)) ms as′ (m .all)) ≡ v =
       rw (ww, cc′, ll) (ap₂ (λ (p q : Bool). maskOf p l q) (sym (x .0)) (sym (y .0)) ∙ sym ev) in
-      let rr : masks ar ms as′ byte (after s byte) (metOwn (wholeAt (byte ∷ bytes)) (spotCode ar (after s byte)) (m .own)) (spotCode ar (after s byte) ∷ m .all) bytes ≡ masks ar ms as′ byte s′ (metOwn w c (m .own)) (c ∷ m .all) bytes =
+      let rr : masks ar ms as′ byte (after s byte) (metOwn (wholeAt (byte ∷ bytes)) (spotCode ar (after s byte)) (m .own)) (spotCode ar (after s byte) ∷ m .all) bytes ≡
+      masks ar ms as′ byte s′ (metOwn w c (m .own)) (c ∷ m .all) bytes =
       rw (ww, cc′) (ap (λ (z : Spot). masks ar ms as′ byte z (metOwn w c (m .own)) (c ∷ m .all) bytes) (sym e)) in
       record {
         own = metOwn w c (m .own);
@@ -135,7 +139,8 @@ module _ {ar : Arrangement} {ms as′ body marks named stood : List ℕ} {prev i
       }
 
 pub marking-end :
-    {ar : Arrangement} {ms as′ body marks named stood : List ℕ} {prev i : ℕ} {s : Spot} → Marking ar ms as′ body marks named stood prev i s → length body ≤ i → take (length body) marks ≡ masks ar ms as′ 40 origin [] [] body
+    {ar : Arrangement} {ms as′ body marks named stood : List ℕ} {prev i : ℕ} {s : Spot} → Marking ar ms as′ body marks named stood prev i s →
+    length body ≤ i → take (length body) marks ≡ masks ar ms as′ 40 origin [] [] body
 unfolding masks
 marking-end {ar} {ms} {as′} {body} {marks} {named} {stood} {prev} {i} {s} m h =
     let e : i ≡ length body = omega (arith, m .walks .within) in
@@ -220,7 +225,8 @@ fits {out₀} {total} {out} {n} x rest w = omega (arith, w .room, w .within, w .
 abbrev pub Put : (out out′ : List ℕ) (n n′ : ℕ) (x : List ℕ) → Type 0
 Put out out′ n n′ x = (n′ ≡ n + length x) × (out′ ≡ take n out ++ (x ++ drop (n + length x) out))
 
-pub wrote-on : {out₀ total out out′ : List ℕ} {n n′ : ℕ} (x rest : List ℕ) → Wrote out₀ total out n (x ++ rest) → n′ ≡ n + length x → out′ ≡ take n out ++ (x ++ drop (n + length x) out) → Wrote out₀ total out′ n′ rest
+pub wrote-on : {out₀ total out out′ : List ℕ} {n n′ : ℕ} (x rest : List ℕ) →
+    Wrote out₀ total out n (x ++ rest) → n′ ≡ n + length x → out′ ≡ take n out ++ (x ++ drop (n + length x) out) → Wrote out₀ total out′ n′ rest
 wrote-on {out₀} {total} {out} {out′} {n} {n′} x rest w en eo =
     let y : List ℕ = drop (n + length x) out in
     let room : n + length x ≤ length out = fits x rest w in

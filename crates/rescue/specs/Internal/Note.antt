@@ -72,7 +72,8 @@ bit-zero : (t : Bool) → bit t ≡ 0 → t ≡ false
 bit-zero true h = absurd (omega arith)
 bit-zero false h = refl
 
-same-seen : (keys seen : List ℕ) (c : ℕ) (earlier : List ℕ) → Seen keys earlier seen → ((k : ℕ) → k < length keys → hasCode (getD keys k 0) (c ∷ earlier) ≡ hasCode (getD keys k 0) earlier) → Seen keys (c ∷ earlier) seen
+same-seen : (keys seen : List ℕ) (c : ℕ) (earlier : List ℕ) → Seen keys earlier seen →
+    ((k : ℕ) → k < length keys → hasCode (getD keys k 0) (c ∷ earlier) ≡ hasCode (getD keys k 0) earlier) → Seen keys (c ∷ earlier) seen
 same-seen keys seen c earlier s f k h = s k h ∙ sym (ap bit (f k h))
 
 other : (c x : ℕ) (earlier : List ℕ) → (c ≡ x → ⊥) → hasCode x (c ∷ earlier) ≡ hasCode x earlier
@@ -111,7 +112,8 @@ module _ (keys seen : List ℕ) (c : ℕ) (r : Rise keys) where
               let m : hasCode c earlier ≡ true = bit-one (hasCode c earlier) (λ z. n (met-as earlier s ∙ z)) in (
                 rw (found c keys k h e, m) refl,
                 same-seen keys seen c earlier s
-                    (λ j i. ⊎-elim (λ z. other c (getD keys j 0) earlier (λ y. omega arith)) (⊎-elim (λ z. already c (getD keys j 0) earlier m z) (λ z. other c (getD keys j 0) earlier (λ y. omega arith)))
+                    (λ j i. ⊎-elim (λ z. other c (getD keys j 0) earlier (λ y. omega arith))
+                    (⊎-elim (λ z. already c (getD keys j 0) earlier m z) (λ z. other c (getD keys j 0) earlier (λ y. omega arith)))
                     (three-ways c (getD keys j 0))),
               );
         }
