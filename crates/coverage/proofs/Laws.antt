@@ -242,7 +242,10 @@ module _ (t name : List ℕ) (a : Arrangement) (o : Own t a) (e : nameRefusal na
       go zero i =
           let own = o .own i in
           ap (λ (y : ℕ). asked y t code)
-          (passes _ (code-passes code is-code) ∙ passes _ i ∙ ap (λ (b : Arrangement). refuse (not (isOf b code)) 14) (sym own) ∙ ap (λ (b : Bool). refuse (not b) 14) (named-in a (o .arranged) name e))
+          (passes _ (code-passes code is-code)
+          ∙ passes _ i
+          ∙ ap (λ (b : Arrangement). refuse (not (isOf b code)) 14) (sym own)
+          ∙ ap (λ (b : Bool). refuse (not b) 14) (named-in a (o .arranged) name e))
           ∙ ap (λ (b : Arrangement). asked 0 t (nameCode b name)) own
           ∙ sym (ap (λ (y : ℕ). asked y t (nameCode (textArrangement t) name)) (passes _ e ∙ i))
       go (suc q) i =

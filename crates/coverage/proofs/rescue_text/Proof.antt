@@ -23,7 +23,9 @@ mul-numbers c =
     search needs
 
 slice-reshare-prefix-say-changes : tie.Need-slice-reshare-prefix-say-changes
-slice-reshare-prefix-say-changes c = let f = rescued-fits (c .before .before .before .before .before .before .before .before .before .rescue .ensures) (c .before .before .before .length .given .1) in omega (arith, f .1)
+slice-reshare-prefix-say-changes c =
+    let f = rescued-fits (c .before .before .before .before .before .before .before .before .before .rescue .ensures) (c .before .before .before .length .given .1) in
+    omega (arith, f .1)
 
 slice-aggregate-say-changes : tie.Need-slice-aggregate-say-changes
 slice-aggregate-say-changes c =
