@@ -1,2 +1,4 @@
 pub mod Alike
+pub mod Bare
+pub mod Count
 pub mod Gather

@@ -3,10 +3,10 @@ use mathlib.Core.Path.{_≡_, refl, sym, ap, ap₂, _∙_, subst}
 use mathlib.Core.Bool.{Bool, true, false, _&&_, not}
 use mathlib.Core.List.{List, [], _∷_, _++_, map, map-append, append-assoc, append-nil}
 use Prim.Native.Nat.{ℕ, zero, suc, _+_, _-_, _*_, _/_, _%_, _^_, _≤_, _<_}
-use native.Mathlib.Nat.{pow-suc, suc-mul, mul-le-mul-right}
+use native.Mathlib.Nat.{pow-suc}
 use native.Mathlib.Omega.{arith}
 use lib.Dec.{eqb, ltb}
-use lib.ListN.{length, take, getD}
+use lib.ListN.{length, length-append, length-map, take, getD}
 use lib.Seq.{length-take-le, take-all, take-suc, take-take}
 use borrow.Author.Tests.{ltb-true, eqb-true, eq-eqb}
 use Rattle.logic.specs.Lists.{All}
@@ -19,19 +19,27 @@ use Rattle.cell.specs.Cell.{IsCell, IsArrangement, arrangementRefusal}
 use Rattle.code.specs.Code.{cellOf, cellCode, pathOf, isCode, isOf, arrangementOf, codeOf}
 use Rattle.code.specs.Inside.{Inside, endOf}
 use Rattle.code.specs.Number.{numberOf, codeAs, cellCodeAs, cellAs}
-use Rattle.code.specs.Laws.Code.{path-small, cell-code, code-is-cell, north-part, south-part}
+use Rattle.code.specs.Laws.Code.{cell-code, code-is-cell, north-part, south-part}
 use Rattle.code.specs.Laws.Number.{code-as, as-code, as-cell}
 use Rattle.reading.specs.declared.Profile.{Profile}
+use Rattle.reading.specs.declared.Profile.the-variants.{Full, Handheld}
 use Rattle.reading.specs.Reading.{Nodes, render}
-use Rattle.reading.specs.Ground.{Cells, Rising, Apart}
+use Rattle.reading.specs.Report.{count}
+use Rattle.reading.specs.Ground.{Cells, Rising, Apart, SameGround}
+use Rattle.reading.specs.Prefix.{Name, numbersOf, InOrder}
 use Rattle.reading.specs.Text.{levelOf, depthOf, heading}
-use Rattle.reading.specs.Written.{nodesFor, writtenText, fitting}
+use Rattle.reading.specs.Written.{built, nodesFor, writtenText, fitting}
+use Rattle.reading.specs.Laws.Named.{names-of-cells}
+use Rattle.reading.specs.Laws.Report.{count-most}
 use Rattle.reading.specs.Laws.Rising.{code-before, apart-before}
 use Rattle.reading.specs.Laws.Written.{one-nodes}
 use Rattle.writing.specs.Write.{allCodes, allOf, ordered, codesRefusal, asksFor, isVersion, textOf, fitRefusal, writeRefusal, Earlier, InTurn}
-use Rattle.writing.specs.Laws.List.{codes-cells, in-turn, list-good, tested}
+use Rattle.writing.specs.Internal.EntryLaws.{in-turn-rise}
+use Rattle.writing.specs.Laws.List.{codes-cells, in-turn, good-list, list-good, tested}
 use Rattle.gathering.specs.Gather.{follows, merges, gatheredAs, gathered}
 use Rattle.gathering.specs.Laws.Alike.{Alike, alike-same, alike-then, run, alike-parent}
+use Rattle.gathering.specs.Laws.Count.{NoNine, Before, order-split, count-all, count-more}
+use Rattle.gathering.specs.Laws.Bare.{Own, Bare, turn-put, bare-take, bare-put, number-small, bare-names}
 
 -- ---- siblings at the end of a list
 
@@ -115,16 +123,7 @@ pub number-down : (k n : ℕ) → 0 < k → n < 6 * 9 ^ k → n / 9 < 6 * 9 ^ (k
 number-down zero n h l = absurd (omega arith)
 number-down (suc k) n h l = let f : suc k - 1 ≡ k = omega arith in rw f (number-under k n l)
 
-pub number-small : (c : Cell) → IsCell c → numberOf c < 6 * 9 ^ c .resolution
-unfolding numberOf
-number-small c v =
-    let m : suc (c .face) * 9 ^ c .resolution ≤ 6 * 9 ^ c .resolution = mul-le-mul-right {m = suc (c .face)} {n = 6} (9 ^ c .resolution) (omega (arith, v .faced)) in
-    omega (arith, path-small c, suc-mul (c .face) (9 ^ c .resolution))
-
 -- ---- codes of one arrangement
-
-abbrev pub Own : Arrangement → List ℕ → Type 0
-Own a xs = All (λ (c : ℕ). (isCode c ≡ true) × (isOf a c ≡ true)) xs
 
 own-codes : (a : Arrangement) (xs : List ℕ) → Own a xs → allCodes xs ≡ true
 unfolding allCodes
@@ -206,15 +205,29 @@ module _ {a : Arrangement} (g : IsArrangement a) where
       (gathered-alike k (n / 9) (take (length xs - 8) xs) zs (omega arith) (down k n xs zs h l e)))
       (λ e. stays (suc k) n xs zs h l)
 
+  -- nine siblings are merged, so that no nine are held, where the cells come in turn
+  put-turn : (k n : ℕ) (xs : List ℕ) → k ≤ 15 → n < 6 * 9 ^ k → InTurn (map cellOf xs ++ (cellAs k n ∷ [])) → InTurn (map cellOf (xs ++ (codeAs a k n ∷ [])))
+  put-turn k n xs h l t = subst InTurn (sym (map-put k n xs [] h l) ∙ append-nil (map cellOf (xs ++ (codeAs a k n ∷ [])))) t
+
+  gathered-bare : (k n : ℕ) (xs : List ℕ) → k ≤ 15 → n < 6 * 9 ^ k → InTurn (map cellOf xs ++ (cellAs k n ∷ [])) → Bare a xs → Bare a (gatheredAs a k n xs)
+  unfolding gatheredAs merges
+  gathered-bare zero n xs h l t b = bare-put g xs zero n h (put-turn zero n xs h l t) refl b
+  gathered-bare (suc k) n xs h l t b =
+      by-cond (Bare a) (merges a (suc k) n xs)
+      (λ e.
+      gathered-bare k (n / 9) (take (length xs - 8) xs) (omega arith) (down k n xs [] h l e) (merged k n xs [] h l e .to t) (bare-take a (length xs - 8) xs b))
+      (λ e. bare-put g xs (suc k) n h (put-turn (suc k) n xs h l t) e b)
+
 -- ---- all that came, and what is held of it
 
 pub record Holds (a : Arrangement) (codes held : List ℕ) : Type 0 where
   pub came : Own a codes
   pub kept : Own a held
   pub alike : (zs : List Cell) → Alike (map cellOf codes ++ zs) (map cellOf held ++ zs)
+  pub bare : InTurn (map cellOf codes) → Bare a held
 
 pub holds-none : (a : Arrangement) → Holds a [] []
-holds-none a = record { came = tt; kept = tt; alike = λ zs. alike-same zs }
+holds-none a = record { came = tt; kept = tt; alike = λ zs. alike-same zs; bare = λ t k m h l f. f 0 (omega arith) }
 
 pub holds-more :
     {a : Arrangement} → IsArrangement a → (code : ℕ) (codes held : List ℕ) → isCode code ≡ true → isOf a code ≡ true → Holds a codes held →
@@ -227,6 +240,7 @@ holds-more {a} g code codes held i o p =
           subst (λ (y : List Cell). Alike y (map cellOf (gathered a code held) ++ zs)) (sym (put zs))
           (alike-then (map cellOf codes ++ (cellOf code ∷ zs)) (map cellOf held ++ (cellOf code ∷ zs)) (map cellOf (gathered a code held) ++ zs) (p .alike (cellOf code ∷ zs))
           (subst (λ (x : Cell). Alike (map cellOf held ++ (x ∷ zs)) (map cellOf (gathered a code held) ++ zs)) is (gathered-alike g k n held zs (v .fine) small)));
+      bare = λ t. gathered-bare g k n held (v .fine) small (comes t) (p .bare (turn-put codes code t .0));
     }
   where
     k : ℕ
@@ -247,6 +261,10 @@ holds-more {a} g code codes held i o p =
 
     put : (zs : List Cell) → map cellOf (codes ++ (code ∷ [])) ++ zs ≡ map cellOf codes ++ (cellOf code ∷ zs)
     put zs = ap (λ (x : List Cell). x ++ zs) (map-append cellOf codes (code ∷ [])) ∙ append-assoc (map cellOf codes) (cellOf code ∷ []) zs
+
+    comes : InTurn (map cellOf (codes ++ (code ∷ []))) → InTurn (map cellOf held ++ (cellAs (cellOf code .resolution) (numberOf (cellOf code)) ∷ []))
+    comes t =
+        subst (λ (x : Cell). InTurn (map cellOf held ++ (x ∷ []))) (sym is) (p .alike (cellOf code ∷ []) .to (subst InTurn (map-append cellOf codes (code ∷ [])) t))
 
 -- ---- so they are written alike
 
@@ -314,3 +332,93 @@ module _ {a : Arrangement} {codes held : List ℕ} (p : Holds a codes held) wher
       let c : allCodes codes ≡ allCodes held = own-codes a codes (p .came) ∙ sym (own-codes a held (p .kept)) in
       ap₂ (λ (b : Bool) (r : ℕ). arrangementRefusal a otherwise refuse (ltb 15 depth) 2 otherwise refuse (not b) 4 otherwise refuse (not (isVersion version)) 10 otherwise r) c
       (ap₂ (λ (x y : ℕ). x otherwise y) codes-alike (fit-alike (asksFor version depth) room))
+
+-- ---- and a list that is too long stays so
+
+earlier-left : (n : ℕ) (xs ys : List Cell) → Earlier n (xs ++ ys) → Earlier n xs
+earlier-left n [] ys e = tt
+earlier-left n (x ∷ xs) ys e = (e .0, earlier-left n xs ys (e .1))
+
+turn-left : (xs ys : List Cell) → InTurn (xs ++ ys) → InTurn xs
+turn-left [] ys t = tt
+turn-left (x ∷ xs) ys t = (earlier-left (endOf x) xs ys (t .0), turn-left xs ys (t .1))
+
+cells-right : (xs ys : List Cell) → Cells (xs ++ ys) → Cells ys
+cells-right [] ys c = c
+cells-right (x ∷ xs) ys c = cells-right xs ys (c .1)
+
+heading-least : (f : Profile) (n s : ℕ) → 7 ≤ length (heading f n s)
+heading-least Full n s = omega arith
+heading-least (Handheld d) n s = omega arith
+
+module _ {a : Arrangement} {codes held : List ℕ} (p : Holds a codes held) (more : List ℕ) (e : codesRefusal a (codes ++ more) ≡ 0) where
+  abbrev came-cells : List Cell
+  came-cells = map cellOf (codes ++ more)
+
+  abbrev held-cells : List Cell
+  held-cells = map cellOf held
+
+  abbrev more-cells : List Cell
+  more-cells = map cellOf more
+
+  all-cells : Cells came-cells
+  all-cells = codes-cells (codes ++ more) (good-list a (codes ++ more) e .coded)
+
+  joined : came-cells ≡ map cellOf codes ++ more-cells
+  joined = map-append cellOf codes more
+
+  are-held : Cells held-cells
+  are-held = codes-cells held (own-codes a held (p .kept))
+
+  are-more : Cells more-cells
+  are-more = cells-right (map cellOf codes) more-cells (subst Cells joined all-cells)
+
+  came-turn : InTurn (map cellOf codes ++ more-cells)
+  came-turn = subst InTurn joined (in-turn a (codes ++ more) e)
+
+  both-cells : Cells (held-cells ++ more-cells)
+  both-cells = all-append IsCell held-cells more-cells are-held are-more
+
+  same-nodes : nodesFor came-cells ≡ nodesFor (held-cells ++ more-cells)
+  same-nodes =
+      one-nodes came-cells (held-cells ++ more-cells) all-cells both-cells
+      (subst (λ (x : List Cell). SameGround x (held-cells ++ more-cells)) (sym joined) (p .alike more-cells .ground))
+
+  abbrev held-names : List Name
+  held-names = map numbersOf held-cells
+
+  abbrev more-names : List Name
+  more-names = map numbersOf more-cells
+
+  in-order : InOrder held-names × Before held-names more-names
+  in-order =
+      order-split held-names more-names
+      (subst InOrder (map-append numbersOf held-cells more-cells) (in-turn-rise (held-cells ++ more-cells) both-cells (p .alike more-cells .to came-turn)))
+
+  no-nine : NoNine held-names
+  no-nine = bare-names a held (p .kept) (p .bare (turn-left (map cellOf codes) more-cells came-turn))
+
+  -- all but eight at each of fifteen depths stay whole cells, whatever comes
+  pub most-stay : length held ≤ count (nodesFor came-cells) + 120
+  most-stay =
+      omega (
+        arith,
+        length-map held cellOf,
+        length-map held-cells numbersOf,
+        count-all 15 6 held-names (names-of-cells held-cells are-held) (in-order .0) no-nine,
+        count-more 15 6 held-names more-names (names-of-cells held-cells are-held) (names-of-cells more-cells are-more) (in-order .1),
+        ap count (same-nodes ∙ ap (built 15 6) (map-append numbersOf held-cells more-cells)),
+      )
+
+  -- "13 is judged on the text": with this many held, the text of these codes and any further ones has more than 65,536 bytes
+  pub too-long : (f : Profile) → 65649 < length held → 65536 < length (textOf f a (codes ++ more))
+  unfolding textOf writtenText
+  too-long f h =
+      let ns : Nodes = nodesFor came-cells in
+      omega (
+        arith,
+        most-stay,
+        count-most ns (levelOf f),
+        heading-least f (a .north) (a .south),
+        length-append (heading f (a .north) (a .south)) (render (levelOf f) ns),
+      )
