@@ -2,3 +2,4 @@ pub mod Alike
 pub mod Bare
 pub mod Count
 pub mod Gather
+pub mod Long

@@ -6,40 +6,29 @@ use Prim.Native.Nat.{ℕ, zero, suc, _+_, _-_, _*_, _/_, _%_, _^_, _≤_, _<_}
 use native.Mathlib.Nat.{pow-suc}
 use native.Mathlib.Omega.{arith}
 use lib.Dec.{eqb, ltb}
-use lib.ListN.{length, length-append, length-map, take, getD}
+use lib.ListN.{length, take, getD}
 use lib.Seq.{length-take-le, take-all, take-suc, take-take}
 use borrow.Author.Tests.{ltb-true, eqb-true, eq-eqb}
-use Rattle.logic.specs.Lists.{All}
 use Rattle.logic.specs.Laws.Lists.{all-append}
 use Rattle.logic.specs.Laws.Bools.{and-left, and-right, by-cond}
 use Rattle.logic.specs.Refusal.{refuse, _otherwise_}
 use Rattle.cell.specs.declared.Cell.{Cell}
 use Rattle.cell.specs.declared.Arrangement.{Arrangement}
 use Rattle.cell.specs.Cell.{IsCell, IsArrangement, arrangementRefusal}
-use Rattle.code.specs.Code.{cellOf, cellCode, pathOf, isCode, isOf, arrangementOf, codeOf}
-use Rattle.code.specs.Inside.{Inside, endOf}
+use Rattle.code.specs.Code.{cellOf, isCode, isOf, arrangementOf, codeOf}
 use Rattle.code.specs.Number.{numberOf, codeAs, cellCodeAs, cellAs}
 use Rattle.code.specs.Laws.Code.{cell-code, code-is-cell, north-part, south-part}
 use Rattle.code.specs.Laws.Number.{code-as, as-code, as-cell}
 use Rattle.reading.specs.declared.Profile.{Profile}
-use Rattle.reading.specs.declared.Profile.the-variants.{Full, Handheld}
 use Rattle.reading.specs.Reading.{Nodes, render}
-use Rattle.reading.specs.Report.{count}
-use Rattle.reading.specs.Ground.{Cells, Rising, Apart, SameGround}
-use Rattle.reading.specs.Prefix.{Name, numbersOf, InOrder}
 use Rattle.reading.specs.Text.{levelOf, depthOf, heading}
-use Rattle.reading.specs.Written.{built, nodesFor, writtenText, fitting}
-use Rattle.reading.specs.Laws.Named.{names-of-cells}
-use Rattle.reading.specs.Laws.Report.{count-most}
-use Rattle.reading.specs.Laws.Rising.{code-before, apart-before}
+use Rattle.reading.specs.Written.{nodesFor, writtenText, fitting}
 use Rattle.reading.specs.Laws.Written.{one-nodes}
-use Rattle.writing.specs.Write.{allCodes, allOf, ordered, codesRefusal, asksFor, isVersion, textOf, fitRefusal, writeRefusal, Earlier, InTurn}
-use Rattle.writing.specs.Internal.EntryLaws.{in-turn-rise}
-use Rattle.writing.specs.Laws.List.{codes-cells, in-turn, good-list, list-good, tested}
+use Rattle.writing.specs.Write.{allCodes, allOf, ordered, codesRefusal, asksFor, isVersion, textOf, fitRefusal, writeRefusal, InTurn}
+use Rattle.writing.specs.Laws.List.{codes-cells, in-turn, in-turn-list, list-good, tested}
 use Rattle.gathering.specs.Gather.{follows, merges, gatheredAs, gathered}
 use Rattle.gathering.specs.Laws.Alike.{Alike, alike-same, alike-then, run, alike-parent}
-use Rattle.gathering.specs.Laws.Count.{NoNine, Before, order-split, count-all, count-more}
-use Rattle.gathering.specs.Laws.Bare.{Own, Bare, turn-put, bare-take, bare-put, number-small, bare-names}
+use Rattle.gathering.specs.Laws.Bare.{Own, Bare, turn-put, bare-take, bare-put, number-small}
 
 -- ---- siblings at the end of a list
 
@@ -125,7 +114,7 @@ number-down (suc k) n h l = let f : suc k - 1 ≡ k = omega arith in rw f (numbe
 
 -- ---- codes of one arrangement
 
-own-codes : (a : Arrangement) (xs : List ℕ) → Own a xs → allCodes xs ≡ true
+pub own-codes : (a : Arrangement) (xs : List ℕ) → Own a xs → allCodes xs ≡ true
 unfolding allCodes
 own-codes a [] o = refl
 own-codes a (c ∷ xs) o = ap₂ _&&_ (o .0 .0) (own-codes a xs (o .1))
@@ -268,20 +257,6 @@ holds-more {a} g code codes held i o p =
 
 -- ---- so they are written alike
 
-turn-rising : (c : Cell) (xs : List Cell) → IsCell c → Cells xs → Earlier (endOf c) xs → All (λ (x : Cell). cellCode c < cellCode x) xs
-turn-rising c [] v k e = tt
-turn-rising c (x ∷ xs) v k e = (code-before c x v (k .0) (e .0), turn-rising c xs v (k .1) (e .1))
-
-turn-apart : (c : Cell) (xs : List Cell) → IsCell c → Cells xs → Earlier (endOf c) xs → All (λ (x : Cell). (Inside c x → ⊥) × (Inside x c → ⊥)) xs
-turn-apart c [] v k e = tt
-turn-apart c (x ∷ xs) v k e = (apart-before c x v (k .0) (e .0), turn-apart c xs v (k .1) (e .1))
-
-turn-list : (xs : List Cell) → Cells xs → InTurn xs → Rising xs × Apart xs
-turn-list [] k t = (tt, tt)
-turn-list (c ∷ xs) k t =
-    let r = turn-list xs (k .1) (t .1) in
-    ((turn-rising c xs (k .0) (k .1) (t .0), r .0), (turn-apart c xs (k .0) (k .1) (t .0), r .1))
-
 -- of codes of one arrangement
 abbrev said : Bool → ℕ
 said b = refuse (not true) 4 otherwise refuse (not true) 14 otherwise refuse (not b) 11
@@ -294,7 +269,7 @@ module _ {a : Arrangement} {codes held : List ℕ} (p : Holds a codes held) wher
 
   good : (xs ys : List ℕ) → Own a ys → (InTurn (map cellOf xs) → InTurn (map cellOf ys)) → codesRefusal a xs ≡ 0 → codesRefusal a ys ≡ 0
   good xs ys o f e =
-      let r = turn-list (map cellOf ys) (codes-cells ys (own-codes a ys o)) (f (in-turn a xs e)) in
+      let r = in-turn-list (map cellOf ys) (codes-cells ys (own-codes a ys o)) (f (in-turn a xs e)) in
       list-good a ys (record { coded = own-codes a ys o; own = own-all a ys o; rising = r .0; apart = r .1 })
 
   -- 11 for the one exactly where it is 11 for the other
@@ -332,93 +307,3 @@ module _ {a : Arrangement} {codes held : List ℕ} (p : Holds a codes held) wher
       let c : allCodes codes ≡ allCodes held = own-codes a codes (p .came) ∙ sym (own-codes a held (p .kept)) in
       ap₂ (λ (b : Bool) (r : ℕ). arrangementRefusal a otherwise refuse (ltb 15 depth) 2 otherwise refuse (not b) 4 otherwise refuse (not (isVersion version)) 10 otherwise r) c
       (ap₂ (λ (x y : ℕ). x otherwise y) codes-alike (fit-alike (asksFor version depth) room))
-
--- ---- and a list that is too long stays so
-
-earlier-left : (n : ℕ) (xs ys : List Cell) → Earlier n (xs ++ ys) → Earlier n xs
-earlier-left n [] ys e = tt
-earlier-left n (x ∷ xs) ys e = (e .0, earlier-left n xs ys (e .1))
-
-turn-left : (xs ys : List Cell) → InTurn (xs ++ ys) → InTurn xs
-turn-left [] ys t = tt
-turn-left (x ∷ xs) ys t = (earlier-left (endOf x) xs ys (t .0), turn-left xs ys (t .1))
-
-cells-right : (xs ys : List Cell) → Cells (xs ++ ys) → Cells ys
-cells-right [] ys c = c
-cells-right (x ∷ xs) ys c = cells-right xs ys (c .1)
-
-heading-least : (f : Profile) (n s : ℕ) → 7 ≤ length (heading f n s)
-heading-least Full n s = omega arith
-heading-least (Handheld d) n s = omega arith
-
-module _ {a : Arrangement} {codes held : List ℕ} (p : Holds a codes held) (more : List ℕ) (e : codesRefusal a (codes ++ more) ≡ 0) where
-  abbrev came-cells : List Cell
-  came-cells = map cellOf (codes ++ more)
-
-  abbrev held-cells : List Cell
-  held-cells = map cellOf held
-
-  abbrev more-cells : List Cell
-  more-cells = map cellOf more
-
-  all-cells : Cells came-cells
-  all-cells = codes-cells (codes ++ more) (good-list a (codes ++ more) e .coded)
-
-  joined : came-cells ≡ map cellOf codes ++ more-cells
-  joined = map-append cellOf codes more
-
-  are-held : Cells held-cells
-  are-held = codes-cells held (own-codes a held (p .kept))
-
-  are-more : Cells more-cells
-  are-more = cells-right (map cellOf codes) more-cells (subst Cells joined all-cells)
-
-  came-turn : InTurn (map cellOf codes ++ more-cells)
-  came-turn = subst InTurn joined (in-turn a (codes ++ more) e)
-
-  both-cells : Cells (held-cells ++ more-cells)
-  both-cells = all-append IsCell held-cells more-cells are-held are-more
-
-  same-nodes : nodesFor came-cells ≡ nodesFor (held-cells ++ more-cells)
-  same-nodes =
-      one-nodes came-cells (held-cells ++ more-cells) all-cells both-cells
-      (subst (λ (x : List Cell). SameGround x (held-cells ++ more-cells)) (sym joined) (p .alike more-cells .ground))
-
-  abbrev held-names : List Name
-  held-names = map numbersOf held-cells
-
-  abbrev more-names : List Name
-  more-names = map numbersOf more-cells
-
-  in-order : InOrder held-names × Before held-names more-names
-  in-order =
-      order-split held-names more-names
-      (subst InOrder (map-append numbersOf held-cells more-cells) (in-turn-rise (held-cells ++ more-cells) both-cells (p .alike more-cells .to came-turn)))
-
-  no-nine : NoNine held-names
-  no-nine = bare-names a held (p .kept) (p .bare (turn-left (map cellOf codes) more-cells came-turn))
-
-  -- all but eight at each of fifteen depths stay whole cells, whatever comes
-  pub most-stay : length held ≤ count (nodesFor came-cells) + 120
-  most-stay =
-      omega (
-        arith,
-        length-map held cellOf,
-        length-map held-cells numbersOf,
-        count-all 15 6 held-names (names-of-cells held-cells are-held) (in-order .0) no-nine,
-        count-more 15 6 held-names more-names (names-of-cells held-cells are-held) (names-of-cells more-cells are-more) (in-order .1),
-        ap count (same-nodes ∙ ap (built 15 6) (map-append numbersOf held-cells more-cells)),
-      )
-
-  -- "13 is judged on the text": with this many held, the text of these codes and any further ones has more than 65,536 bytes
-  pub too-long : (f : Profile) → 65649 < length held → 65536 < length (textOf f a (codes ++ more))
-  unfolding textOf writtenText
-  too-long f h =
-      let ns : Nodes = nodesFor came-cells in
-      omega (
-        arith,
-        most-stay,
-        count-most ns (levelOf f),
-        heading-least f (a .north) (a .south),
-        length-append (heading f (a .north) (a .south)) (render (levelOf f) ns),
-      )
