@@ -1,7 +1,9 @@
 pub mod Change
 pub mod Given
+pub mod Front
 pub mod Kind
 pub mod Left
+pub mod Lists
 pub mod Order
 pub mod Proper
 pub mod Text

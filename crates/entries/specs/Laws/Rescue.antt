@@ -1,13 +1,14 @@
 -- The rescue over what the entry answers (02, W-206): refusals, the proper text, and the list of what was changed. Assumes nothing.
 use mathlib.Core.Path.{_≡_, refl, sym, ap, ap₂, subst, _∙_}
 use mathlib.Core.Logic.{_↔_, _⊎_, inl, inr, ⊎-elim}
-use mathlib.Core.Bool.{Bool, true, false, _||_}
+use mathlib.Core.Bool.{Bool, true, false, _||_, cond}
 use mathlib.Core.List.{List, [], _∷_}
-use Prim.Native.Nat.{ℕ, zero, suc, _*_, _≤_, _<_}
+use Prim.Native.Nat.{ℕ, zero, suc, _+_, _*_, _≤_, _<_}
 use native.Mathlib.Omega.{arith}
-use lib.ListN.{length, take, drop}
+use lib.ListN.{length, take, drop, getD, List·getD-append}
 use lib.Seq.{take-append-seam, drop-append-seam}
 use lib.Dec.{ltb}
+use borrow.Author.Tests.{ne-eqb}
 use Rattle.logic.specs.Lent.{inFront}
 use Rattle.logic.specs.Refusal.{refuse, _otherwise_, given}
 use Rattle.logic.specs.Laws.Refusal.{passes, both}
@@ -31,9 +32,8 @@ use Rattle.proper.specs.Changes.{Change, changes}
 use Rattle.proper.specs.Laws.Order.{InOrder, changes-order}
 use Rattle.proper.specs.Laws.Proper.{rescued-reads, rescued-ground, rescued-fewest, rescued-short}
 use Rattle.proper.specs.Laws.Unchanged.{exactly, unchanged}
-use Rattle.rescue.specs.Marks.{flat}
-use Rattle.rescue.specs.Rescue.{changesOf, rescueRefusal, told}
-use Rattle.rescue.specs.Internal.Marking.{flat-length}
+use Rattle.rescue.specs.Rescue.{flat, changesOf, rescueRefusal, told}
+use Rattle.rescue.specs.Laws.Flat.{flat-length, flat-at}
 use Rattle.entries.specs.declared.RescueAnswer.{RescueAnswer}
 use Rattle.entries.specs.Order.{order, numbers, inOrder, FirstOf, Applies}
 use Rattle.entries.specs.Rescue.{rescueNumbers, rescueTests}
@@ -103,12 +103,22 @@ module _ (t out list : List ℕ) where
   pub rescue-8 : (rescueAnswer .refusal ≡ 8) ↔ Applies (rescueTests t (length out) (length list)) 8
   rescue-8 = given-exactly 7 rescue-first refl
 
-  -- "its place read from that form"
-  pub rescue-place : rescueAnswer .refusal ≡ 9 → LooseLongest t (rescueAnswer .place)
+  place-with : rescueAnswer .place ≡ placeWith r t
   unfolding told
-  rescue-place e =
-      let p : rescueAnswer .place ≡ loosePlace t = ap (λ (q : ℕ). rescueNumbers (told q t) .place) (sym rescue-refusal ∙ e) in
-      subst (LooseLongest t) (sym p) (loose-place t)
+  place-with = go r
+    where
+      go : (q : ℕ) → rescueNumbers (told q t) .place ≡ placeWith q t
+      go zero = refl
+      go (suc q) = refl
+
+  -- "its place read from that form"; 0 beside any other number
+  pub rescue-place : (rescueAnswer .refusal ≡ 9 → LooseLongest t (rescueAnswer .place)) × ((rescueAnswer .refusal ≡ 9 → ⊥) → rescueAnswer .place ≡ 0)
+  rescue-place = (
+    (λ e.
+        let p : rescueAnswer .place ≡ loosePlace t = place-with ∙ ap (λ (q : ℕ). placeWith q t) (sym rescue-refusal ∙ e) in
+        subst (LooseLongest t) (sym p) (loose-place t)),
+    (λ h. place-with ∙ ap (λ (b : Bool). cond b (loosePlace t) 0) (ne-eqb r 9 (λ e. h (rescue-refusal ∙ e)))),
+  )
 
   -- "A refusal changes no lent byte", and there are zeros beside it
   pub rescue-refused :
@@ -174,6 +184,19 @@ module _ (t out list : List ℕ) where
     list-kept =
         ap₂ drop numbers-long list-all ∙ drop-append-seam (flat (changesOf t)) (drop (length (flat (changesOf t))) list)
         ∙ sym (ap (λ (n : ℕ). drop n list) numbers-long)
+
+    -- change i is the numbers at 2 i and behind: "by place .., and then kind"
+    pub change-stands :
+        (i : ℕ) (x : Change) → i < rescueAnswer .changes →
+        (getD listMemory (2 * i) 0 ≡ getD (changesOf t) i x .place) × (getD listMemory (2 * i + 1) 0 ≡ getD (changesOf t) i x .kind)
+    change-stands i x h =
+        let k = flat-at (changesOf t) i x (omega (arith, many)) in
+        let a : getD listMemory (2 * i) 0 ≡ getD (flat (changesOf t)) (2 * i) 0 = in-list (2 * i) (omega (arith, numbers-long)) in
+        let b : getD listMemory (2 * i + 1) 0 ≡ getD (flat (changesOf t)) (2 * i + 1) 0 = in-list (2 * i + 1) (omega (arith, numbers-long)) in
+        (a ∙ k .0, b ∙ k .1)
+      where
+        in-list : (j : ℕ) → j < length (flat (changesOf t)) → getD listMemory j 0 ≡ getD (flat (changesOf t)) j 0
+        in-list j l = ap (λ (z : List ℕ). getD z j 0) list-all ∙ List·getD-append (flat (changesOf t)) (drop (length (flat (changesOf t))) list) 0 j l
 
     reads : ReadsAs Full (looseNorth t) (looseSouth t) (properOf t) (answer nodes)
     unfolding properOf

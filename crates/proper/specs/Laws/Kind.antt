@@ -22,7 +22,7 @@ use Rattle.proper.specs.Proper.{answer}
 use Rattle.proper.specs.Changes.{Item, items, same, larger, any, has, names-whole, names-larger, stands-for, kind-1, kind-4}
 use Rattle.logic.specs.Lists.{Mem}
 use Rattle.logic.specs.Laws.Lists.{mem-all}
-use Rattle.proper.specs.Internal.Lists.{IMem, same-true, same-self, covered-mem, any-some, some-any, has-mem, mem-has}
+use Rattle.proper.specs.Laws.Lists.{IMem, same-true, same-self, covered-mem, any-some, some-any, has-mem, mem-has}
 use Rattle.proper.specs.Laws.Change.{own-name, name-own}
 
 -- the whole cells that lie in no other whole cell

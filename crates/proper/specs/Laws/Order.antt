@@ -12,7 +12,7 @@ use Rattle.reading.specs.Reading.{Nodes, end, whole, listed, render, names}
 use Rattle.reading.specs.Prefix.{Name}
 use Rattle.proper.specs.Proper.{answer}
 use Rattle.proper.specs.Changes.{Item, Change, isEnd, items, kind-1, kind-2, kind-3, kind-4, when, changesAt, changesFrom, changes}
-use Rattle.proper.specs.Internal.Lists.{IMem, imem-or}
+use Rattle.proper.specs.Laws.Lists.{IMem, imem-or}
 
 -- ---- where items stand
 
