@@ -1,6 +1,8 @@
+pub mod Bracket
 pub mod Change
-pub mod Given
+pub mod Few
 pub mod Front
+pub mod Given
 pub mod Kind
 pub mod Left
 pub mod Lists
@@ -9,5 +11,6 @@ pub mod Proper
 pub mod Text
 pub mod Thin
 pub mod Thinned
+pub mod Told
 pub mod Unchanged
 pub mod Walk

@@ -7,6 +7,7 @@ use Rattle.reading.specs.Written.{built, tails, anyEnds, nodeOf, side}
 use Rattle.proper.specs.Proper.{answer}
 use Rattle.proper.specs.Changes.{Change, changes, same, larger, any, has}
 
+-- the change of this kind at this place
 abbrev pub at : ℕ → ℕ → Change
 at p k = record { place = p; kind = k }
 
