@@ -1,5 +1,6 @@
 pub mod Bracket
 pub mod Change
+pub mod Each
 pub mod Few
 pub mod Front
 pub mod Given
