@@ -5,19 +5,21 @@ use mathlib.Core.Bool.{Bool, true, false, _||_, cond}
 use mathlib.Core.List.{List, [], _∷_}
 use Prim.Native.Nat.{ℕ, zero, suc, _+_, _*_, _≤_, _<_}
 use native.Mathlib.Omega.{arith}
-use lib.ListN.{length, take, drop, getD, List·getD-append}
+use lib.ListN.{length, take, drop, getD, length-append, List·getD-append}
 use lib.Seq.{take-append-seam, drop-append-seam}
 use lib.Dec.{ltb}
-use borrow.Author.Tests.{ne-eqb}
+use borrow.Author.Tests.{ne-eqb, le-ltb}
 use Rattle.logic.specs.Lent.{inFront}
+use Rattle.logic.specs.Lists.{Mem}
 use Rattle.logic.specs.Refusal.{refuse, _otherwise_, given}
 use Rattle.logic.specs.Laws.Refusal.{passes, both}
 use Rattle.reading.specs.declared.Level.the-variants.{Faces}
 use Rattle.reading.specs.declared.Profile.the-variants.{Full}
-use Rattle.reading.specs.Reading.{Nodes, Good}
+use Rattle.reading.specs.Reading.{Nodes, Good, render, names}
+use Rattle.reading.specs.Prefix.{Name}
 use Rattle.reading.specs.Ground.{wholeCells, SameGround, Covers}
 use Rattle.reading.specs.Fewest.{FewestOf}
-use Rattle.reading.specs.Text.{ReadsAs}
+use Rattle.reading.specs.Text.{heading, ReadsAs}
 use Rattle.reading.specs.TextReading.{nodesOf}
 use Rattle.reading.specs.Laws.TextReading.{read-nodes}
 use Rattle.reader.specs.Check.{textRefusal, checkedOf}
@@ -28,7 +30,13 @@ use Rattle.loose.specs.Look.{looseNorth, looseSouth, IsLoose, notOne, isLoose, 
 use Rattle.loose.specs.Laws.Look.{is-loose, loose-text, version-bytes, bytes-version, loose-own, loose-short}
 use Rattle.loose.specs.Laws.Place.{loose-place}
 use Rattle.proper.specs.Proper.{answer, rescued, properOf}
-use Rattle.proper.specs.Changes.{Change, changes}
+use Rattle.proper.specs.Changes.{Item, Change, items, changes}
+use Rattle.proper.specs.Laws.Bracket.{told-3}
+use Rattle.proper.specs.Laws.Each.{each-4}
+use Rattle.proper.specs.Laws.Few.{changes-few}
+use Rattle.proper.specs.Laws.Given.{at}
+use Rattle.proper.specs.Laws.Told.{NamedEarlier, InLarger, FirstFor, Beside, told-1, told-2, told-4}
+use Rattle.proper.specs.Laws.Text.{short-enough}
 use Rattle.proper.specs.Laws.Order.{InOrder, changes-order}
 use Rattle.proper.specs.Laws.Proper.{rescued-reads, rescued-ground, rescued-fewest, rescued-short}
 use Rattle.proper.specs.Laws.Unchanged.{exactly, unchanged}
@@ -134,6 +142,31 @@ module _ (t out list : List ℕ) where
       go zero h = absurd (h refl)
       go (suc q) h = (refl, refl, refl, refl)
 
+  rooms : (a b : Bool) → a ≡ false → b ≡ false → refuse (a || b) 8 ≡ 0
+  rooms true b e f = clash e
+  rooms false true e f = clash f
+  rooms false false e f = refl
+
+  -- "The proper text is never longer than the given one", and there are at most two changes for each byte: so much room is enough
+  pub rescue-room : looseRefusal t ≡ 0 → length t ≤ length out → 4 * length t ≤ length list → rescueAnswer .refusal ≡ 0
+  unfolding rescueRefusal changesOf
+  rescue-room z a b =
+      let own : IsLoose t = loose-own t z in
+      let ns : Nodes = looseNodes (drop 7 t) in
+      let f : length (properOf t) ≤ length out = omega (arith, short-enough t own) in
+      let g : length (flat (changesOf t)) ≤ length list =
+      omega (
+        arith,
+        flat-length (changesOf t),
+        changes-few ns,
+        ap length (own .all),
+        length-append (heading Full (looseNorth t) (looseSouth t)) (render Faces ns),
+      ) in
+      rescue-refusal
+      ∙ passes _ z
+      ∙ rooms (ltb (length out) (length (properOf t))) (ltb (length list) (length (flat (changesOf t)))) (le-ltb (length out) (length (properOf t)) f)
+      (le-ltb (length list) (length (flat (changesOf t))) g)
+
   -- ---- where nothing is refused
 
   module _ (e : rescueAnswer .refusal ≡ 0) where
@@ -224,6 +257,39 @@ module _ (t out list : List ℕ) where
     pub rescue-order : InOrder (changesOf t)
     unfolding changesOf
     rescue-order = changes-order nodes
+
+    -- the letters and digits of the text
+    abbrev pub letters : List Item
+    letters = items 7 [] 0 nodes
+
+    -- "Kind 1 is a letter or digit that names a whole cell named whole earlier, or one inside a larger whole cell named anywhere."
+    pub rescue-kind-1 :
+        (p : ℕ) →
+        Mem (at p 1) (changesOf t) ↔
+        ((x : Item) × Mem x letters × (x .place ≡ p) × (x .own ≡ true) × (NamedEarlier letters x ⊎ InLarger letters x))
+    unfolding changesOf
+    rescue-kind-1 = told-1 nodes
+
+    -- "Kind 2 is a letter or digit not above the one right before it in the same list or body."
+    pub rescue-kind-2 : (p : ℕ) → Mem (at p 2) (changesOf t) ↔ ((b : ℕ) × (c : ℕ) × Beside 7 nodes p b c × (c ≤ b))
+    unfolding changesOf
+    rescue-kind-2 = told-2 nodes
+
+    -- "Kind 3 is the opening bracket of an empty list."
+    pub rescue-kind-3 : (p : ℕ) → Mem (at p 3) (changesOf t) ↔ ((7 ≤ p) × (getD t p 0 ≡ 40) × (getD t (p + 1) 0 ≡ 41))
+    unfolding changesOf
+    rescue-kind-3 = told-3 own
+
+    -- "Kind 4 is, for each cell whole in the answer and nowhere named whole, the first letter or digit standing for it."
+    pub rescue-kind-4 : (p : ℕ) → Mem (at p 4) (changesOf t) ↔ ((x : Item) × Mem x letters × (x .place ≡ p) × FirstFor nodes x)
+    unfolding changesOf
+    rescue-kind-4 = told-4 nodes
+
+    pub rescue-each-4 :
+        (q : Name) → Mem q (names (answer nodes)) → (Mem q (names nodes) → ⊥) →
+        (x : Item) × Mem x letters × (x .name ≡ q) × Mem (at (x .place) 4) (changesOf t)
+    unfolding changesOf
+    rescue-each-4 = each-4 nodes (own .loose)
 
     no-length : (l : List Change) → length l ≡ 0 → l ≡ []
     no-length [] h = refl
