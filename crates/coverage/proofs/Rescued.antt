@@ -15,9 +15,8 @@ use Rattle.loose.specs.Look.{looseRefusal}
 use Rattle.proper.specs.Proper.{properOf}
 use Rattle.rescue.specs.declared.Rescued.{Rescued}
 use Rattle.rescue.specs.declared.Rescued.the-variants.{Done}
-use Rattle.rescue.specs.Marks.{flat}
-use Rattle.rescue.specs.Rescue.{changesOf, rescueRefusal, told, RescueIs}
-use Rattle.rescue.specs.Internal.Marking.{flat-length}
+use Rattle.rescue.specs.Rescue.{flat, changesOf, rescueRefusal, told, RescueIs}
+use Rattle.rescue.specs.Laws.Flat.{flat-length}
 
 front-long : (x l : List ℕ) → length x ≤ length l → length (inFront x l) ≡ length l
 front-long x l h = length-append x (drop (length x) l) ∙ omega (arith, length-drop (length x) l)
