@@ -270,19 +270,24 @@ text-all f codes held room text (Length m) p w = (w .0 ∙ sym (text-alike p (as
 text-all f codes held room text (text-as.Refused m) p w = (refused-alike p (f .version) (f .depth) room ∙ w .0, w .1)
 text-all f codes held room text text-as.None p w = absurd w
 
--- the text of the names read
+-- the text of the names read, by what was read
 pub names-written :
     (f : Form) (most room : ℕ) (codes text : List ℕ) (n : ℕ) {q : NamesRead} (r : Text) → IsArrangement (f .arrangement) → AllTaken (f .arrangement) most codes q → q ≡ read-as.Count n →
-    TextWritten f (take n codes) room text r → NamesText f most room text r
-names-written f most room codes text n {q} r g h e w =
+    TextWritten f (take n codes) room text r → NamesText f most q room text r
+names-written f most room codes text n r g h e w =
     let t = subst (AllTaken (f .arrangement) most codes) e h in
-    go r (t .0) (t .1) (text-all f (t .0) (take n codes) room text r (names-held (f .arrangement) g most (t .0) (take n codes) (t .1)) w)
-  where
-    go :
-        (x : Text) (all : List ℕ) → OfBytes (withName (f .arrangement) most) (read [] []) (read all (take n codes)) → TextWritten f all room text x → NamesText f most room text x
-    go (Length m) all o v = (all, take n codes, o, v)
-    go (text-as.Refused m) all o v = (all, take n codes, o, v)
-    go text-as.None all o v = absurd v
+    subst (λ (x : NamesRead). NamesText f most x room text r) (sym e)
+    (t .0, take n codes, t .1, text-all f (t .0) (take n codes) room text r (names-held (f .arrangement) g most (t .0) (take n codes) (t .1)) w)
 
-pub names-text-length : (f : Form) (most room : ℕ) (text : List ℕ) (n : ℕ) {r : Text} → NamesText f most room text r → r ≡ Length n → n ≤ length text
-names-text-length f most room text n h e = (subst (NamesText f most room text) e h) .3 .1
+module _ (f : Form) (most room : ℕ) (text : List ℕ) {q : NamesRead} where
+  pub none-stopped : (m : ℕ) → q ≡ read-as.Stopped m → NamesText f most q room text text-as.None
+  none-stopped m e = subst (λ (x : NamesRead). NamesText f most x room text text-as.None) (sym e) refl
+
+  pub none-failed : q ≡ read-as.Failed → NamesText f most q room text text-as.None
+  none-failed e = subst (λ (x : NamesRead). NamesText f most x room text text-as.None) (sym e) refl
+
+-- a text that stands there has its room
+pub names-text-length : (f : Form) (most : ℕ) (q : NamesRead) (room : ℕ) (text : List ℕ) (n : ℕ) {r : Text} → NamesText f most q room text r → r ≡ Length n → n ≤ length text
+names-text-length f most (read-as.Count m) room text n h e = (subst (NamesText f most (read-as.Count m) room text) e h) .3 .1
+names-text-length f most (read-as.Stopped m) room text n h e = let z : Length n ≡ text-as.None = sym e ∙ h in let k : _≡_ {A = ℕ} 0 1 = cc in absurd (omega arith)
+names-text-length f most read-as.Failed room text n h e = let z : Length n ≡ text-as.None = sym e ∙ h in let k : _≡_ {A = ℕ} 0 1 = cc in absurd (omega arith)
