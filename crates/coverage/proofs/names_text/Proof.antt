@@ -25,7 +25,8 @@ returns c =
     let s = c .before .before .before .before .before .before .before .before .before in
     let a = s .args in
     let p = c .before .before .put-text in
-    names-written (a .form) (length (a .codes .now)) (length (a .text .now)) (a .codes .now) (p .last .1 .1 .1 .0) _ (p .result) (s .pre .0) (s .pre .1) (c .before .before .before .before .before .read .given .1) (p .ensures)
+    let e = c .before .before .before .before .before .read .given .1 in
+    names-written (a .form) (length (a .codes .now)) (length (a .text .now)) (a .codes .now) (p .last .1 .1 .1 .0) _ (p .result) (s .pre .0) (s .pre .1) e (p .ensures)
 
 returns-2 : tie.Need-returns-2
 returns-2 c = let a = c .before .before .before .before .args in none-stopped (a .form) (length (a .codes .now)) (length (a .text .now)) (a .text .now) _ (c .enum-told .given .1)

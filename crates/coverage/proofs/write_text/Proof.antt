@@ -40,9 +40,12 @@ slice-aggregate-print-first c = search needs
 
 print-first-requires : tie.Need-print-first-requires
 print-first-requires c κs =
-    let t = c .before .before .before .before .before .before .before .before .before .before .before .take-all in
-    let n = c .before .before .before .before .before .names-text in
-    names-text-length (c .before .before .before .before .before .before .before .before .before .before .before .before .before .before .before .args .form) (length (t .last .1 .1 .1 .0)) (t .result) (length (t .last .1 .0)) (n .last .1 .1 .1 .0) _ (n .ensures) (c .before .before .length .given .1)
+    let n = c .before .before .before .before .before in
+    let w = n .names-text in
+    let b = n .before .before .before .before .before .before in
+    let t = b .take-all in
+    let f = b .before .before .before .before .args .form in
+    names-text-length f (length (t .last .1 .1 .1 .0)) (t .result) (length (t .last .1 .0)) (w .last .1 .1 .1 .0) _ (w .ensures) (c .before .before .length .given .1)
 
 enum-known-refusal : tie.Need-enum-known-refusal
 enum-known-refusal c = search needs
