@@ -93,8 +93,8 @@ jgv_cell jgv_code_cell(uint64_t code);
 jgv_count jgv_code_cells(const uint64_t *codes, size_t count, uint64_t *numbers, size_t room);
 
 /* The codes of many cells, of six numbers each (n, s, face, resolution, row, column; up to five numbers behind the last cell are none): for each the
- * two numbers that jgv_cell_code answers, in the order of jgv_code; room is counted in numbers. A cell that is refused has its number in its own place.
- * `count` in the answer is the number of cells. Refusal 8, and then nothing is changed. */
+ * two numbers that jgv_cell_code answers, in the order of jgv_code. A cell that is refused has its number in its own place. `count` and `room` count
+ * the numbers lent, six and two a cell; `count` in the answer is the number of cells. Refusal 8, and then nothing is changed. */
 jgv_count jgv_cell_codes(const uint64_t *numbers, size_t count, uint64_t *codes, size_t room);
 
 /* The code of a name in an arrangement: a face letter and a digit 0 to 8 for each resolution. Refusals 5, 2, 1, 3. */
@@ -224,7 +224,8 @@ jgv_compare jgv_coverage_compare(const uint8_t *first, size_t first_length, cons
  * Kind 1 is a letter or digit that names a whole cell named whole earlier, or one inside a larger whole cell named anywhere; 2 one not above the one
  * right before it in the same list or body; 3 the opening bracket of an empty list; 4 the first letter or digit standing for a cell that is whole in
  * the answer and nowhere named whole. There are no changes exactly for a proper text, which comes back unchanged. Four numbers for each byte are
- * always room enough. Refusals 13, 10 (also for version 2), 9 with the place in the looser form, 8 for either room. */
+ * always room enough. It needs some 1.3 million bytes of stack. Refusals 13, 10 (also for version 2), 9 with the place in the looser form, 8 for
+ * either room. */
 jgv_rescue jgv_coverage_rescue(const uint8_t *text, size_t length, uint8_t *proper, size_t room, uint64_t *changed, size_t changed_room);
 
 /* Checks a partner's neighbour sheet for a coverage text. A sheet has one record of 40 bytes for each whole cell: its code and the codes of its

@@ -11,7 +11,7 @@ use lib.Seq.{take-all, length-take-le}
 use borrow.Author.Tests.{lt-ltb, ltb-false, lt-leb, le-leb}
 use Rattle.logic.specs.Laws.Order.{lt-or}
 use Rattle.logic.specs.Refusal.{refuse, given, _otherwise_}
-use Rattle.logic.specs.Laws.Refusal.{stops, passes, both, allowed}
+use Rattle.logic.specs.Laws.Refusal.{stops, passes, allowed}
 use Rattle.code.specs.declared.Coded.{Coded}
 use Rattle.code.specs.declared.Coded.the-variants as coded-as
 use Rattle.code.specs.Code.{coded, codeIn, refusalIn, isCode, isOf}
@@ -20,10 +20,9 @@ use Rattle.decimal.specs.Decimal.{trimmed}
 use Rattle.decimal.specs.Laws.Long.{trimmed-length, trimmed-take}
 use Rattle.name.specs.Name.{nameRefusal, nameCode, firstLetter, allDigits}
 use Rattle.name.specs.Laws.Name.{accepted, name-code-is}
-use Rattle.lines.specs.Lines.{linesOf}
-use Rattle.lines.specs.Fold.{after, OfBytes, OfEnded}
+use Rattle.lines.specs.Fold.{OfBytes, OfEnded}
 use Rattle.gathering.specs.Gather.{gathered}
-use Rattle.gathering.specs.Laws.Gather.{Holds, holds-none, holds-more, text-alike, refused-alike}
+use Rattle.gathering.specs.Laws.Gather.{Holds, text-alike, refused-alike}
 use Rattle.writing.specs.Write.{asksFor}
 use Rattle.lines.specs.Laws.Fold.{then-line, then-last, then-none}
 use Rattle.console.specs.declared.LineRead.the-variants.{Line, Last}
@@ -49,9 +48,10 @@ use Rattle.coverage.specs.declared.Text.the-variants.{Length}
 use Rattle.coverage.specs.declared.Taken.{Taken}
 use Rattle.coverage.specs.declared.Taken.the-variants as taken-as
 use Rattle.coverage.specs.declared.NamesRead.the-variants as read-as
-use Rattle.coverage.specs.Names.{Names, read, stopped, lineRefusal, namedOr, withName, NameTaken, AllTaken}
+use Rattle.coverage.specs.Names.{Names, read, stopped, namedOr, withName, NameTaken, AllTaken}
 use Rattle.coverage.specs.Own.{Own}
 use Rattle.coverage.specs.Laws.Asked.{named-code, named-in}
+use Rattle.coverage.specs.Laws.Names.{names-held}
 use Rattle.console.specs.declared.Room.{Room}
 use Rattle.console.specs.declared.Room.the-variants.{From, Failed}
 use Rattle.console.specs.Names.{NamesIn}
@@ -179,30 +179,6 @@ module _ (a : Arrangement) (room : List ℕ) (big : 18 ≤ length room) (all cod
     pub last-stops : (left bytes : List ℕ) (q : ℕ) → Given left bytes room (Last n) → r ≡ taken-as.Refused q → AllTaken a (length codes) later (read-as.Stopped q)
     last-stops left bytes q g e = (_, last-comes left bytes g (taken-as.Refused q) (subst (NameTaken a (take n room) codes count later) e h))
 
--- ---- what is held of all names
-
-abbrev Sound : Arrangement → Names → Type 0
-Sound a (read codes held) = Holds a codes held
-Sound a (stopped n r) = Unit {0}
-
-module _ (a : Arrangement) (g : IsArrangement a) (room : ℕ) where
-  sound-name : (s : Names) (line : List ℕ) → Sound a s → Sound a (withName a room s line)
-  sound-name (stopped n r) line h = tt
-  sound-name (read codes held) line h = go (lineRefusal room held line) refl
-    where
-      go : (q : ℕ) → lineRefusal room held line ≡ q → Sound a (namedOr a q codes held (nameCode a (trimmed line)))
-      go (suc q) e = tt
-      go zero e =
-          let k = both (nameRefusal (trimmed line)) _ e .0 in
-          holds-more g (nameCode a (trimmed line)) codes held (name-code-is (trimmed line) g (accepted (trimmed line) k)) (named-in a g (trimmed line) k) h
-
-  sound-all : (s : Names) (lines : List (List ℕ)) → Sound a s → Sound a (after (withName a room) s lines)
-  sound-all s [] h = h
-  sound-all s (line ∷ lines) h = sound-all (withName a room s line) lines (sound-name s line h)
-
-  names-held : (codes held : List ℕ) → OfBytes (withName a room) (read [] []) (read codes held) → Holds a codes held
-  names-held codes held (bytes, e) = subst (Sound a) (sym e) (sound-all (read [] []) (linesOf bytes) (holds-none a))
-
 -- ---- a name asked for
 
 -- a name's refusal has no place
@@ -294,19 +270,24 @@ text-all f codes held room text (Length m) p w = (w .0 ∙ sym (text-alike p (as
 text-all f codes held room text (text-as.Refused m) p w = (refused-alike p (f .version) (f .depth) room ∙ w .0, w .1)
 text-all f codes held room text text-as.None p w = absurd w
 
--- the text of the names read
+-- the text of the names read, by what was read
 pub names-written :
     (f : Form) (most room : ℕ) (codes text : List ℕ) (n : ℕ) {q : NamesRead} (r : Text) → IsArrangement (f .arrangement) → AllTaken (f .arrangement) most codes q → q ≡ read-as.Count n →
-    TextWritten f (take n codes) room text r → NamesText f most room text r
-names-written f most room codes text n {q} r g h e w =
+    TextWritten f (take n codes) room text r → NamesText f most q room text r
+names-written f most room codes text n r g h e w =
     let t = subst (AllTaken (f .arrangement) most codes) e h in
-    go r (t .0) (t .1) (text-all f (t .0) (take n codes) room text r (names-held (f .arrangement) g most (t .0) (take n codes) (t .1)) w)
-  where
-    go :
-        (x : Text) (all : List ℕ) → OfBytes (withName (f .arrangement) most) (read [] []) (read all (take n codes)) → TextWritten f all room text x → NamesText f most room text x
-    go (Length m) all o v = (all, take n codes, o, v)
-    go (text-as.Refused m) all o v = (all, take n codes, o, v)
-    go text-as.None all o v = absurd v
+    subst (λ (x : NamesRead). NamesText f most x room text r) (sym e)
+    (t .0, take n codes, t .1, text-all f (t .0) (take n codes) room text r (names-held (f .arrangement) g most (t .0) (take n codes) (t .1)) w)
 
-pub names-text-length : (f : Form) (most room : ℕ) (text : List ℕ) (n : ℕ) {r : Text} → NamesText f most room text r → r ≡ Length n → n ≤ length text
-names-text-length f most room text n h e = (subst (NamesText f most room text) e h) .3 .1
+module _ (f : Form) (most room : ℕ) (text : List ℕ) {q : NamesRead} where
+  pub none-stopped : (m : ℕ) → q ≡ read-as.Stopped m → NamesText f most q room text text-as.None
+  none-stopped m e = subst (λ (x : NamesRead). NamesText f most x room text text-as.None) (sym e) refl
+
+  pub none-failed : q ≡ read-as.Failed → NamesText f most q room text text-as.None
+  none-failed e = subst (λ (x : NamesRead). NamesText f most x room text text-as.None) (sym e) refl
+
+-- a text that stands there has its room
+pub names-text-length : (f : Form) (most : ℕ) (q : NamesRead) (room : ℕ) (text : List ℕ) (n : ℕ) {r : Text} → NamesText f most q room text r → r ≡ Length n → n ≤ length text
+names-text-length f most (read-as.Count m) room text n h e = (subst (NamesText f most (read-as.Count m) room text) e h) .3 .1
+names-text-length f most (read-as.Stopped m) room text n h e = let z : Length n ≡ text-as.None = sym e ∙ h in let k : _≡_ {A = ℕ} 0 1 = cc in absurd (omega arith)
+names-text-length f most read-as.Failed room text n h e = let z : Length n ≡ text-as.None = sym e ∙ h in let k : _≡_ {A = ℕ} 0 1 = cc in absurd (omega arith)

@@ -19,6 +19,8 @@ use Rattle.report.specs.Lines.{numberLine}
 use Rattle.coverage.specs.declared.Form.{Form}
 use Rattle.coverage.specs.declared.Text.{Text}
 use Rattle.coverage.specs.declared.Text.the-variants.{Length, Refused, None}
+use Rattle.coverage.specs.declared.NamesRead.{NamesRead}
+use Rattle.coverage.specs.declared.NamesRead.the-variants as read-as
 use Rattle.coverage.specs.Names.{read, withName}
 
 -- the name's refusal, otherwise the text's, otherwise whether the text covers the cell of that name, in the text's own arrangement
@@ -42,11 +44,10 @@ TextWritten f codes room text (Length n) = (take n text ≡ textOf (asksFor (f .
 TextWritten f codes room text (Refused r) = (writeRefusal (f .version) (f .depth) (f .arrangement) codes room ≡ r) × (r ≡ 0 → ⊥)
 TextWritten f codes room text None = ⊥
 
--- `coverage write`: the text of all names on the lines of some bytes, read in the arrangement that the text is of, whatever is held of them; or their list
--- is refused. Where a line stops the reading, or the input fails, there is no text
-abbrev pub NamesText : Form → (most room : ℕ) (text : List ℕ) → Text → Type 0
-NamesText f most room text (Length n) =
-    (codes : List ℕ) × (held : List ℕ) × OfBytes (withName (f .arrangement) most) (read [] []) (read codes held) × TextWritten f codes room text (Length n)
-NamesText f most room text (Refused r) =
-    (codes : List ℕ) × (held : List ℕ) × OfBytes (withName (f .arrangement) most) (read [] []) (read codes held) × TextWritten f codes room text (Refused r)
-NamesText f most room text None = Unit {0}
+-- `coverage write`: where names were read, the text of all names on the lines of some bytes, in the arrangement that they were read in, whatever is held
+-- of them; or their list is refused. Where a line stopped the reading, or the input failed, there is no text
+abbrev pub NamesText : Form → (most : ℕ) → NamesRead → (room : ℕ) (text : List ℕ) → Text → Type 0
+NamesText f most (read-as.Count n) room text r =
+    (codes : List ℕ) × (held : List ℕ) × OfBytes (withName (f .arrangement) most) (read [] []) (read codes held) × TextWritten f codes room text r
+NamesText f most (read-as.Stopped q) room text r = r ≡ None
+NamesText f most read-as.Failed room text r = r ≡ None

@@ -6,11 +6,15 @@ ghost use lib.ListN.{length, take};
 ghost use Rattle.cell.specs.Cell.{IsArrangement};
 ghost use Rattle.reader.specs.Check.{checkedOf};
 ghost use Rattle.listing.specs.List.{listingRefusal};
+ghost use Rattle.proper.specs.Proper.{properOf};
+ghost use Rattle.rescue.specs.Rescue.{changesOf, rescueRefusal};
+ghost use Rattle.console.specs.Room.{startFor};
 ghost use Rattle.report.specs.Put.{Put};
 ghost use Rattle.report.specs.Lines.{checkLine, askedLine};
 ghost use Rattle.coverage.specs.Names.{NameTaken, AllTaken};
 ghost use Rattle.coverage.specs.Own.{Own};
 ghost use Rattle.coverage.specs.Printed.{askedName, waits, ListWritten, TextWritten, NamesText};
+ghost use Rattle.coverage.specs.Rescued.{RescueLeft, ChangesWritten, ChangesIn};
 use asking::Asked;
 use cell::Arrangement;
 use code::Coded;
@@ -68,6 +72,14 @@ struct Form {
 // A line that waits in front of its room up to `end`; and the refusal that is to be said with it, 0 for none, with its place.
 struct Shown {
     end: usize,
+    refusal: u64,
+    place: u64,
+}
+
+// What a rescue left in front of its rooms: so many bytes of the text, and so many numbers of what was changed; or a refusal, with its place.
+struct RescueRooms {
+    end: usize,
+    numbers: usize,
     refusal: u64,
     place: u64,
 }
@@ -292,26 +304,28 @@ fn put_text(form: Form, codes: &[u64], count: usize, text: &mut [u8]) -> Text
     }
 }
 
-// write: the text of the names of the input, in the arrangement that they are read in. The names are read, so their room is the text's.
-fn names_text(form: Form, bytes: &mut [u8], room: &mut [u8], codes: &mut [u64]) -> Text
+// write: the text of the names read, in the arrangement that they were read in. Where a line stopped the reading, or the input failed, there is none.
+fn names_text(form: Form, read: NamesRead, codes: &[u64], text: &mut [u8]) -> Text
     requires { ⌜ IsArrangement (form .arrangement) ⌝ }
-    requires { ⌜ 18 ≤ length (now room) ⌝ }
-    ensures { λ r. ⌜ NamesText form (length (now (codes .entry))) (length (now (bytes .entry))) (now (bytes .exit)) r ⌝ }
+    requires { ⌜ AllTaken (form .arrangement) (length (now codes)) (now codes) read ⌝ }
+    ensures { λ r. ⌜ NamesText form (length (now (codes .entry))) read (length (now (text .entry))) (now (text .exit)) r ⌝ }
 {
-    match take_all(form.arrangement, bytes, room, codes) {
-        NamesRead::Count(count) => put_text(form, codes, count, bytes),
+    match read {
+        NamesRead::Count(count) => put_text(form, codes, count, text),
         NamesRead::Stopped(_) => Text::None,
         NamesRead::Failed => Text::None,
     }
 }
 
+// The names are read, so their room is the text's.
 fn write_text(form: Form)
     requires { ⌜ IsArrangement (form .arrangement) ⌝ }
 {
     let mut bytes = [0u8; 65536];
     let mut room = [0u8; 64];
     let mut codes = [0u64; 65680]; // 144 more than whole cells in the longest text: so many may still merge
-    match names_text(form, &mut bytes, &mut room, &mut codes) {
+    let read = take_all(form.arrangement, &mut bytes, &mut room, &mut codes);
+    match names_text(form, read, &codes, &mut bytes) {
         Text::Length(length) => console::print_first(&bytes, length),
         Text::Refused(refusal) => console::say_text(b"coverage", refusal, 0),
         Text::None => {}
@@ -501,28 +515,31 @@ fn check_file(text: &[u8]) {
     show(shown, &out);
 }
 
-// What a kind of change means, to the end of the line.
-fn say_kind(kind: u64) {
-    match kind {
-        1 => console::say(b": named already, or inside a whole cell\n"),
-        2 => console::say(b": not above the one right before it\n"),
-        3 => console::say(b": an empty list\n"),
-        _ => console::say(b": whole by its parts\n"),
+// Where the line of a change has room, behind the first `end` bytes. Where it has none there, all of these go to standard error first.
+fn line_room(lines: &[u8], end: usize) -> usize
+    requires { ⌜ end ≤ length (now lines) ⌝ }
+    ensures { λ r. ⌜ r ≡ startFor (length (now (lines .entry))) end 81 ⌝ }
+{
+    if lines.len() - end < 81 {
+        console::say(&lines[..end]);
+        return 0; // all were said
     }
+    end
 }
 
-// A line for each change, place and kind, to standard error.
-fn say_changes(list: &[u64]) {
+// A line for each change, place, kind and what it means: what is left of them in front, behind what went to standard error.
+fn say_changes(list: &[u64], lines: &mut [u8]) -> usize
+    requires { ⌜ 81 ≤ length (now lines) ⌝ }
+    ensures { λ r. ⌜ ChangesIn (now (list .entry)) (now (lines .exit)) r ⌝ }
+{
     let mut i: usize = 0;
+    let mut end: usize = 0;
     while i + 1 < list.len() {
-        let place = list[i];
-        let kind = list[i + 1];
-        console::say_whole(place);
-        console::say(b" ");
-        console::say_whole(kind);
-        say_kind(kind);
+        let at = line_room(lines, end);
+        end = report::put_change(list, i, lines, at);
         i = i + 2;
     }
+    end
 }
 
 // Why there is no proper text. Rescue takes version 1 only.
@@ -534,23 +551,63 @@ fn say_unrescued(refusal: u64, place: u64) {
     console::say_text(b"coverage", refusal, place);
 }
 
-// rescue: the proper text to standard output, what was changed to standard error. Where it is refused nothing goes to standard output.
-fn rescue_text(text: &[u8], out: &mut [u8], list: &mut [u64]) {
+// rescue: the proper text in front of one room, what was changed in front of the other.
+fn rescue_text(text: &[u8], out: &mut [u8], list: &mut [u64]) -> RescueRooms
+    ensures { λ r. ⌜ RescueLeft (rescueRefusal (now (text .entry)) (length (now (out .entry))) (length (now (list .entry)))) (now (text .entry)) (now (out .exit)) (now (list .exit)) r ⌝ }
+{
     match rescue::rescue(text, out, list) {
-        Rescued::Done { length, changes } => {
-            console::print_first(out, length as usize);
-            let numbers = changes as usize * 2;
-            say_changes(&list[..numbers]);
-        }
-        Rescued::Refused { refusal, place } => say_unrescued(refusal, place),
+        Rescued::Done { length, changes } => RescueRooms {
+            end: length as usize,
+            numbers: changes as usize * 2, // place and kind
+            refusal: 0,
+            place: 0,
+        },
+        Rescued::Refused { refusal, place } => RescueRooms {
+            end: 0,
+            numbers: 0,
+            refusal, // as it is given
+            place,
+        },
     }
+}
+
+// The first bytes of a buffer to standard output: they must be the proper text of this one.
+fn print_proper(text: &[u8], out: &[u8], end: usize)
+    requires { ⌜ end ≤ length (now out) ⌝ }
+    requires { ⌜ take end (now out) ≡ properOf (now text) ⌝ }
+{
+    console::print_first(out, end);
+}
+
+// The first bytes of a buffer to standard error: they must be what is left of the lines of this text's changes.
+fn say_last(text: &[u8], lines: &[u8], end: usize)
+    requires { ⌜ ChangesWritten (changesOf (now text)) (now lines) end ⌝ }
+{
+    console::say(&lines[..end]);
+}
+
+// The proper text to standard output, what was changed to standard error. Where it is refused nothing goes to standard output.
+fn show_rescued(text: &[u8], rooms: RescueRooms, out: &[u8], list: &[u64])
+    requires { ⌜ RescueLeft (rooms .refusal) (now text) (now out) (now list) rooms ⌝ }
+{
+    let refusal = rooms.refusal;
+    if refusal != 0 {
+        say_unrescued(refusal, rooms.place);
+        return;
+    }
+    print_proper(text, out, rooms.end);
+    let numbers = rooms.numbers;
+    let mut lines = [0u8; 65536];
+    let end = say_changes(&list[..numbers], &mut lines);
+    say_last(text, &lines, end);
 }
 
 // coverage rescue FILE. Two changes for each byte are the most, and a change is two numbers.
 fn rescue_file(text: &[u8]) {
     let mut out = [0u8; 65536];
     let mut list = [0u64; 262144];
-    rescue_text(text, &mut out, &mut list);
+    let rooms = rescue_text(text, &mut out, &mut list);
+    show_rescued(text, rooms, &out, &list);
 }
 
 // The commands that read a file.

@@ -19,7 +19,8 @@ use Rattle.code.specs.Laws.Code.{coded-path, code-is-cell, code-passes}
 use Rattle.code.specs.Number.{numberOf, codeAs}
 use Rattle.ternary.specs.Laws.Powers.{nine-le}
 use Rattle.gathering.specs.Gather.{follows, merges, gatheredAs, gathered}
-use Rattle.gathering.specs.Laws.Gather.{merges-finer, merges-ends, gathered-merges, gathered-stays, number-small}
+use Rattle.gathering.specs.Laws.Gather.{merges-finer, merges-ends, gathered-merges, gathered-stays}
+use Rattle.gathering.specs.Laws.Bare.{number-small}
 
 -- a number of a cell is one of k + 1 digits
 pub number-wide : (k n : ℕ) → n < 6 * 9 ^ k → n < 9 ^ (k + 1)

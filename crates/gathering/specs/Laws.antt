@@ -1,2 +1,5 @@
 pub mod Alike
+pub mod Bare
+pub mod Count
 pub mod Gather
+pub mod Long

@@ -18,8 +18,7 @@ ghost use Rattle.sheet.specs.Sheet.{sheetRefusal, sheetIn, written as sheetWrit
 ghost use Rattle.sheet.specs.Verdict.{judgedOf};
 ghost use Rattle.logic.specs.Lent.{inFront};
 ghost use Rattle.proper.specs.Proper.{properOf};
-ghost use Rattle.rescue.specs.Marks.{flat};
-ghost use Rattle.rescue.specs.Rescue.{changesOf, rescueRefusal, told};
+ghost use Rattle.rescue.specs.Rescue.{flat, changesOf, rescueRefusal, told};
 ghost use Rattle.entries.specs.Rescue.{rescueNumbers};
 ghost use Rattle.entries.specs.Texts.{checkNumbers, listNumbers, askNumbers, writtenNumbers, addNumbers, compareNumbers};
 ghost use Rattle.writing.specs.Write.{asksFor, writeRefusal, textOf, textIn, written};

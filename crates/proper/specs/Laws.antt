@@ -1,11 +1,17 @@
+pub mod Bracket
 pub mod Change
+pub mod Each
+pub mod Few
+pub mod Front
 pub mod Given
 pub mod Kind
 pub mod Left
+pub mod Lists
 pub mod Order
 pub mod Proper
 pub mod Text
 pub mod Thin
 pub mod Thinned
+pub mod Told
 pub mod Unchanged
 pub mod Walk

@@ -1,4 +1,5 @@
 pub mod Answer
+pub mod Changes
 pub mod History
 pub mod Laws
 pub mod Lines

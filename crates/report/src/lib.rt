@@ -1,11 +1,12 @@
 // What the programs print, as bytes in lent memory.
 ghost use mathlib.Core.Path.{_≡_};
 ghost use mathlib.Core.List.{[], _∷_, _++_};
-ghost use Prim.Native.Nat.{_+_, _≤_};
-ghost use lib.ListN.{length, drop};
+ghost use Prim.Native.Nat.{_+_, _≤_, _<_};
+ghost use lib.ListN.{length, drop, getD};
 ghost use Rattle.decimal.specs.Decimal.{printed};
 ghost use Rattle.report.specs.Put.{Put};
 ghost use Rattle.report.specs.Answer.{answerLine};
+ghost use Rattle.report.specs.Changes.{kindWords, changeLine};
 ghost use Rattle.report.specs.Names.{nameBytes, NamesPut};
 ghost use Rattle.report.specs.Lines.{numberLine, fourNumbers, checkLine, askedLine};
 ghost use Rattle.report.specs.History.{settingsLine, revisionLine, keptNumber, historyLines};
@@ -152,6 +153,38 @@ pub fn put_asked(asked: Asked, out: &mut [u8]) -> usize
         }
         Asked::Refused { refusal, place: _ } => put_line(refusal, out),
     }
+}
+
+// Puts what a kind of change means and a line end in front: where they end.
+fn put_kind(kind: u64, out: &mut [u8]) -> usize
+    requires { ⌜ 39 ≤ length (now out) ⌝ }
+    ensures { λ r. ⌜ Put 0 (kindWords kind) (now (out .entry)) (now (out .exit)) r ⌝ }
+    ensures { λ r. ⌜ r ≤ 39 ⌝ }
+{
+    if kind == 1 {
+        return bytes::copy(b" named already, or inside a whole cell\n", out);
+    }
+    if kind == 2 {
+        return bytes::copy(b" not above the one right before it\n", out);
+    }
+    if kind == 3 {
+        return bytes::copy(b" an empty list\n", out);
+    }
+    bytes::copy(b" whole by its parts\n", out)
+}
+
+// Puts the change that stands in a list from `i` on, place and kind, in one line from `at` on, `PLACE KIND: WORDS`: where it ends.
+pub fn put_change(list: &[u64], i: usize, out: &mut [u8], at: usize) -> usize
+    requires { ⌜ i + 1 < length (now list) ⌝ }
+    requires { ⌜ at + 81 ≤ length (now out) ⌝ }
+    ensures { λ r. ⌜ Put at (changeLine (getD (now (list .entry)) i 0) (getD (now (list .entry)) (i + 1) 0)) (now (out .entry)) (now (out .exit)) r ⌝ }
+    ensures { λ r. ⌜ r ≤ at + 81 ⌝ }
+{
+    let place = list[i];
+    let kind = list[i + 1];
+    let middle = put_number(place, b' ', out, at);
+    let end = put_number(kind, b':', out, middle);
+    end + put_kind(kind, &mut out[end..])
 }
 
 // Puts settings in one line, `n s resolution eccentricity`, from `at` on: where it ends.

@@ -1,3 +1,3 @@
 pub mod Internal
-pub mod Marks
+pub mod Laws
 pub mod Rescue

@@ -2,10 +2,10 @@
 -- from 0, and then kind". Assumes nothing.
 use mathlib.Core.Path.{_≡_}
 use mathlib.Core.Bool.{_||_}
-use mathlib.Core.List.{List}
+use mathlib.Core.List.{List, [], _∷_}
 use Prim.Native.Nat.{ℕ, zero, suc}
 use lib.Dec.{ltb}
-use lib.ListN.{length, drop, getD}
+use lib.ListN.{length, drop}
 use Rattle.logic.specs.Lent.{inFront}
 use Rattle.logic.specs.Refusal.{refuse, _otherwise_, given}
 use Rattle.loose.specs.LooseScan.{looseNodes}
@@ -14,10 +14,11 @@ use Rattle.proper.specs.Proper.{properOf}
 use Rattle.proper.specs.Changes.{Change, changes}
 use Rattle.rescue.specs.declared.Rescued.{Rescued}
 use Rattle.rescue.specs.declared.Rescued.the-variants.{Done, Refused}
-use Rattle.rescue.specs.Marks.{flat}
 
-abbrev pub Zeros : List ℕ → Type 0
-Zeros l = (k : ℕ) → getD l k 0 ≡ 0
+-- "by place in the whole text, from 0, and then kind": place, kind, place, kind ..
+unfoldable pub flat : List Change → List ℕ
+flat [] = []
+flat (x ∷ xs) = x .place ∷ x .kind ∷ flat xs
 
 -- what is changed in a looser text
 unfoldable pub changesOf : List ℕ → List Change

@@ -1,22 +1,25 @@
 -- The rescue over what the entry answers (02, W-206): refusals, the proper text, and the list of what was changed. Assumes nothing.
 use mathlib.Core.Path.{_≡_, refl, sym, ap, ap₂, subst, _∙_}
 use mathlib.Core.Logic.{_↔_, _⊎_, inl, inr, ⊎-elim}
-use mathlib.Core.Bool.{Bool, true, false, _||_}
+use mathlib.Core.Bool.{Bool, true, false, _||_, cond}
 use mathlib.Core.List.{List, [], _∷_}
-use Prim.Native.Nat.{ℕ, zero, suc, _*_, _≤_, _<_}
+use Prim.Native.Nat.{ℕ, zero, suc, _+_, _*_, _≤_, _<_}
 use native.Mathlib.Omega.{arith}
-use lib.ListN.{length, take, drop}
+use lib.ListN.{length, take, drop, getD, length-append, List·getD-append}
 use lib.Seq.{take-append-seam, drop-append-seam}
 use lib.Dec.{ltb}
+use borrow.Author.Tests.{ne-eqb, le-ltb}
 use Rattle.logic.specs.Lent.{inFront}
+use Rattle.logic.specs.Lists.{Mem}
 use Rattle.logic.specs.Refusal.{refuse, _otherwise_, given}
 use Rattle.logic.specs.Laws.Refusal.{passes, both}
 use Rattle.reading.specs.declared.Level.the-variants.{Faces}
 use Rattle.reading.specs.declared.Profile.the-variants.{Full}
-use Rattle.reading.specs.Reading.{Nodes, Good}
+use Rattle.reading.specs.Reading.{Nodes, Good, render, names}
+use Rattle.reading.specs.Prefix.{Name}
 use Rattle.reading.specs.Ground.{wholeCells, SameGround, Covers}
 use Rattle.reading.specs.Fewest.{FewestOf}
-use Rattle.reading.specs.Text.{ReadsAs}
+use Rattle.reading.specs.Text.{heading, ReadsAs}
 use Rattle.reading.specs.TextReading.{nodesOf}
 use Rattle.reading.specs.Laws.TextReading.{read-nodes}
 use Rattle.reader.specs.Check.{textRefusal, checkedOf}
@@ -27,13 +30,18 @@ use Rattle.loose.specs.Look.{looseNorth, looseSouth, IsLoose, notOne, isLoose, 
 use Rattle.loose.specs.Laws.Look.{is-loose, loose-text, version-bytes, bytes-version, loose-own, loose-short}
 use Rattle.loose.specs.Laws.Place.{loose-place}
 use Rattle.proper.specs.Proper.{answer, rescued, properOf}
-use Rattle.proper.specs.Changes.{Change, changes}
+use Rattle.proper.specs.Changes.{Item, Change, items, changes}
+use Rattle.proper.specs.Laws.Bracket.{told-3}
+use Rattle.proper.specs.Laws.Each.{each-4}
+use Rattle.proper.specs.Laws.Few.{changes-few}
+use Rattle.proper.specs.Laws.Given.{at}
+use Rattle.proper.specs.Laws.Told.{NamedEarlier, InLarger, FirstFor, Beside, told-1, told-2, told-4}
+use Rattle.proper.specs.Laws.Text.{short-enough}
 use Rattle.proper.specs.Laws.Order.{InOrder, changes-order}
 use Rattle.proper.specs.Laws.Proper.{rescued-reads, rescued-ground, rescued-fewest, rescued-short}
 use Rattle.proper.specs.Laws.Unchanged.{exactly, unchanged}
-use Rattle.rescue.specs.Marks.{flat}
-use Rattle.rescue.specs.Rescue.{changesOf, rescueRefusal, told}
-use Rattle.rescue.specs.Internal.Marking.{flat-length}
+use Rattle.rescue.specs.Rescue.{flat, changesOf, rescueRefusal, told}
+use Rattle.rescue.specs.Laws.Flat.{flat-length, flat-at}
 use Rattle.entries.specs.declared.RescueAnswer.{RescueAnswer}
 use Rattle.entries.specs.Order.{order, numbers, inOrder, FirstOf, Applies}
 use Rattle.entries.specs.Rescue.{rescueNumbers, rescueTests}
@@ -103,12 +111,22 @@ module _ (t out list : List ℕ) where
   pub rescue-8 : (rescueAnswer .refusal ≡ 8) ↔ Applies (rescueTests t (length out) (length list)) 8
   rescue-8 = given-exactly 7 rescue-first refl
 
-  -- "its place read from that form"
-  pub rescue-place : rescueAnswer .refusal ≡ 9 → LooseLongest t (rescueAnswer .place)
+  place-with : rescueAnswer .place ≡ placeWith r t
   unfolding told
-  rescue-place e =
-      let p : rescueAnswer .place ≡ loosePlace t = ap (λ (q : ℕ). rescueNumbers (told q t) .place) (sym rescue-refusal ∙ e) in
-      subst (LooseLongest t) (sym p) (loose-place t)
+  place-with = go r
+    where
+      go : (q : ℕ) → rescueNumbers (told q t) .place ≡ placeWith q t
+      go zero = refl
+      go (suc q) = refl
+
+  -- "its place read from that form"; 0 beside any other number
+  pub rescue-place : (rescueAnswer .refusal ≡ 9 → LooseLongest t (rescueAnswer .place)) × ((rescueAnswer .refusal ≡ 9 → ⊥) → rescueAnswer .place ≡ 0)
+  rescue-place = (
+    (λ e.
+        let p : rescueAnswer .place ≡ loosePlace t = place-with ∙ ap (λ (q : ℕ). placeWith q t) (sym rescue-refusal ∙ e) in
+        subst (LooseLongest t) (sym p) (loose-place t)),
+    (λ h. place-with ∙ ap (λ (b : Bool). cond b (loosePlace t) 0) (ne-eqb r 9 (λ e. h (rescue-refusal ∙ e)))),
+  )
 
   -- "A refusal changes no lent byte", and there are zeros beside it
   pub rescue-refused :
@@ -123,6 +141,31 @@ module _ (t out list : List ℕ) where
           (rescueNumbers (told q t) .length ≡ 0) × (rescueNumbers (told q t) .changes ≡ 0)
       go zero h = absurd (h refl)
       go (suc q) h = (refl, refl, refl, refl)
+
+  rooms : (a b : Bool) → a ≡ false → b ≡ false → refuse (a || b) 8 ≡ 0
+  rooms true b e f = clash e
+  rooms false true e f = clash f
+  rooms false false e f = refl
+
+  -- "The proper text is never longer than the given one", and there are at most two changes for each byte: so much room is enough
+  pub rescue-room : looseRefusal t ≡ 0 → length t ≤ length out → 4 * length t ≤ length list → rescueAnswer .refusal ≡ 0
+  unfolding rescueRefusal changesOf
+  rescue-room z a b =
+      let own : IsLoose t = loose-own t z in
+      let ns : Nodes = looseNodes (drop 7 t) in
+      let f : length (properOf t) ≤ length out = omega (arith, short-enough t own) in
+      let g : length (flat (changesOf t)) ≤ length list =
+      omega (
+        arith,
+        flat-length (changesOf t),
+        changes-few ns,
+        ap length (own .all),
+        length-append (heading Full (looseNorth t) (looseSouth t)) (render Faces ns),
+      ) in
+      rescue-refusal
+      ∙ passes _ z
+      ∙ rooms (ltb (length out) (length (properOf t))) (ltb (length list) (length (flat (changesOf t)))) (le-ltb (length out) (length (properOf t)) f)
+      (le-ltb (length list) (length (flat (changesOf t))) g)
 
   -- ---- where nothing is refused
 
@@ -175,6 +218,19 @@ module _ (t out list : List ℕ) where
         ap₂ drop numbers-long list-all ∙ drop-append-seam (flat (changesOf t)) (drop (length (flat (changesOf t))) list)
         ∙ sym (ap (λ (n : ℕ). drop n list) numbers-long)
 
+    -- change i is the numbers at 2 i and behind: "by place .., and then kind"
+    pub change-stands :
+        (i : ℕ) (x : Change) → i < rescueAnswer .changes →
+        (getD listMemory (2 * i) 0 ≡ getD (changesOf t) i x .place) × (getD listMemory (2 * i + 1) 0 ≡ getD (changesOf t) i x .kind)
+    change-stands i x h =
+        let k = flat-at (changesOf t) i x (omega (arith, many)) in
+        let a : getD listMemory (2 * i) 0 ≡ getD (flat (changesOf t)) (2 * i) 0 = in-list (2 * i) (omega (arith, numbers-long)) in
+        let b : getD listMemory (2 * i + 1) 0 ≡ getD (flat (changesOf t)) (2 * i + 1) 0 = in-list (2 * i + 1) (omega (arith, numbers-long)) in
+        (a ∙ k .0, b ∙ k .1)
+      where
+        in-list : (j : ℕ) → j < length (flat (changesOf t)) → getD listMemory j 0 ≡ getD (flat (changesOf t)) j 0
+        in-list j l = ap (λ (z : List ℕ). getD z j 0) list-all ∙ List·getD-append (flat (changesOf t)) (drop (length (flat (changesOf t))) list) 0 j l
+
     reads : ReadsAs Full (looseNorth t) (looseSouth t) (properOf t) (answer nodes)
     unfolding properOf
     reads = rescued-reads nodes (own .loose) (looseNorth t) (looseSouth t) (own .north) (own .south)
@@ -201,6 +257,39 @@ module _ (t out list : List ℕ) where
     pub rescue-order : InOrder (changesOf t)
     unfolding changesOf
     rescue-order = changes-order nodes
+
+    -- the letters and digits of the text
+    abbrev pub letters : List Item
+    letters = items 7 [] 0 nodes
+
+    -- "Kind 1 is a letter or digit that names a whole cell named whole earlier, or one inside a larger whole cell named anywhere."
+    pub rescue-kind-1 :
+        (p : ℕ) →
+        Mem (at p 1) (changesOf t) ↔
+        ((x : Item) × Mem x letters × (x .place ≡ p) × (x .own ≡ true) × (NamedEarlier letters x ⊎ InLarger letters x))
+    unfolding changesOf
+    rescue-kind-1 = told-1 nodes
+
+    -- "Kind 2 is a letter or digit not above the one right before it in the same list or body."
+    pub rescue-kind-2 : (p : ℕ) → Mem (at p 2) (changesOf t) ↔ ((b : ℕ) × (c : ℕ) × Beside 7 nodes p b c × (c ≤ b))
+    unfolding changesOf
+    rescue-kind-2 = told-2 nodes
+
+    -- "Kind 3 is the opening bracket of an empty list."
+    pub rescue-kind-3 : (p : ℕ) → Mem (at p 3) (changesOf t) ↔ ((7 ≤ p) × (getD t p 0 ≡ 40) × (getD t (p + 1) 0 ≡ 41))
+    unfolding changesOf
+    rescue-kind-3 = told-3 own
+
+    -- "Kind 4 is, for each cell whole in the answer and nowhere named whole, the first letter or digit standing for it."
+    pub rescue-kind-4 : (p : ℕ) → Mem (at p 4) (changesOf t) ↔ ((x : Item) × Mem x letters × (x .place ≡ p) × FirstFor nodes x)
+    unfolding changesOf
+    rescue-kind-4 = told-4 nodes
+
+    pub rescue-each-4 :
+        (q : Name) → Mem q (names (answer nodes)) → (Mem q (names nodes) → ⊥) →
+        (x : Item) × Mem x letters × (x .name ≡ q) × Mem (at (x .place) 4) (changesOf t)
+    unfolding changesOf
+    rescue-each-4 = each-4 nodes (own .loose)
 
     no-length : (l : List Change) → length l ≡ 0 → l ≡ []
     no-length [] h = refl

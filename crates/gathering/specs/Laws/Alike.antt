@@ -47,11 +47,11 @@ module _ (k : ℕ) (h : k ≤ 15) where
   abbrev z : ℕ
   z = 9 ^ (15 - k)
 
-  start-of : (m : ℕ) → m < 6 * 9 ^ k → startOf (cellAs k m) ≡ m * z
+  pub start-of : (m : ℕ) → m < 6 * 9 ^ k → startOf (cellAs k m) ≡ m * z
   unfolding startAs
   start-of m l = as-start k m h l
 
-  end-of : (m : ℕ) → m < 6 * 9 ^ k → endOf (cellAs k m) ≡ suc m * z
+  pub end-of : (m : ℕ) → m < 6 * 9 ^ k → endOf (cellAs k m) ≡ suc m * z
   unfolding endOf sizeOf
   end-of m l =
       let e : 9 ^ (15 - cellAs k m .resolution) ≡ z = ap (λ (i : ℕ). 9 ^ (15 - i)) (as-fine k m h l) in

@@ -3,35 +3,32 @@ use mathlib.Core.Path.{_≡_, refl, sym, ap, ap₂, _∙_, subst}
 use mathlib.Core.Bool.{Bool, true, false, _&&_, not}
 use mathlib.Core.List.{List, [], _∷_, _++_, map, map-append, append-assoc, append-nil}
 use Prim.Native.Nat.{ℕ, zero, suc, _+_, _-_, _*_, _/_, _%_, _^_, _≤_, _<_}
-use native.Mathlib.Nat.{pow-suc, suc-mul, mul-le-mul-right}
+use native.Mathlib.Nat.{pow-suc}
 use native.Mathlib.Omega.{arith}
 use lib.Dec.{eqb, ltb}
 use lib.ListN.{length, take, getD}
 use lib.Seq.{length-take-le, take-all, take-suc, take-take}
 use borrow.Author.Tests.{ltb-true, eqb-true, eq-eqb}
-use Rattle.logic.specs.Lists.{All}
 use Rattle.logic.specs.Laws.Lists.{all-append}
 use Rattle.logic.specs.Laws.Bools.{and-left, and-right, by-cond}
 use Rattle.logic.specs.Refusal.{refuse, _otherwise_}
 use Rattle.cell.specs.declared.Cell.{Cell}
 use Rattle.cell.specs.declared.Arrangement.{Arrangement}
 use Rattle.cell.specs.Cell.{IsCell, IsArrangement, arrangementRefusal}
-use Rattle.code.specs.Code.{cellOf, cellCode, pathOf, isCode, isOf, arrangementOf, codeOf}
-use Rattle.code.specs.Inside.{Inside, endOf}
+use Rattle.code.specs.Code.{cellOf, isCode, isOf, arrangementOf, codeOf}
 use Rattle.code.specs.Number.{numberOf, codeAs, cellCodeAs, cellAs}
-use Rattle.code.specs.Laws.Code.{path-small, cell-code, code-is-cell, north-part, south-part}
+use Rattle.code.specs.Laws.Code.{cell-code, code-is-cell, north-part, south-part}
 use Rattle.code.specs.Laws.Number.{code-as, as-code, as-cell}
 use Rattle.reading.specs.declared.Profile.{Profile}
 use Rattle.reading.specs.Reading.{Nodes, render}
-use Rattle.reading.specs.Ground.{Cells, Rising, Apart}
 use Rattle.reading.specs.Text.{levelOf, depthOf, heading}
 use Rattle.reading.specs.Written.{nodesFor, writtenText, fitting}
-use Rattle.reading.specs.Laws.Rising.{code-before, apart-before}
 use Rattle.reading.specs.Laws.Written.{one-nodes}
-use Rattle.writing.specs.Write.{allCodes, allOf, ordered, codesRefusal, asksFor, isVersion, textOf, fitRefusal, writeRefusal, Earlier, InTurn}
-use Rattle.writing.specs.Laws.List.{codes-cells, in-turn, list-good, tested}
+use Rattle.writing.specs.Write.{allCodes, allOf, ordered, codesRefusal, asksFor, isVersion, textOf, fitRefusal, writeRefusal, InTurn}
+use Rattle.writing.specs.Laws.List.{codes-cells, in-turn, in-turn-list, list-good, tested}
 use Rattle.gathering.specs.Gather.{follows, merges, gatheredAs, gathered}
 use Rattle.gathering.specs.Laws.Alike.{Alike, alike-same, alike-then, run, alike-parent}
+use Rattle.gathering.specs.Laws.Bare.{Own, Bare, turn-put, bare-take, bare-put, number-small}
 
 -- ---- siblings at the end of a list
 
@@ -115,18 +112,9 @@ pub number-down : (k n : ℕ) → 0 < k → n < 6 * 9 ^ k → n / 9 < 6 * 9 ^ (k
 number-down zero n h l = absurd (omega arith)
 number-down (suc k) n h l = let f : suc k - 1 ≡ k = omega arith in rw f (number-under k n l)
 
-pub number-small : (c : Cell) → IsCell c → numberOf c < 6 * 9 ^ c .resolution
-unfolding numberOf
-number-small c v =
-    let m : suc (c .face) * 9 ^ c .resolution ≤ 6 * 9 ^ c .resolution = mul-le-mul-right {m = suc (c .face)} {n = 6} (9 ^ c .resolution) (omega (arith, v .faced)) in
-    omega (arith, path-small c, suc-mul (c .face) (9 ^ c .resolution))
-
 -- ---- codes of one arrangement
 
-abbrev pub Own : Arrangement → List ℕ → Type 0
-Own a xs = All (λ (c : ℕ). (isCode c ≡ true) × (isOf a c ≡ true)) xs
-
-own-codes : (a : Arrangement) (xs : List ℕ) → Own a xs → allCodes xs ≡ true
+pub own-codes : (a : Arrangement) (xs : List ℕ) → Own a xs → allCodes xs ≡ true
 unfolding allCodes
 own-codes a [] o = refl
 own-codes a (c ∷ xs) o = ap₂ _&&_ (o .0 .0) (own-codes a xs (o .1))
@@ -206,15 +194,29 @@ module _ {a : Arrangement} (g : IsArrangement a) where
       (gathered-alike k (n / 9) (take (length xs - 8) xs) zs (omega arith) (down k n xs zs h l e)))
       (λ e. stays (suc k) n xs zs h l)
 
+  -- nine siblings are merged, so that no nine are held, where the cells come in turn
+  put-turn : (k n : ℕ) (xs : List ℕ) → k ≤ 15 → n < 6 * 9 ^ k → InTurn (map cellOf xs ++ (cellAs k n ∷ [])) → InTurn (map cellOf (xs ++ (codeAs a k n ∷ [])))
+  put-turn k n xs h l t = subst InTurn (sym (map-put k n xs [] h l) ∙ append-nil (map cellOf (xs ++ (codeAs a k n ∷ [])))) t
+
+  gathered-bare : (k n : ℕ) (xs : List ℕ) → k ≤ 15 → n < 6 * 9 ^ k → InTurn (map cellOf xs ++ (cellAs k n ∷ [])) → Bare a xs → Bare a (gatheredAs a k n xs)
+  unfolding gatheredAs merges
+  gathered-bare zero n xs h l t b = bare-put g xs zero n h (put-turn zero n xs h l t) refl b
+  gathered-bare (suc k) n xs h l t b =
+      by-cond (Bare a) (merges a (suc k) n xs)
+      (λ e.
+      gathered-bare k (n / 9) (take (length xs - 8) xs) (omega arith) (down k n xs [] h l e) (merged k n xs [] h l e .to t) (bare-take a (length xs - 8) xs b))
+      (λ e. bare-put g xs (suc k) n h (put-turn (suc k) n xs h l t) e b)
+
 -- ---- all that came, and what is held of it
 
 pub record Holds (a : Arrangement) (codes held : List ℕ) : Type 0 where
   pub came : Own a codes
   pub kept : Own a held
   pub alike : (zs : List Cell) → Alike (map cellOf codes ++ zs) (map cellOf held ++ zs)
+  pub bare : InTurn (map cellOf codes) → Bare a held
 
 pub holds-none : (a : Arrangement) → Holds a [] []
-holds-none a = record { came = tt; kept = tt; alike = λ zs. alike-same zs }
+holds-none a = record { came = tt; kept = tt; alike = λ zs. alike-same zs; bare = λ t k m h l f. f 0 (omega arith) }
 
 pub holds-more :
     {a : Arrangement} → IsArrangement a → (code : ℕ) (codes held : List ℕ) → isCode code ≡ true → isOf a code ≡ true → Holds a codes held →
@@ -227,6 +229,7 @@ holds-more {a} g code codes held i o p =
           subst (λ (y : List Cell). Alike y (map cellOf (gathered a code held) ++ zs)) (sym (put zs))
           (alike-then (map cellOf codes ++ (cellOf code ∷ zs)) (map cellOf held ++ (cellOf code ∷ zs)) (map cellOf (gathered a code held) ++ zs) (p .alike (cellOf code ∷ zs))
           (subst (λ (x : Cell). Alike (map cellOf held ++ (x ∷ zs)) (map cellOf (gathered a code held) ++ zs)) is (gathered-alike g k n held zs (v .fine) small)));
+      bare = λ t. gathered-bare g k n held (v .fine) small (comes t) (p .bare (turn-put codes code t .0));
     }
   where
     k : ℕ
@@ -248,21 +251,11 @@ holds-more {a} g code codes held i o p =
     put : (zs : List Cell) → map cellOf (codes ++ (code ∷ [])) ++ zs ≡ map cellOf codes ++ (cellOf code ∷ zs)
     put zs = ap (λ (x : List Cell). x ++ zs) (map-append cellOf codes (code ∷ [])) ∙ append-assoc (map cellOf codes) (cellOf code ∷ []) zs
 
+    comes : InTurn (map cellOf (codes ++ (code ∷ []))) → InTurn (map cellOf held ++ (cellAs (cellOf code .resolution) (numberOf (cellOf code)) ∷ []))
+    comes t =
+        subst (λ (x : Cell). InTurn (map cellOf held ++ (x ∷ []))) (sym is) (p .alike (cellOf code ∷ []) .to (subst InTurn (map-append cellOf codes (code ∷ [])) t))
+
 -- ---- so they are written alike
-
-turn-rising : (c : Cell) (xs : List Cell) → IsCell c → Cells xs → Earlier (endOf c) xs → All (λ (x : Cell). cellCode c < cellCode x) xs
-turn-rising c [] v k e = tt
-turn-rising c (x ∷ xs) v k e = (code-before c x v (k .0) (e .0), turn-rising c xs v (k .1) (e .1))
-
-turn-apart : (c : Cell) (xs : List Cell) → IsCell c → Cells xs → Earlier (endOf c) xs → All (λ (x : Cell). (Inside c x → ⊥) × (Inside x c → ⊥)) xs
-turn-apart c [] v k e = tt
-turn-apart c (x ∷ xs) v k e = (apart-before c x v (k .0) (e .0), turn-apart c xs v (k .1) (e .1))
-
-turn-list : (xs : List Cell) → Cells xs → InTurn xs → Rising xs × Apart xs
-turn-list [] k t = (tt, tt)
-turn-list (c ∷ xs) k t =
-    let r = turn-list xs (k .1) (t .1) in
-    ((turn-rising c xs (k .0) (k .1) (t .0), r .0), (turn-apart c xs (k .0) (k .1) (t .0), r .1))
 
 -- of codes of one arrangement
 abbrev said : Bool → ℕ
@@ -276,7 +269,7 @@ module _ {a : Arrangement} {codes held : List ℕ} (p : Holds a codes held) wher
 
   good : (xs ys : List ℕ) → Own a ys → (InTurn (map cellOf xs) → InTurn (map cellOf ys)) → codesRefusal a xs ≡ 0 → codesRefusal a ys ≡ 0
   good xs ys o f e =
-      let r = turn-list (map cellOf ys) (codes-cells ys (own-codes a ys o)) (f (in-turn a xs e)) in
+      let r = in-turn-list (map cellOf ys) (codes-cells ys (own-codes a ys o)) (f (in-turn a xs e)) in
       list-good a ys (record { coded = own-codes a ys o; own = own-all a ys o; rising = r .0; apart = r .1 })
 
   -- 11 for the one exactly where it is 11 for the other

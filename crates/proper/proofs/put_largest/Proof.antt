@@ -9,7 +9,8 @@ use Rattle.sorting.specs.Sorted.{sorted}
 use Rattle.proper.specs.Wholes.{looseCodes}
 use Rattle.proper.specs.Laws.Thin.{coded-all}
 use Rattle.proper.specs.Laws.Thinned.{codes-sorted}
-use Rattle.proper.specs.Internal.Largest.{put-length, put-fits, sorted-fits, sorted-coded, thinned-front}
+use Rattle.proper.specs.Laws.Front.{put-length, put-fits}
+use Rattle.proper.specs.Internal.Largest.{sorted-fits, sorted-coded, thinned-front}
 use Rattle.proper.proofs.put_largest.Statement.{statement}
 use Rattle.proper.proofs.put_largest.Tie as tie
 

@@ -4,26 +4,18 @@ use mathlib.Core.Bool.{Bool, true, _&&_}
 use mathlib.Core.List.{List, [], _∷_, _++_}
 use Prim.Native.Nat.{ℕ, _+_, _^_, _≤_, _<_}
 use native.Mathlib.Omega.{arith}
-use lib.ListN.{length, take, drop, length-append, length-drop}
+use lib.ListN.{length, take, drop, length-append}
 use lib.Seq.{take-at, take-append-seam}
 use Rattle.writing.specs.Write.{allCodes}
 use Rattle.sorting.specs.Sorted.{sorted}
-use Rattle.sorting.specs.Internal.Merge.{sorted-length}
+use Rattle.sorting.specs.Laws.Sorted.{sorted-length}
 use Rattle.proper.specs.Thin.{thinned}
+use Rattle.proper.specs.Laws.Front.{put-front}
 
 module _ (l codes₀ codes₁ : List ℕ) (count : ℕ) (n : count ≡ length l) (r : length l ≤ length codes₀) (e : codes₁ ≡ l ++ drop (length l) codes₀) where
-  pub put-length : length codes₁ ≡ length codes₀
-  put-length = ap length e ∙ length-append l (drop (length l) codes₀) ∙ omega (arith, length-drop (length l) codes₀)
-
-  pub put-fits : count ≤ length codes₁
-  put-fits = omega (arith, put-length)
-
-  pub put-front : take count codes₁ ≡ l
-  put-front = ap (take count) e ∙ take-at l (drop (length l) codes₀) count (sym n)
-
   module _ (s : List ℕ) (f : s ≡ sorted (take count codes₁)) where
     sorted-is : s ≡ sorted l
-    sorted-is = f ∙ ap sorted put-front
+    sorted-is = f ∙ ap sorted (put-front l codes₀ codes₁ count n r e)
 
     sorted-long : length s ≡ count
     sorted-long = ap length sorted-is ∙ sorted-length l ∙ sym n

@@ -26,8 +26,8 @@ use Rattle.proper.specs.Proper.{answer}
 use Rattle.proper.specs.Changes.{Item, Change, isEnd, items, same, larger, any, has, names-whole, names-larger, stands-for, kind-1, kind-2, kind-3, kind-4, when, changesAt, changesFrom, changes}
 use Rattle.logic.specs.Lists.{Mem}
 use Rattle.logic.specs.Laws.Lists.{mem-all}
-use Rattle.proper.specs.Internal.Lists.{IMem, same-true, same-self, larger-below, imem-left, imem-right, imem-or, mem-left, mem-right, mem-or, mem-map, map-mem, covered-mem}
-use Rattle.proper.specs.Internal.Lists.{any-some, some-any, has-mem, mem-has, none-left, when-none}
+use Rattle.proper.specs.Laws.Lists.{IMem, same-true, same-self, larger-below, imem-left, imem-right, imem-or, mem-left, mem-right, mem-or, mem-map, map-mem, covered-mem}
+use Rattle.proper.specs.Laws.Lists.{any-some, some-any, has-mem, mem-has, none-left, when-none}
 
 -- ---- nothing is changed at an item
 

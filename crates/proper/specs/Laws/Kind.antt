@@ -22,7 +22,7 @@ use Rattle.proper.specs.Proper.{answer}
 use Rattle.proper.specs.Changes.{Item, items, same, larger, any, has, names-whole, names-larger, stands-for, kind-1, kind-4}
 use Rattle.logic.specs.Lists.{Mem}
 use Rattle.logic.specs.Laws.Lists.{mem-all}
-use Rattle.proper.specs.Internal.Lists.{IMem, same-true, same-self, covered-mem, any-some, some-any, has-mem, mem-has}
+use Rattle.proper.specs.Laws.Lists.{IMem, same-true, same-self, covered-mem, any-some, some-any, has-mem, mem-has}
 use Rattle.proper.specs.Laws.Change.{own-name, name-own}
 
 -- the whole cells that lie in no other whole cell
@@ -31,25 +31,25 @@ pub record Largest (ms ns : List Name) : Type 0 where
   pub holds : (q : Name) → Mem q ns → (m : Name) × Mem m ms × Prefix m q
   pub apart : (m q : Name) → Mem m ms → Mem q ms → Prefix m q → m ≡ q
 
-larger-prefix : (q p : Name) → larger q p ≡ true → Prefix q p × (Prefix p q → ⊥)
+pub larger-prefix : (q p : Name) → larger q p ≡ true → Prefix q p × (Prefix p q → ⊥)
 unfolding larger
 larger-prefix [] [] e = clash (sym e)
 larger-prefix [] (b ∷ p) e = (tt, (λ h. h))
 larger-prefix (a ∷ q) [] e = clash (sym e)
 larger-prefix (a ∷ q) (b ∷ p) e = let k = larger-prefix q p (and-right (eqb a b) _ e) in ((eqb-true a b (and-left (eqb a b) _ e), k .0), (λ h. k .1 (h .1)))
 
-prefix-larger : (q p : Name) → Prefix q p → (q ≡ p → ⊥) → larger q p ≡ true
+pub prefix-larger : (q p : Name) → Prefix q p → (q ≡ p → ⊥) → larger q p ≡ true
 unfolding larger
 prefix-larger [] [] h n = absurd (n refl)
 prefix-larger [] (b ∷ p) h n = refl
 prefix-larger (a ∷ q) [] h n = absurd h
 prefix-larger (a ∷ q) (b ∷ p) h n = rw (eq-eqb a b (h .0)) (prefix-larger q p (h .1) (λ e. n (ap₂ _∷_ (h .0) e)))
 
-prefix-self : (q : Name) → Prefix q q
+pub prefix-self : (q : Name) → Prefix q q
 prefix-self [] = tt
 prefix-self (a ∷ q) = (refl, prefix-self q)
 
-prefix-both : (w q : Name) → Prefix w q → Prefix q w → w ≡ q
+pub prefix-both : (w q : Name) → Prefix w q → Prefix q w → w ≡ q
 prefix-both [] [] h k = refl
 prefix-both [] (b ∷ q) h k = absurd k
 prefix-both (a ∷ w) [] h k = absurd h

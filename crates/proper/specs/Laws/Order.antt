@@ -6,13 +6,15 @@ use mathlib.Core.List.{List, [], _∷_, _++_}
 use Prim.Native.Nat.{ℕ, suc, _+_, _≤_, _<_}
 use native.Mathlib.Omega.{arith}
 use lib.ListN.{length, length-append}
+use Rattle.logic.specs.Lists.{Mem}
 use Rattle.logic.specs.Laws.Bools.{clash}
+use Rattle.logic.specs.Laws.Lists.{any-or}
 use Rattle.reading.specs.declared.Level.the-variants.{Digits}
 use Rattle.reading.specs.Reading.{Nodes, end, whole, listed, render, names}
 use Rattle.reading.specs.Prefix.{Name}
 use Rattle.proper.specs.Proper.{answer}
 use Rattle.proper.specs.Changes.{Item, Change, isEnd, items, kind-1, kind-2, kind-3, kind-4, when, changesAt, changesFrom, changes}
-use Rattle.proper.specs.Internal.Lists.{IMem, imem-or}
+use Rattle.proper.specs.Laws.Lists.{IMem, imem-or}
 
 -- ---- where items stand
 
@@ -40,10 +42,10 @@ items-within (listed c is ns) p w lo e (inr m) =
     (imem-or e (items (p + 2) (w ++ (c ∷ [])) 0 is) _ m)
 
 -- each stands before all that come later
-abbrev Ahead : Item → Item → Type 0
+abbrev pub Ahead : Item → Item → Type 0
 Ahead e y = (e .place + 1 ≤ y .place) × (e .void ≡ true → e .place + 2 ≤ y .place)
 
-abbrev Spaced : List Item → Type 0
+abbrev pub Spaced : List Item → Type 0
 Spaced [] = Unit {0}
 Spaced (e ∷ es) = ((y : Item) → IMem y es → Ahead e y) × Spaced es
 
@@ -52,7 +54,7 @@ spaced-append [] b g h f = h
 spaced-append (x ∷ a) b g h f =
     ((λ y m. ⊎-elim (λ k. g .0 y k) (λ k. f x y (inl refl) k) (imem-or y a b m)), spaced-append a b (g .1) h (λ z y m n. f z y (inr m) n))
 
-items-spaced : (ns : Nodes) (p : ℕ) (w : Name) (lo : ℕ) → Spaced (items p w lo ns)
+pub items-spaced : (ns : Nodes) (p : ℕ) (w : Name) (lo : ℕ) → Spaced (items p w lo ns)
 items-spaced end p w lo = tt
 items-spaced (whole c ns) p w lo = (
   (λ y m. let k = items-within ns (p + 1) w (suc c) y m in (k .0, (λ v. clash (sym v)))),
@@ -77,29 +79,23 @@ items-spaced (listed c is ns) p w lo = (
 abbrev pub Before : Change → Change → Type 0
 Before x y = (x .place < y .place) ⊎ ((x .place ≡ y .place) × (x .kind < y .kind))
 
-abbrev CMem : Change → List Change → Type 0
-CMem x [] = ⊥
-CMem x (y ∷ ys) = (y ≡ x) ⊎ CMem x ys
-
 abbrev pub InOrder : List Change → Type 0
 InOrder [] = Unit {0}
-InOrder (x ∷ xs) = ((y : Change) → CMem y xs → Before x y) × InOrder xs
+InOrder (x ∷ xs) = ((y : Change) → Mem y xs → Before x y) × InOrder xs
 
-cmem-or : (x : Change) (a b : List Change) → CMem x (a ++ b) → CMem x a ⊎ CMem x b
-cmem-or x [] b h = inr h
-cmem-or x (y ∷ a) b (inl h) = inl (inl h)
-cmem-or x (y ∷ a) b (inr h) = ⊎-elim (λ k. inl (inr k)) (λ k. inr k) (cmem-or x a b h)
+mem-or : (x : Change) (a b : List Change) → Mem x (a ++ b) → Mem x a ⊎ Mem x b
+mem-or x a b = any-or (λ (y : Change). y ≡ x) a b
 
-order-append : (a b : List Change) → InOrder a → InOrder b → ((x y : Change) → CMem x a → CMem y b → Before x y) → InOrder (a ++ b)
+order-append : (a b : List Change) → InOrder a → InOrder b → ((x y : Change) → Mem x a → Mem y b → Before x y) → InOrder (a ++ b)
 order-append [] b g h f = h
 order-append (x ∷ a) b g h f =
-    ((λ y m. ⊎-elim (λ k. g .0 y k) (λ k. f x y (inl refl) k) (cmem-or y a b m)), order-append a b (g .1) h (λ z y m n. f z y (inr m) n))
+    ((λ y m. ⊎-elim (λ k. g .0 y k) (λ k. f x y (inl refl) k) (mem-or y a b m)), order-append a b (g .1) h (λ z y m n. f z y (inr m) n))
 
 when-order : (t : Bool) (x : Change) → InOrder (when t x)
 when-order true x = ((λ y m. absurd m), tt)
 when-order false x = tt
 
-when-mem : (t : Bool) (x y : Change) → CMem y (when t x) → (t ≡ true) × (x ≡ y)
+pub when-mem : (t : Bool) (x y : Change) → Mem y (when t x) → (t ≡ true) × (x ≡ y)
 when-mem true x y (inl m) = (refl, m)
 when-mem true x y (inr m) = absurd m
 when-mem false x y m = absurd m
@@ -108,7 +104,7 @@ when-mem false x y m = absurd m
 abbrev At : Item → ℕ → Change → Type 0
 At e k y = ((y .place ≡ e .place) × (k ≤ y .kind)) ⊎ ((y .place ≡ e .place + 1) × (e .void ≡ true))
 
-one-at : (e : Item) (t : Bool) (k : ℕ) (y : Change) → CMem y (when t (record { place = e .place; kind = k })) → (y .place ≡ e .place) × (y .kind ≡ k)
+one-at : (e : Item) (t : Bool) (k : ℕ) (y : Change) → Mem y (when t (record { place = e .place; kind = k })) → (y .place ≡ e .place) × (y .kind ≡ k)
 one-at e t k y m = let h = when-mem t _ y m in (ap (λ (x : Change). x .place) (sym (h .1)), ap (λ (x : Change). x .kind) (sym (h .1)))
 
 module _ (e : Item) (a b c d : Bool) (v : d ≡ true → e .void ≡ true) where
@@ -123,21 +119,21 @@ module _ (e : Item) (a b c d : Bool) (v : d ≡ true → e .void ≡ true) where
   unfolding third
   second = when b (record { place = e .place; kind = 2 }) ++ third
 
-  last-at : (y : Change) → CMem y last → At e 4 y
+  last-at : (y : Change) → Mem y last → At e 4 y
   unfolding last
   last-at y m = let h = when-mem d _ y m in inr (ap (λ (x : Change). x .place) (sym (h .1)), v (h .0))
 
-  third-at : (y : Change) → CMem y third → At e 4 y
+  third-at : (y : Change) → Mem y third → At e 4 y
   unfolding third
   third-at y m =
-      ⊎-elim (λ k. let h = one-at e c 4 y k in inl (h .0, omega (arith, h .1))) (λ k. last-at y k) (cmem-or y (when c (record { place = e .place; kind = 4 })) last m)
+      ⊎-elim (λ k. let h = one-at e c 4 y k in inl (h .0, omega (arith, h .1))) (λ k. last-at y k) (mem-or y (when c (record { place = e .place; kind = 4 })) last m)
 
-  second-at : (y : Change) → CMem y second → At e 2 y
+  second-at : (y : Change) → Mem y second → At e 2 y
   unfolding second
   second-at y m =
       ⊎-elim (λ k. let h = one-at e b 2 y k in inl (h .0, omega (arith, h .1)))
       (λ k. ⊎-elim (λ h. inl (h .0, omega (arith, h .1))) (λ h. inr h) (third-at y k))
-      (cmem-or y (when b (record { place = e .place; kind = 2 })) third m)
+      (mem-or y (when b (record { place = e .place; kind = 2 })) third m)
 
   before : (k : ℕ) (x y : Change) → (x .place ≡ e .place) × (x .kind ≡ k) → At e (suc k) y → Before x y
   before k x y h (inl g) = inr (h .0 ∙ sym (g .0), omega (arith, h .1, g .1))
@@ -160,22 +156,22 @@ module _ (e : Item) (a b c d : Bool) (v : d ≡ true → e .void ≡ true) where
       order-append (when a (record { place = e .place; kind = 1 })) second (when-order a _) second-order
       (λ x y m n. before 1 x y (one-at e a 1 x m) (second-at y n))
 
-  all-at : (y : Change) → CMem y (when a (record { place = e .place; kind = 1 }) ++ second) → At e 1 y
+  all-at : (y : Change) → Mem y (when a (record { place = e .place; kind = 1 }) ++ second) → At e 1 y
   all-at y m =
       ⊎-elim (λ k. let h = one-at e a 1 y k in inl (h .0, omega (arith, h .1)))
       (λ k. ⊎-elim (λ h. inl (h .0, omega (arith, h .1))) (λ h. inr h) (second-at y k))
-      (cmem-or y (when a (record { place = e .place; kind = 1 })) second m)
+      (mem-or y (when a (record { place = e .place; kind = 1 })) second m)
 
 module _ (cells : List Name) (all : List Item) where
   at-order : (earlier : List Item) (e : Item) → InOrder (changesAt cells all earlier e)
   unfolding second third last
   at-order earlier e = all-order e (kind-1 all earlier e) (kind-2 e) (kind-4 cells all earlier e) (kind-3 e) (λ h. h)
 
-  at-place : (earlier : List Item) (e : Item) (y : Change) → CMem y (changesAt cells all earlier e) → At e 1 y
+  at-place : (earlier : List Item) (e : Item) (y : Change) → Mem y (changesAt cells all earlier e) → At e 1 y
   unfolding second third last
   at-place earlier e = all-at e (kind-1 all earlier e) (kind-2 e) (kind-4 cells all earlier e) (kind-3 e) (λ h. h)
 
-  later-place : (es earlier : List Item) (e : Item) → ((y : Item) → IMem y es → Ahead e y) → (x y : Change) → At e 1 x → CMem y (changesFrom cells all earlier es) → x .place < y .place
+  later-place : (es earlier : List Item) (e : Item) → ((y : Item) → IMem y es → Ahead e y) → (x y : Change) → At e 1 x → Mem y (changesFrom cells all earlier es) → x .place < y .place
   unfolding changesFrom
   later-place [] earlier e f x y h m = absurd m
   later-place (i ∷ es) earlier e f x y h m =
@@ -186,7 +182,7 @@ module _ (cells : List Name) (all : List Item) where
       (λ p. ⊎-elim (λ q. omega (arith, p .0, q .0, g .0)) (λ q. omega (arith, p .0, q .0, g .1 (q .1))) h)
       (at-place earlier i y k))
       (λ k. later-place es (i ∷ earlier) e (λ z n. f z (inr n)) x y h k)
-      (cmem-or y (changesAt cells all earlier i) (changesFrom cells all (i ∷ earlier) es) m)
+      (mem-or y (changesAt cells all earlier i) (changesFrom cells all (i ∷ earlier) es) m)
 
   from-order : (es earlier : List Item) → Spaced es → InOrder (changesFrom cells all earlier es)
   unfolding changesFrom

@@ -23,7 +23,7 @@ use Rattle.reading.specs.Loose.{Loose}
 use Rattle.proper.specs.Proper.{answer, rescued}
 use Rattle.proper.specs.Changes.{Item, Change, isEnd, items, same, larger, any, has, names-whole, names-larger, stands-for, kind-1, kind-2, kind-3, kind-4, when, changesAt, changesFrom, changes}
 use Rattle.logic.specs.Lists.{Mem}
-use Rattle.proper.specs.Internal.Lists.{IMem, same-true, same-self, imem-left, imem-right, imem-or, any-some, some-any, has-mem, mem-has}
+use Rattle.proper.specs.Laws.Lists.{IMem, same-true, same-self, imem-left, imem-right, imem-or, any-some, some-any, has-mem, mem-has}
 use Rattle.proper.specs.Laws.Change.{own-name, name-own, empty-proper}
 
 -- ---- the answer of a proper reading is itself

@@ -6,7 +6,7 @@ use lib.ListN.{length, take, drop, length-drop}
 use lib.Seq.{length-take-le, take-all}
 use Rattle.loose.specs.Laws.Look.{loose-own, loose-short}
 use Rattle.proper.specs.Laws.Text.{loose-body, loose-long, codes-fit, take-fits}
-use Rattle.proper.specs.Internal.Largest.{put-fits, put-front}
+use Rattle.proper.specs.Laws.Front.{put-fits, put-front}
 use Rattle.proper.specs.Wholes.{looseCodes}
 use Rattle.rescue.specs.Internal.Joint.{arranged, made-ready, made-codes, mark-ready, marked}
 use native.Mathlib.Omega.{arith}

@@ -7,8 +7,7 @@ use lib.Seq.{length-take-le}
 use Rattle.loose.specs.Laws.Look.{loose-own, loose-short}
 use Rattle.proper.specs.Changes.{Change}
 use Rattle.proper.specs.Laws.Text.{loose-long}
-use Rattle.rescue.specs.Marks.{flat}
-use Rattle.rescue.specs.Rescue.{RescueIs}
+use Rattle.rescue.specs.Rescue.{flat, RescueIs}
 use Rattle.rescue.specs.Internal.Joint.{zeros-made, no-text-room, no-list-room, rescued-is, take-room, flat-room}
 use native.Mathlib.Omega.{arith}
 use borrow.Author.Needs.{needs}

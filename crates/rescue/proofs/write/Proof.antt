@@ -4,7 +4,8 @@ use borrow.Author.Needs.{needs}
 use mathlib.Core.Path.{_≡_, refl, _∙_}
 use Prim.Native.Nat.{_-_, _≤_, _<_}
 use lib.ListN.{length}
-use Rattle.rescue.specs.Marks.{changesIn, flat}
+use Rattle.rescue.specs.Internal.Marks.{changesIn}
+use Rattle.rescue.specs.Rescue.{flat}
 use Rattle.rescue.specs.Internal.Marking.{Wrote, leftAt, left-begin, left-room, left-step, left-done}
 use Rattle.rescue.proofs.write.Statement.{statement}
 use Rattle.rescue.proofs.write.Tie as tie

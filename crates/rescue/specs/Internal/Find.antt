@@ -30,7 +30,7 @@ use Rattle.loose.specs.LooseText.{LooseBody}
 use Rattle.loose.specs.LooseScan.{looseNodes}
 use Rattle.proper.specs.Proper.{answer}
 use Rattle.proper.specs.Changes.{Item, Change, items, same, any, has, names-whole, stands-for, kind-1, kind-4, changesFrom, changes}
-use Rattle.proper.specs.Internal.Lists.{IMem, same-true, same-self}
+use Rattle.proper.specs.Laws.Lists.{IMem, same-true, same-self}
 use Rattle.proper.specs.Laws.Kind.{first-kind, fourth-kind}
 use Rattle.proper.specs.Laws.Left.{nameIn, left-largest}
 use Rattle.proper.specs.Laws.Proper.{answer-good}
@@ -38,7 +38,7 @@ use Rattle.proper.specs.Thin.{thinned, Coded}
 use Rattle.proper.specs.Laws.Thin.{thinned-coded, thinned-good}
 use Rattle.proper.specs.Laws.Thinned.{codes-sorted}
 use Rattle.proper.specs.Wholes.{looseCodes}
-use Rattle.rescue.specs.Marks.{hasCode, standing, firstKind, fourthKind, metOwn, masks, changesIn, codeNamed, itemChanges, tested}
+use Rattle.rescue.specs.Internal.Marks.{hasCode, standing, firstKind, fourthKind, metOwn, masks, changesIn, codeNamed, itemChanges, tested}
 use Rattle.rescue.specs.Internal.Mark.{name-more, marks-tested}
 
 -- ---- names and codes

@@ -28,7 +28,7 @@ use Rattle.writing.specs.declared.Written.{Written}
 use Rattle.writing.specs.declared.Written.the-variants as written-as
 use Rattle.writing.specs.Write.{written}
 use Rattle.sorting.specs.Sorted.{sorted}
-use Rattle.sorting.specs.Internal.Merge.{sorted-length}
+use Rattle.sorting.specs.Laws.Sorted.{sorted-length}
 use Rattle.loose.specs.LooseText.{LooseBody}
 use Rattle.loose.specs.LooseScan.{looseNodes}
 use Rattle.loose.specs.Laws.Reading.{loose-nodes}
@@ -45,10 +45,10 @@ use Rattle.proper.specs.Thin.{thinned}
 use Rattle.proper.specs.Wholes.{looseCodes}
 use Rattle.rescue.specs.declared.Rescued.{Rescued}
 use Rattle.rescue.specs.declared.Rescued.the-variants.{Done, Refused}
-use Rattle.rescue.specs.Marks.{hasCode, bit, Seen, masks, changesIn, flat}
-use Rattle.rescue.specs.Internal.Marking.{flat-length}
+use Rattle.rescue.specs.Internal.Marks.{hasCode, bit, Seen, masks, changesIn, Zeros}
+use Rattle.rescue.specs.Laws.Flat.{flat-length}
 use Rattle.rescue.specs.Internal.Find.{largest, answers, marks-changes, largest-rise, answers-rise}
-use Rattle.rescue.specs.Rescue.{Zeros, changesOf, rescueRefusal, told, RescueIs}
+use Rattle.rescue.specs.Rescue.{flat, changesOf, rescueRefusal, told, RescueIs}
 
 pub zeros-seen : (keys seen : List ℕ) → Zeros seen → Seen keys [] seen
 unfolding hasCode

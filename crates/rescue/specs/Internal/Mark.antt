@@ -26,7 +26,7 @@ use Rattle.walk.specs.Laws.Walk.{opens-nodes, not-open, not-shut, below-nine, a
 use Rattle.reading.specs.Loose.{Loose}
 use Rattle.listing.specs.Laws.List.{spotCode}
 use Rattle.proper.specs.Changes.{Item, Change, when, isEnd, items}
-use Rattle.rescue.specs.Marks.{firstKind, fourthKind, lateAt, shuts, maskOf, metOwn, masks, kindsAt, changesIn, codeNamed, itemChanges, tested, ownAfter, allAfter}
+use Rattle.rescue.specs.Internal.Marks.{firstKind, fourthKind, lateAt, shuts, maskOf, metOwn, masks, kindsAt, changesIn, codeNamed, itemChanges, tested, ownAfter, allAfter}
 
 -- ---- the number of one byte
 

@@ -15,7 +15,8 @@ use Rattle.walk.specs.Walk.{origin, after, wholeAt, Walks}
 use Rattle.walk.specs.Laws.Walk.{walks-on, byte-at}
 use Rattle.listing.specs.Laws.List.{spotCode}
 use Rattle.proper.specs.Changes.{Change, when}
-use Rattle.rescue.specs.Marks.{bit, Seen, firstKind, fourthKind, lateAt, shuts, maskOf, metOwn, masks, kindsAt, changesIn, flat}
+use Rattle.rescue.specs.Internal.Marks.{bit, Seen, firstKind, fourthKind, lateAt, shuts, maskOf, metOwn, masks, kindsAt, changesIn}
+use Rattle.rescue.specs.Rescue.{flat}
 use Rattle.rescue.specs.Internal.Note.{FirstIs, FourthIs, kinds-length}
 
 -- what holds before the byte at i
@@ -172,11 +173,6 @@ flat-append : (a b : List Change) → flat (a ++ b) ≡ flat a ++ flat b
 unfolding flat
 flat-append [] b = refl
 flat-append (x ∷ a) b = ap (λ (l : List ℕ). x .place ∷ x .kind ∷ l) (flat-append a b)
-
-pub flat-length : (a : List Change) → length (flat a) ≡ length a * 2
-unfolding flat
-flat-length [] = refl
-flat-length (x ∷ a) = let k = flat-length a in omega arith
 
 pub two-set : (out : List ℕ) (n x y : ℕ) → n + 2 ≤ length out → set (set out n x) (n + 1) y ≡ take n out ++ (x ∷ y ∷ drop (n + 2) out)
 two-set out n x y h = rw (e₁, e₂) (go out n (omega arith))

@@ -15,7 +15,7 @@ use Rattle.logic.specs.Rise.{Above, Rise}
 use Rattle.track.specs.Track.{numberBelow, Held}
 use Rattle.walk.specs.Laws.Walk.{byte-at}
 use Rattle.proper.specs.Changes.{Change, when}
-use Rattle.rescue.specs.Marks.{hasCode, standing, bit, Seen, firstKind, fourthKind, metOwn, lateAt, shuts, maskOf, kindsAt}
+use Rattle.rescue.specs.Internal.Marks.{hasCode, standing, bit, Seen, firstKind, fourthKind, metOwn, lateAt, shuts, maskOf, kindsAt}
 
 -- ---- found, or not
 

@@ -62,7 +62,7 @@ before-all : (c : Cell) (xs : List Cell) → IsCell c → Cells xs → InTurn (c
 before-all c [] v k t = tt
 before-all c (x ∷ xs) v k t = (before-ahead c x v (k .0) (t .0 .0), before-all c xs v (k .1) (t .0 .1, t .1 .1))
 
-in-turn-rise : (xs : List Cell) → Cells xs → InTurn xs → InOrder (map numbersOf xs)
+pub in-turn-rise : (xs : List Cell) → Cells xs → InTurn xs → InOrder (map numbersOf xs)
 in-turn-rise [] k t = tt
 in-turn-rise (c ∷ cs) k t = (before-all c cs (k .0) (k .1) t, in-turn-rise cs (k .1) (t .1))
 

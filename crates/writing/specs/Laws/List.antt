@@ -110,7 +110,7 @@ earlier-apart : (c : Cell) (xs : List Cell) → IsCell c → Cells xs → Earlie
 earlier-apart c [] v k e = tt
 earlier-apart c (x ∷ xs) v k e = (apart-before c x v (k .0) (e .0), earlier-apart c xs v (k .1) (e .1))
 
-in-turn-list : (xs : List Cell) → Cells xs → InTurn xs → Rising xs × Apart xs
+pub in-turn-list : (xs : List Cell) → Cells xs → InTurn xs → Rising xs × Apart xs
 in-turn-list [] k t = (tt, tt)
 in-turn-list (c ∷ cs) k t =
     let r = in-turn-list cs (k .1) (t .1) in

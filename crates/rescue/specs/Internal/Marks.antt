@@ -30,6 +30,9 @@ bit false = 0
 abbrev pub Seen : (keys earlier seen : List ℕ) → Type 0
 Seen keys earlier seen = (k : ℕ) → k < length keys → getD seen k 0 ≡ bit (hasCode (getD keys k 0) earlier)
 
+abbrev pub Zeros : List ℕ → Type 0
+Zeros l = (k : ℕ) → getD l k 0 ≡ 0
+
 -- the tests of kinds 1, 2 and 4
 unfoldable pub firstKind : Bool → ℕ → (ms own : List ℕ) → Bool
 unfolding standing
@@ -74,11 +77,6 @@ unfoldable pub changesIn : ℕ → List ℕ → List Change
 unfolding kindsAt
 changesIn p [] = []
 changesIn p (m ∷ ms) = kindsAt p m ++ changesIn (p + 1) ms
-
--- "by place in the whole text, from 0, and then kind": place, kind, place, kind ..
-unfoldable pub flat : List Change → List ℕ
-flat [] = []
-flat (x ∷ xs) = x .place ∷ x .kind ∷ flat xs
 
 -- ---- the same tests over the letters and digits of a reading
 
