@@ -39,7 +39,7 @@ fn put_codes(text: &[u8], arrangement: Arrangement, body: usize, codes: &mut [u6
             count = count + 1;
             continue;
         }
-        if walk::opens_at(text, i) {
+        if reading::opens_at(text, i) {
             spot = spot.after(b'(');
             i = i + 1;
         }

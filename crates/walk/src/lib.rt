@@ -3,7 +3,7 @@ ghost use mathlib.Core.Path.{_≡_};
 ghost use mathlib.Core.Bool.{true};
 ghost use Prim.Native.Nat.{_+_, _^_, _≤_, _<_};
 ghost use lib.ListN.{length, drop};
-ghost use Rattle.walk.specs.Walk.{Fits, numberIn, after, goesOn, wholeAt, opens};
+ghost use Rattle.walk.specs.Walk.{Fits, numberIn, after, goesOn, wholeAt};
 ghost use Rattle.walk.specs.Past.{openPast, shutIn, nodeIn};
 
 // Where the walk stands: a cell, by its resolution and by its face and digits read in base nine; and the number of the first of the cells beside it.
@@ -76,16 +76,6 @@ pub fn whole_at(text: &[u8], i: usize) -> bool
         return true;
     }
     text[next] != b'('
-}
-
-// Whether a `(` stands at `i`.
-pub fn opens_at(text: &[u8], i: usize) -> bool
-    ensures { λ r. ⌜ r ≡ opens (drop i (now (text .entry))) ⌝ }
-{
-    if i < text.len() {
-        return text[i] == b'(';
-    }
-    false
 }
 
 // How many lists are open behind a byte.

@@ -2,12 +2,13 @@
 use mathlib.Core.Path.{_≡_, sym, ap, subst, _∙_}
 use mathlib.Core.Bool.{true}
 use Prim.Native.Nat.{_+_, _-_, _≤_, _<_}
-use lib.ListN.{length, drop}
+use lib.Dec.{eqb}
+use lib.ListN.{length, drop, getD}
 use borrow.Author.Needs.{needs}
 use Rattle.cell.specs.declared.Arrangement.{Arrangement}
 use Rattle.cell.specs.Cell.{IsArrangement}
 use Rattle.reading.specs.Laws.TextReading.{text-arranged}
-use Rattle.walk.specs.Walk.{after, goesOn, opens, wholeAt}
+use Rattle.walk.specs.Walk.{after, goesOn, wholeAt}
 use Rattle.walk.specs.Laws.Walk.{goes-here}
 use Rattle.listing.specs.List.{codesOf}
 use Rattle.listing.specs.Laws.List.{spotCode}
@@ -47,8 +48,8 @@ past c =
 -- at a `(` behind it
 opening :
     (c : tie.Then2 Inv-loop μ-loop) →
-    opens (drop (c .before .before .before .before .before .before .before .loop .i + 1)
-    (c .before .before .before .before .before .before .before .before .before .before .args .text .now)) ≡ true
+    eqb (getD (c .before .before .before .before .before .before .before .before .before .before .args .text .now)
+    (c .before .before .before .before .before .before .before .loop .i + 1) 0) 40 ≡ true
 opening c = sym (c .before .opens-at .ensures) ∙ c .if2 .taken
 
 loop-holds : tie.Need-loop-holds Inv-loop μ-loop
