@@ -13,7 +13,7 @@ pub fn run(plan: Plan, random: &mut Random) -> Vec<Row> {
     let finest: Vec<u64> = (0..plan.count(1_000_000) as u64)
         .map(|i| code(random, 15) | arrangement(i))
         .collect();
-    let mut rows = cells(plan, "code to cell and back", &mixed, Some(1.0));
+    let mut rows = cells(plan, "code to cell and back", &mixed, Some(0.75));
     rows.extend(cells(plan, "the same, only resolution 15", &finest, None));
     rows.extend(names(plan, "code to name and back", &mixed, Some(1.0)));
     rows.extend(names(plan, "the same, only resolution 15", &finest, None));

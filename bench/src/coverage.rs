@@ -19,8 +19,8 @@ use std::cell::RefCell;
 
 const GOAL: Option<f64> = Some(1.1);
 
-/// Two texts compared, against plain Rust of the same algorithm.
-const COMPARE_GOAL: Option<f64> = Some(1.2);
+const LIST_GOAL: Option<f64> = Some(0.95);
+const WRITE_GOAL: Option<f64> = Some(1.05);
 
 /// A text, the cells it was written from, and cells to ask for: half of them covered.
 struct Text {
@@ -115,7 +115,7 @@ fn list(plan: Plan, at: &Text) -> Vec<Row> {
         all.push(codes.borrow().clone());
     }
     assert!(all[0] == all[1], "the lists differ");
-    let sides = pair::<CoverageList>(GOAL, jgv_coverage_list, coverage_list, pass);
+    let sides = pair::<CoverageList>(LIST_GOAL, jgv_coverage_list, coverage_list, pass);
     let name = format!("list {} KiB, a byte", at.size);
     compare(plan, Work::new(&name, at.text.len()), sides)
 }
@@ -136,22 +136,27 @@ fn ask(plan: Plan, at: &Text) -> Vec<Row> {
 
 fn write(plan: Plan, at: &Text) -> Vec<Row> {
     let room = RefCell::new(vec![0; at.text.len()]);
-    let sides = pair::<CoverageWrite>(GOAL, jgv_coverage_write, coverage_write, |write, _| {
-        let mut room = room.borrow_mut();
-        let answer = unsafe {
-            write(
-                1,
-                15,
-                0,
-                0,
-                at.codes.as_ptr(),
-                at.codes.len(),
-                room.as_mut_ptr(),
-                room.len(),
-            )
-        };
-        answer.fold((room[..answer.length as usize] == at.text) as u64)
-    });
+    let sides = pair::<CoverageWrite>(
+        WRITE_GOAL,
+        jgv_coverage_write,
+        coverage_write,
+        |write, _| {
+            let mut room = room.borrow_mut();
+            let answer = unsafe {
+                write(
+                    1,
+                    15,
+                    0,
+                    0,
+                    at.codes.as_ptr(),
+                    at.codes.len(),
+                    room.as_mut_ptr(),
+                    room.len(),
+                )
+            };
+            answer.fold((room[..answer.length as usize] == at.text) as u64)
+        },
+    );
     let name = format!("write {} KiB, a byte", at.size);
     compare(plan, Work::new(&name, at.text.len()), sides)
 }
@@ -185,7 +190,7 @@ fn compare_two(plan: Plan, at: &Text) -> Vec<Row> {
         all.push(rooms.borrow().clone());
     }
     assert!(all[0] == all[1], "the listings differ");
-    let sides = pair::<CoverageCompare>(COMPARE_GOAL, jgv_coverage_compare, coverage_compare, pass);
+    let sides = pair::<CoverageCompare>(GOAL, jgv_coverage_compare, coverage_compare, pass);
     let name = format!("compare two of {} KiB, a byte", at.size);
     compare(plan, Work::new(&name, both), sides)
 }

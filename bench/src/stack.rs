@@ -116,6 +116,7 @@ pub fn depths(random: &mut Random, check: bool) -> Vec<(&'static str, usize)> {
     let inputs = inputs(random, check);
     let mut depths = numbers(&inputs);
     depths.extend(texts(&inputs));
+    depths.extend(settings(&inputs));
     depths
         .into_iter()
         .map(|(name, depth)| (name, depth.saturating_sub(own)))
@@ -210,5 +211,20 @@ fn texts(inputs: &Inputs) -> Vec<(&'static str, usize)> {
         jgv_coverage_rescue: texts.iter().chain(&backward), text => (text.as_ptr(), text.len(), room.as_mut_ptr(), room.len(), changes.as_mut_ptr(), changes.len());
         jgv_sheet_write: texts, text => (text.as_ptr(), text.len(), sheet.as_mut_ptr(), sheet.len());
         jgv_sheet_check: texts, text => (text.as_ptr(), text.len(), sheet.as_ptr(), sheet.len());
+    }
+}
+
+/// A history is handed over by value: the caller's copy of it, 1,032 bytes, is on the stack too, and so is the answer's.
+fn settings(inputs: &Inputs) -> Vec<(&'static str, usize)> {
+    let codes = &inputs.codes;
+    let mut history = jgv_settings_fresh(0, 0, 9, 0).history;
+    for revision in 0..40 {
+        history = jgv_settings_change(history, revision, 1, 2, revision % 16, revision).history;
+    }
+    depths! {
+        jgv_settings_fresh: codes, &code => (code & 3, code >> 2 & 3, code >> 4 & 15, code);
+        jgv_settings_change: codes, &code => (history, 40 - (code >> 8 & 1), code & 3, code >> 2 & 3, code >> 4 & 15, code >> 40);
+        jgv_settings_back: codes, &code => (history, 40 - (code >> 8 & 1), code >> 12 & 63);
+        jgv_settings_read: codes, &code => (history, code >> 12 & 63);
     }
 }

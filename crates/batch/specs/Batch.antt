@@ -19,8 +19,11 @@ use Rattle.batch.specs.declared.Batched.the-variants.{Count, Refused}
 -- ---- "Turn codes into rows and columns"
 
 -- seven numbers: refusal, n, s, face, resolution, row, column; zeros beside a refusal
+abbrev pub seven : (refusal : ℕ) → Arrangement → Cell → List ℕ
+seven r a c = r ∷ a .north ∷ a .south ∷ c .face ∷ c .resolution ∷ c .row ∷ c .column ∷ []
+
 abbrev pub sevenGood : Arrangement → Cell → List ℕ
-sevenGood a c = 0 ∷ a .north ∷ a .south ∷ c .face ∷ c .resolution ∷ c .row ∷ c .column ∷ []
+sevenGood a c = seven 0 a c
 
 abbrev pub sevenBad : (refusal : ℕ) → List ℕ
 sevenBad r = r ∷ 0 ∷ 0 ∷ 0 ∷ 0 ∷ 0 ∷ 0 ∷ []

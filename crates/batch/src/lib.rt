@@ -8,7 +8,7 @@ ghost use Rattle.logic.specs.Refusal.{_otherwise_};
 ghost use Rattle.ternary.specs.Threes.{Apart, Woven};
 ghost use Rattle.cell.specs.Cell.{cellRefusal, arrangementRefusal, found};
 ghost use Rattle.code.specs.Code.{codeOf, cellOf, codeRefusal, coded};
-ghost use Rattle.batch.specs.Batch.{sevenGood, sevenBad, sevenOf, cellsOf, cellsRefusal, cellsMemory};
+ghost use Rattle.batch.specs.Batch.{seven, sevenOf, cellsOf, cellsRefusal, cellsMemory};
 ghost use Rattle.batch.specs.Batch.{twoIn, codedAt, cellsIn, codesOf, codesRefusal, codesMemory, batched};
 use cell::Arrangement;
 use cell::Cell;
@@ -44,12 +44,12 @@ fn cell_by(table: &[u64; 729], code: u64) -> Found
     })
 }
 
-// Puts the seven numbers of a cell to a place.
-fn put_cell(numbers: &mut [u64], at: usize, arrangement: Arrangement, cell: Cell)
+// Puts a refusal and the numbers of an arrangement and a cell to a place.
+fn put_cell(numbers: &mut [u64], at: usize, refusal: u64, arrangement: Arrangement, cell: Cell)
     requires { ⌜ at + 7 ≤ length (now numbers) ⌝ }
-    ensures { λ _. ⌜ now (numbers .exit) ≡ sets (now (numbers .entry)) at (sevenGood arrangement cell) ⌝ }
+    ensures { λ _. ⌜ now (numbers .exit) ≡ sets (now (numbers .entry)) at (seven refusal arrangement cell) ⌝ }
 {
-    numbers[at] = 0;
+    numbers[at] = refusal;
     numbers[at + 1] = arrangement.north;
     numbers[at + 2] = arrangement.south;
     numbers[at + 3] = cell.face;
@@ -58,28 +58,23 @@ fn put_cell(numbers: &mut [u64], at: usize, arrangement: Arrangement, cell: Cell
     numbers[at + 6] = cell.column;
 }
 
-// Puts a refusal and six zeros to a place.
-fn put_refusal(numbers: &mut [u64], at: usize, refusal: u64)
-    requires { ⌜ at + 7 ≤ length (now numbers) ⌝ }
-    ensures { λ _. ⌜ now (numbers .exit) ≡ sets (now (numbers .entry)) at (sevenBad refusal) ⌝ }
-{
-    numbers[at] = refusal;
-    numbers[at + 1] = 0;
-    numbers[at + 2] = 0;
-    numbers[at + 3] = 0;
-    numbers[at + 4] = 0;
-    numbers[at + 5] = 0;
-    numbers[at + 6] = 0;
-}
-
-// Puts what a code gets to a place.
+// Puts what a code gets to a place: six zeros behind a refusal.
 fn put_code(table: &[u64; 729], code: u64, numbers: &mut [u64], at: usize)
     requires { ⌜ Apart (now table) × (at + 7 ≤ length (now numbers)) ⌝ }
     ensures { λ _. ⌜ now (numbers .exit) ≡ sets (now (numbers .entry)) at (sevenOf code) ⌝ }
 {
     match cell_by(table, code) {
-        Found::At(cell) => put_cell(numbers, at, code::arrangement_of(code), cell),
-        Found::Refused(refusal) => put_refusal(numbers, at, refusal),
+        Found::At(cell) => put_cell(numbers, at, 0, code::arrangement_of(code), cell),
+        Found::Refused(refusal) => {
+            let nowhere = Arrangement { north: 0, south: 0 };
+            let none = Cell {
+                face: 0,
+                resolution: 0,
+                row: 0,
+                column: 0,
+            };
+            put_cell(numbers, at, refusal, nowhere, none)
+        }
     }
 }
 

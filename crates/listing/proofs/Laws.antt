@@ -1,16 +1,20 @@
 -- Codes put one behind the other along the walk: those that were put, and those of what is left of the text, are the text's. Assumes nothing.
 use mathlib.Core.Path.{_≡_, refl, sym, ap, ap₂, _∙_}
+use mathlib.Core.Logic.{⊎-elim}
 use mathlib.Core.Bool.{true, false}
 use mathlib.Core.List.{List, [], _∷_, _++_, map, append-nil, append-assoc}
 use Prim.Native.Nat.{ℕ, _+_, _≤_, _<_}
 use native.Mathlib.Numerals.{add-one}
 use native.Mathlib.Omega.{arith}
-use lib.ListN.{length, take, drop, getD, set, length-set, length-append, take-append-drop}
+use lib.ListN.{length, take, drop, getD, set, length-set, length-append, take-append-drop, List·getD-eq-default}
+use lib.Dec.{eqb}
 use lib.Seq.{length-take-le, take-suc-set, drop-set-lt, drop-drop}
+use borrow.Author.Tests.{eqb-true, eq-eqb}
+use Rattle.logic.specs.Laws.Order.{lt-or}
 use Rattle.reading.specs.TextReading.{textArrangement, isText, bodyStart}
 use Rattle.walk.specs.declared.Spot.{Spot}
 use Rattle.walk.specs.Walk.{origin, after, wholeAt, walk, Walks}
-use Rattle.walk.specs.Laws.Walk.{walks-start, walks-on, past-whole, past-other, walked}
+use Rattle.walk.specs.Laws.Walk.{walks-start, walks-on, past-whole, past-other, walked, byte-at}
 use Rattle.listing.specs.List.{codesOf}
 use Rattle.listing.specs.Laws.List.{spotCode, walk-codes}
 
@@ -81,3 +85,14 @@ lists-end {t} {codes₀} {codes} {count} {i} {s} l h =
     sym (append-nil (take count codes)) ∙ sym (ap (λ (x : List Spot). take count codes ++ map (spotCode (textArrangement t)) x) (walked t i s h)) ∙ l .put in
     let n : count ≡ length (codesOf t) = sym (length-take-le count codes (l .within)) ∙ ap length p in
     sym (take-append-drop count codes) ∙ ap₂ _++_ p (l .kept ∙ ap (λ (x : ℕ). drop x codes₀) n)
+
+-- where a `(` stands there is a byte
+pub opened : (t : List ℕ) (j : ℕ) → eqb (getD t j 0) 40 ≡ true → (j < length t) × (getD t j 0 ≡ 40)
+opened t j e =
+    let b : getD t j 0 ≡ 40 = eqb-true (getD t j 0) 40 e in
+    ⊎-elim (λ h. (h, b)) (λ h. let z : 0 ≡ 40 = sym (List·getD-eq-default t 0 h) ∙ b in omega arith) (lt-or j (length t))
+
+-- and it is no whole cell
+pub open-not-whole : (t : List ℕ) (j : ℕ) → j < length t → getD t j 0 ≡ 40 → wholeAt (drop j t) ≡ false
+unfolding wholeAt
+open-not-whole t j h e = ap wholeAt (byte-at t j h) ∙ rw (eq-eqb (getD t j 0) 40 e)

@@ -18,6 +18,7 @@ pub enum Listed {
 }
 
 // "the codes of the whole cells in rising order", in the heading's arrangement, to the front of `codes`. The text's body starts at `body`.
+// A letter or digit and its `(` are gone over in one turn.
 fn put_codes(text: &[u8], arrangement: Arrangement, body: usize, codes: &mut [u64])
     requires { ⌜ (isText (now text) ≡ true) × (arrangement ≡ textArrangement (now text)) × (body ≡ bodyStart (now text)) × (length (codesOf (now text)) ≤ length (now codes)) ⌝ }
     ensures { λ r. ⌜ now (codes .exit) ≡ codesOf (now (text .entry)) ++ drop (length (codesOf (now (text .entry)))) (now (codes .entry)) ⌝ }
@@ -33,11 +34,15 @@ fn put_codes(text: &[u8], arrangement: Arrangement, body: usize, codes: &mut [u6
         spot = spot.after(text[i]);
         let whole = walk::whole_at(text, i);
         i = i + 1;
-        if !whole {
+        if whole {
+            codes[count] = code::code_as(arrangement, spot.resolution, spot.number);
+            count = count + 1;
             continue;
         }
-        codes[count] = code::code_as(arrangement, spot.resolution, spot.number);
-        count = count + 1;
+        if reading::opens_at(text, i) {
+            spot = spot.after(b'(');
+            i = i + 1;
+        }
     }
 }
 

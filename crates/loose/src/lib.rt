@@ -82,20 +82,7 @@ const GREATEST: [u8; 7] = [b'C', b'V', b'R', 0, 1, b'3', b'3'];
 fn heading(text: &[u8]) -> usize
     ensures { λ r. ⌜ r ≡ leadOne (now (text .entry)) ⌝ }
 {
-    let mut i: usize = 0;
-    while i < 7 {
-        if i == text.len() {
-            return i;
-        }
-        if text[i] < LEAST[i] {
-            return i;
-        }
-        if GREATEST[i] < text[i] {
-            return i;
-        }
-        i += 1;
-    }
-    7
+    reading::lead_in(text, &LEAST, &GREATEST)
 }
 
 // A looser text and its arrangement; or the refusal, with the place for 9.

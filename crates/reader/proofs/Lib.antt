@@ -1,4 +1,3 @@
 mod Answers
-mod Head
 mod Readers
 mod Steps

@@ -34,16 +34,6 @@ pub enum NodesRead {
     Read(usize, u64, u64, u64),
 }
 
-// Whether a `(` stands at a place.
-fn opens(text: &[u8], at: usize) -> bool
-    ensures { λ r. ⌜ r ≡ eqb (getD (now (text .entry)) at 0) 40 ⌝ }
-{
-    if at >= text.len() {
-        return false;
-    }
-    text[at] == b'('
-}
-
 // The node reader, at the `(` behind a node's letter or digit: the list that the node holds. The node's own size is `size`, and `room` digits may lie
 // below it.
 fn node(text: &[u8], at: usize, room: u64, size: u64) -> NodesRead
@@ -101,7 +91,7 @@ fn nodes(text: &[u8], start: usize, level: Level, room: u64, size: u64) -> Nodes
         }
         low = b + 1;
         at += 1;
-        if !opens(text, at) {
+        if !reading::opens_at(text, at) {
             wholes += 1;
             continue;
         }
@@ -125,20 +115,7 @@ const GREATEST: [u8; 8] = [b'C', b'V', b'R', 0, 2, b'3', b'3', b'p'];
 fn heading(text: &[u8]) -> usize
     ensures { λ r. ⌜ r ≡ lead least greatest (now (text .entry)) ⌝ }
 {
-    let mut i: usize = 0;
-    while i < 8 {
-        if i == text.len() {
-            return i;
-        }
-        if text[i] < LEAST[i] {
-            return i;
-        }
-        if GREATEST[i] < text[i] {
-            return i;
-        }
-        i += 1;
-    }
-    8
+    reading::lead_in(text, &LEAST, &GREATEST)
 }
 
 // The byte at a place, or 0 where there is none.

@@ -1,5 +1,8 @@
 // What the parts of a coverage text are: the letters of faces and the digits of nodes.
 ghost use mathlib.Core.Path.{_≡_};
+ghost use lib.Dec.{eqb};
+ghost use lib.ListN.{length, getD};
+ghost use Rattle.reading.specs.Heading.{lead};
 ghost use Rattle.reading.specs.Reading.{first, many, room as roomOf};
 ghost use Rattle.reading.specs.Text.{versionOf, levelOf, depthOf, headingLength};
 
@@ -98,4 +101,35 @@ pub fn room_below(level: Level, number: u8, room: u64) -> u64
         }
         Level::Digits => room,
     }
+}
+
+// How many leading bytes lie between the least and the greatest byte at their place.
+pub fn lead_in(text: &[u8], least: &[u8], greatest: &[u8]) -> usize
+    requires { ⌜ length (now least) ≡ length (now greatest) ⌝ }
+    ensures { λ r. ⌜ r ≡ lead (now (least .entry)) (now (greatest .entry)) (now (text .entry)) ⌝ }
+{
+    let mut i: usize = 0;
+    while i < least.len() {
+        if i == text.len() {
+            return i;
+        }
+        if text[i] < least[i] {
+            return i;
+        }
+        if greatest[i] < text[i] {
+            return i;
+        }
+        i += 1;
+    }
+    i
+}
+
+// Whether a `(` stands at a place.
+pub fn opens_at(text: &[u8], at: usize) -> bool
+    ensures { λ r. ⌜ r ≡ eqb (getD (now (text .entry)) at 0) 40 ⌝ }
+{
+    if at >= text.len() {
+        return false;
+    }
+    text[at] == b'('
 }

@@ -5,7 +5,7 @@ ghost use mathlib.Core.List.{map};
 ghost use Prim.Native.Nat.{_+_, _-_, _*_, _^_, _≤_, _<_};
 ghost use lib.ListN.{length, set};
 ghost use lib.Seq.{sets};
-ghost use Rattle.writing.specs.Internal.Measure.{StartAtPlace, NodeMeasured, ListMeasured};
+ghost use Rattle.writing.specs.Internal.Measure.{cellStart, StartAtPlace, NodeMeasured, ListMeasured};
 ghost use Rattle.writing.specs.Internal.Whole.{WholeUntil};
 ghost use Rattle.writing.specs.Internal.Put.{NodePut, ListPut, front};
 ghost use Rattle.logic.specs.Refusal.{refuse, _otherwise_, given};
@@ -70,11 +70,31 @@ fn depth_above(start: u64, size: u64, below: u64) -> u64
     below + 1
 }
 
-// The node of a cell, given by its first finest cell and its size, that has the code at hand inside: a code of the same size is the cell's.
-fn measure_node(codes: &[u64], at: usize, start: u64, size: u64) -> Measure
-    requires { ⌜ (allCodes (now codes) ≡ true) × (at < length (now codes)) × (0 < size) × (start + size ≤ 9 ^ 16) ⌝ }
-    ensures { λ r. ⌜ NodeMeasured (now (codes .entry)) at start size r ⌝ }
+// Where the cell of this size begins that has a finest cell inside, cells being counted from `base` on.
+fn cell_start(base: u64, size: u64, finest: u64) -> u64
+    requires { ⌜ 0 < size ⌝ }
+    ensures { λ r. ⌜ r ≡ cellStart base size finest ⌝ }
 {
+    if finest < base {
+        return base;
+    }
+    finest - (finest - base) % size
+}
+
+// The node of a cell of this size, one of those from `base` on, that has the code at hand inside: a code of the same size is the cell's, wherever it begins.
+fn measure_node(codes: &[u64], at: usize, base: u64, size: u64) -> Measure
+    requires { ⌜ (allCodes (now codes) ≡ true) × (at < length (now codes)) × (0 < size) × (base ≤ 9 ^ 16) × (size ≤ 9 ^ 16) ⌝ }
+    ensures { λ r. ⌜ NodeMeasured (now (codes .entry)) at base size r ⌝ }
+{
+    let code = codes[at];
+    if code::size_in(code) == size {
+        return Measure {
+            next: at + 1,
+            bytes: 1,
+            wholes: 1,
+            depth: 0,
+        };
+    }
     if size < 9 {
         return Measure {
             next: at + 1,
@@ -83,14 +103,7 @@ fn measure_node(codes: &[u64], at: usize, start: u64, size: u64) -> Measure
             depth: 0,
         };
     }
-    if code::size_in(codes[at]) == size {
-        return Measure {
-            next: at + 1,
-            bytes: 1,
-            wholes: 1,
-            depth: 0,
-        };
-    }
+    let start = cell_start(base, size, code::start_in(code));
     let list = measure_list(codes, at, 9, start, size / 9);
     if list.wholes == 9 {
         return Measure {
@@ -108,38 +121,34 @@ fn measure_node(codes: &[u64], at: usize, start: u64, size: u64) -> Measure
     }
 }
 
-// The nodes of the cells that are left of a list, of which the first one starts at `start`.
+// The nodes of so many cells of a list, of which the first one begins at `start`. It goes from code to code, and over cells that have none at once; so it
+// ends where no code is left for the list, or where it has taken a node for each cell.
 fn measure_list(codes: &[u64], at: usize, left: u64, start: u64, size: u64) -> Measure
-    requires { ⌜ (allCodes (now codes) ≡ true) × (at ≤ length (now codes)) × (left ≤ 9) × (0 < size) × (start + left * size ≤ 9 ^ 16) ⌝ }
+    requires { ⌜ (allCodes (now codes) ≡ true) × (at ≤ length (now codes)) × (left ≤ 9) × (0 < size) × (start ≤ 9 ^ 16) × (left * size ≤ 9 ^ 16) ⌝ }
     ensures { λ r. ⌜ ListMeasured (now (codes .entry)) at left start size r ⌝ }
 {
     let limit = start + left * size;
     let mut next = at;
     let mut first = start_at(codes, at);
-    let mut child = start;
     let mut bytes: u64 = 0;
     let mut wholes: u64 = 0;
     let mut depth: u64 = 0;
     let mut more = left;
     while more > 0 {
-        let end = child + size;
-        if first < end {
-            let node = measure_node(codes, next, child, size);
-            next = node.next;
-            bytes = bytes + node.bytes;
-            wholes = wholes + node.wholes;
-            depth = greater(depth, node.depth);
-            first = start_at(codes, next);
-            if limit <= first {
-                return Measure {
-                    next,
-                    bytes,
-                    wholes,
-                    depth, // no code is left for the other cells
-                };
-            }
+        if limit <= first {
+            return Measure {
+                next,
+                bytes,
+                wholes,
+                depth, // no code is left for the other cells
+            };
         }
-        child = end;
+        let node = measure_node(codes, next, start, size);
+        next = node.next;
+        bytes = bytes + node.bytes;
+        wholes = wholes + node.wholes;
+        depth = greater(depth, node.depth);
+        first = start_at(codes, next);
         more = more - 1;
     }
     Measure {

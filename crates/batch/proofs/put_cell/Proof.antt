@@ -72,7 +72,7 @@ same-length c = search needs
 returns : tie.Need-returns
 returns c =
     let a = c .args in
-    seven-put (a .numbers .now) (a .at) 0 (a .arrangement .north) (a .arrangement .south) (a .cell .face) (a .cell .resolution) (a .cell .row) (a .cell .column)
+    seven-put (a .numbers .now) (a .at) (a .refusal) (a .arrangement .north) (a .arrangement .south) (a .cell .face) (a .cell .resolution) (a .cell .row) (a .cell .column)
 
 pub put-cell-spec : {M : Type 1} → statement M
 put-cell-spec =

@@ -24,8 +24,8 @@ put-cell-requires c κs = search needs
 enum-known-refusal : tie.Need-enum-known-refusal
 enum-known-refusal c = search needs
 
-put-refusal-requires : tie.Need-put-refusal-requires
-put-refusal-requires c κs = search needs
+put-cell-requires-2 : tie.Need-put-cell-requires-2
+put-cell-requires-2 c κs = search needs
 
 same-length : tie.Need-same-length
 same-length c = search needs
@@ -47,7 +47,7 @@ returns-2 c =
     let g = c .before .before .before .before .before in
     let e = g .before .before in
     let a = e .before .before .args in
-    c .before .before .put-refusal .ensures ∙ ap (λ (x : List ℕ). sets (a .numbers .now) (a .at) x) (seven-bad (a .code) (e .cell-by .ensures) (g .refusal .given .1))
+    c .before .before .put-cell2 .ensures ∙ ap (λ (x : List ℕ). sets (a .numbers .now) (a .at) x) (seven-bad (a .code) (e .cell-by .ensures) (g .refusal .given .1))
 
 pub put-code-spec : {M : Type 1} → statement M
 put-code-spec =
@@ -58,7 +58,7 @@ put-code-spec =
     arrangement-of-requires
     put-cell-requires
     enum-known-refusal
-    put-refusal-requires
+    put-cell-requires-2
     same-length
     returns
     same-length-2

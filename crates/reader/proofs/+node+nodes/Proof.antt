@@ -19,9 +19,9 @@ use Rattle.reader.proofs.+node+nodes.Lts-node as node-lts
 use Rattle.reader.proofs.nodes.Reads as nodes
 use Rattle.reader.proofs.nodes.Kinds as nodes-kinds
 use Rattle.reader.proofs.+node+nodes.Lts-nodes as nodes-lts
-use Rattle.reader.proofs.opens.Reads as opens-reads
 use Rattle.reading.proofs.first_byte.Reads as first-byte-reads
 use Rattle.reading.proofs.how_many.Reads as how-many-reads
+use Rattle.reading.proofs.opens_at.Reads as opens-at-reads
 use Rattle.reading.proofs.room_below.Reads as room-below-reads
 use Rattle.reader.proofs.+node+nodes.{statement}
 use Rattle.reader.proofs.+node+nodes.Tie.{close}
@@ -54,8 +54,8 @@ for-nodes t = (
   first-byte-reads.Learnt,
   how-many-reads.Asked,
   how-many-reads.Learnt,
-  opens-reads.Asked,
-  opens-reads.Learnt,
+  opens-at-reads.Asked,
+  opens-at-reads.Learnt,
   room-below-reads.Asked,
   room-below-reads.Learnt,
   node-below t,
@@ -122,13 +122,13 @@ whole-on : (t : ℕ) (c : nodes-lts.Then4 (for-nodes t) (nodes-at t) nodes.Post 
 whole-on t c =
     let l = c .before .before .before .before .before .before .before in
     rd.runs-whole (l .loop .inv) (c .before .before .before .before .before .before .loop-test .taken) (c .before .before .before .before .if1 .left) (omega arith) (omega arith)
-    (eqb-false _ _ (sym (c .before .opens .ensures) ∙ not-true _ (c .if4 .taken)))
+    (eqb-false _ _ (sym (c .before .opens-at .ensures) ∙ not-true _ (c .if4 .taken)))
 
 -- a `(` is behind it
 bracket : (t : ℕ) (c : nodes-lts.Else4 (for-nodes t) (nodes-at t) nodes.Post Inv μ)
     → let l = c .before .before .before .before .before .before .before in
     getD (l .before .before .before .before .args .text .now) (l .loop .at + 1) 0 ≡ 40
-bracket t c = eqb-true _ _ (sym (c .before .opens .ensures) ∙ not-false _ (c .if4 .left))
+bracket t c = eqb-true _ _ (sym (c .before .opens-at .ensures) ∙ not-false _ (c .if4 .left))
 
 -- how many digits may lie below it
 below : (t : ℕ) (c : nodes-lts.After-room-below (for-nodes t) (nodes-at t) nodes.Post Inv μ)
@@ -180,8 +180,8 @@ nodes-add-low t c = let l = c .before .before .before .before .before .before .b
 nodes-add-at : (t : ℕ) → nodes-lts.Need-add-at (for-nodes t) (nodes-at t) nodes.Post Inv μ
 nodes-add-at t c = omega arith
 
-nodes-opens-requires : (t : ℕ) → nodes-lts.Need-opens-requires (for-nodes t) (nodes-at t) nodes.Post Inv μ
-nodes-opens-requires t c κs = search needs
+nodes-opens-at-requires : (t : ℕ) → nodes-lts.Need-opens-at-requires (for-nodes t) (nodes-at t) nodes.Post Inv μ
+nodes-opens-at-requires t c κs = search needs
 
 nodes-add-wholes : (t : ℕ) → nodes-lts.Need-add-wholes (for-nodes t) (nodes-at t) nodes.Post Inv μ
 nodes-add-wholes t c = omega (arith, c .before .before .before .before .before .before .before .loop .inv .nine)
@@ -268,7 +268,7 @@ pub +node+nodes-spec : {M : Type 1} → statement M
     (nodes-returns-2 t)
     (nodes-add-low t)
     (nodes-add-at t)
-    (nodes-opens-requires t)
+    (nodes-opens-at-requires t)
     (nodes-add-wholes t)
     (nodes-loop-less t)
     (nodes-loop-again t)

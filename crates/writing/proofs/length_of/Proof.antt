@@ -11,7 +11,7 @@ use Rattle.writing.proofs.length_of.Statement.{statement}
 use Rattle.writing.proofs.length_of.Tie as tie
 
 measure-list-requires : tie.Need-measure-list-requires
-measure-list-requires c κs = (c .before .pre .0, omega arith, omega arith, omega arith, omega arith)
+measure-list-requires c κs = (c .before .pre .0, omega arith, omega arith, omega arith, omega arith, omega arith)
 
 heading-length-requires : tie.Need-heading-length-requires
 heading-length-requires c κs = search needs

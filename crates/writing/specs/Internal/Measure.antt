@@ -1,9 +1,10 @@
 -- What the measuring pass says of the codes from a place on: for every cell that stands there with its name, the node that is built. Assumes nothing.
 use mathlib.Core.Path.{_≡_}
-use mathlib.Core.Bool.{true}
+use mathlib.Core.Bool.{true, cond}
 use mathlib.Core.Logic.{_⊎_}
 use mathlib.Core.List.{List, [], _∷_, _++_, map}
-use Prim.Native.Nat.{ℕ, suc, _+_, _-_, _*_, _^_, _≤_, _<_}
+use Prim.Native.Nat.{ℕ, suc, _+_, _-_, _*_, _%_, _^_, _≤_, _<_}
+use lib.Dec.{ltb}
 use lib.ListN.{length, drop, getD}
 use Rattle.cell.specs.declared.Cell.{Cell}
 use Rattle.code.specs.Code.{cellOf}
@@ -79,17 +80,22 @@ pub record ListDepth (codes : List ℕ) (at : ℕ) (w : Name) (c left k depth : 
 
 -- ---- what is promised
 
+-- where the cell of this size begins that has a finest cell inside, cells being counted from `base` on
+abbrev pub cellStart : (base size finest : ℕ) → ℕ
+cellStart base size finest = cond (ltb finest base) base (finest - (finest - base) % size)
+
 -- the first finest cell of the code at a place, or a number above all of them
 pub record StartAtPlace (codes : List ℕ) (at first : ℕ) : Type 0 where
   pub some : at < length codes → first ≡ startOf (nextCell codes at)
   pub none : length codes ≤ at → first ≡ 2 ^ 60
 
-pub record NodeMeasured (codes : List ℕ) (at start size : ℕ) (r : Measure) : Type 0 where
-  pub is : (w : Name) (k : ℕ) → NodeAt codes at w start size k → NodeTakes codes at w k (r .next) (r .bytes) (r .wholes)
+-- of each cell of this size that is one of those from `base` on
+pub record NodeMeasured (codes : List ℕ) (at base size : ℕ) (r : Measure) : Type 0 where
+  pub is : (w : Name) (k j : ℕ) → NodeAt codes at w (base + j * size) size k → NodeTakes codes at w k (r .next) (r .bytes) (r .wholes)
   pub inside : r .next ≤ length codes
   pub short : r .bytes + 1 ≤ 2 * size
   pub few : r .wholes ≤ 1
-  pub deep : (w : Name) (k : ℕ) → NodeAt codes at w start size k → NodeDepth codes at w k (r .depth)
+  pub deep : (w : Name) (k j : ℕ) → NodeAt codes at w (base + j * size) size k → NodeDepth codes at w k (r .depth)
   pub shallow : r .depth ≤ size + 16
 
 pub record ListMeasured (codes : List ℕ) (at left start size : ℕ) (r : Measure) : Type 0 where
