@@ -1,4 +1,5 @@
 pub mod Find
+pub mod Give
 pub mod Joint
 pub mod Mark
 pub mod Marking

@@ -12,10 +12,16 @@ ghost use Rattle.rescue.specs.Internal.Marks.{hasCode, bit, Seen, Zeros,
 ghost use Rattle.rescue.specs.Internal.Marking.{placed, Put};
 ghost use Rattle.rescue.specs.Internal.Note.{Noted, FirstIs, FourthIs};
 ghost use Rattle.cell.specs.Cell.{IsArrangement};
+ghost use Rattle.reading.specs.declared.Profile.the-variants.{Full};
+ghost use Rattle.writing.specs.Write.{textOf, writeRefusal};
+ghost use Rattle.sorting.specs.Sorted.{sorted};
 ghost use Rattle.logic.specs.Lent.{inFront};
 ghost use Rattle.loose.specs.Look.{looseArrangement, looseRefusal};
 ghost use Rattle.proper.specs.Proper.{properOf};
+ghost use Rattle.proper.specs.Thin.{thinned};
+ghost use Rattle.proper.specs.Wholes.{looseCodes};
 ghost use Rattle.rescue.specs.Rescue.{flat, changesOf, RescueIs};
+ghost use Rattle.rescue.specs.Internal.Give.{Gives};
 ghost use Rattle.rescue.specs.declared.Rescued.the-variants.{Refused as RefusedWith};
 use cell::Arrangement;
 use loose::Looked;
@@ -242,45 +248,38 @@ fn copy(text: &[u8], out: &mut [u8])
     }
 }
 
-// The proper text of a looser one, to the front of `made`; and its length.
-fn make(
-    text: &[u8],
-    arrangement: Arrangement,
-    codes: &mut [u64],
-    spare: &mut [u64],
-    made: &mut [u8],
-) -> usize
-    requires { ⌜ (looseRefusal (now text) ≡ 0) × (arrangement ≡ looseArrangement (now text)) × (length (now codes) ≡ 65536) × (length (now spare) ≡ 65536) × (length (now made) ≡ 65536) ⌝ }
-    ensures { λ r. ⌜ (r ≡ length (properOf (now (text .entry)))) × (take r (now (made .exit)) ≡ properOf (now (text .entry))) × (r ≤ 65536) ⌝ }
+// The text of cells that are written as they stand, to the front of `made`; and its length.
+fn make(arrangement: Arrangement, cells: &[u64], made: &mut [u8]) -> usize
+    requires { ⌜ writeRefusal 1 15 arrangement (now cells) (length (now made)) ≡ 0 ⌝ }
+    ensures { λ r. ⌜ (r ≡ length (textOf Full arrangement (now (cells .entry)))) × (take r (now (made .exit)) ≡ textOf Full arrangement (now (cells .entry))) ⌝ }
 {
-    match proper::put_proper(text, arrangement, codes, spare, made) {
+    match writing::write(1, 15, arrangement, cells, made) {
         Written::Refused(refusal) => 0,
         Written::Length(length) => length as usize,
     }
 }
 
-// What is changed, by the numbers of the bytes behind the heading. `made` is the proper text.
+// What is changed, by the numbers of the bytes behind the heading. `made` is the proper text, and `largest` holds the largest whole cells.
 fn find(
     text: &[u8],
     arrangement: Arrangement,
     made: &[u8],
-    codes: &mut [u64],
+    largest: &[u64],
     spare: &mut [u64],
     marks: &mut [u8],
     named: &mut [u8],
     stood: &mut [u8],
 )
-    requires { ⌜ (looseRefusal (now text) ≡ 0) × (now made ≡ properOf (now text)) × (arrangement ≡ looseArrangement (now text)) ⌝ }
-    requires { ⌜ (length (now codes) ≡ 65536) × (length (now spare) ≡ 65536) × (length (now marks) ≡ 65536) × (length (now named) ≡ 65536) × (length (now stood) ≡ 65536) ⌝ }
+    requires { ⌜ (looseRefusal (now text) ≡ 0) × (now made ≡ properOf (now text)) × (arrangement ≡ looseArrangement (now text)) × (now largest ≡ thinned 0 (sorted (looseCodes arrangement (now text)))) ⌝ }
+    requires { ⌜ (length (now text) ≤ length (now spare)) × (length (now text) ≤ length (now marks)) × (length (now text) ≤ length (now named)) × (length (now text) ≤ length (now stood)) ⌝ }
     requires { ⌜ Zeros (now named) × Zeros (now stood) ⌝ }
     ensures { λ _. ⌜ changesIn 7 (take (length (now (text .entry)) - 7) (now (marks .exit))) ≡ changesOf (now (text .entry)) ⌝ }
 {
-    let count = proper::put_largest(text, arrangement, codes, spare);
     let answers = proper::put_wholes(made, arrangement, spare);
     mark(
         arrangement,
         &text[7..],
-        &codes[..count],
+        largest,
         &spare[..answers],
         marks,
         named,
@@ -300,8 +299,89 @@ fn refused(refusal: u64, place: u64) -> Rescued
     Rescued::Refused { refusal, place }
 }
 
-// The rescue of a looser text. Both rooms are tested before anything is written.
-fn rescue_loose(text: &[u8], arrangement: Arrangement, out: &mut [u8], list: &mut [u64]) -> Rescued
+// A proper text and what was changed, given: both rooms are tested before anything is written.
+fn give(made: &[u8], marks: &[u8], out: &mut [u8], list: &mut [u64]) -> Rescued
+    requires { ⌜ length (now marks) ≤ 65536 ⌝ }
+    ensures { λ r. ⌜ Gives (now (made .entry)) (now (marks .entry)) (now (out .entry)) (now (out .exit)) (now (list .entry)) (now (list .exit)) r ⌝ }
+{
+    let changes = count(marks);
+    if out.len() < made.len() {
+        return refused(8, 0);
+    }
+    if (list.len() as u64) < changes * 2 {
+        return refused(8, 0);
+    }
+    copy(made, out);
+    write(marks, list);
+    Rescued::Done {
+        length: made.len() as u64,
+        changes,
+    }
+}
+
+// The rescue of a looser text in lent memory, each part of it as long as the text at least.
+fn rescue_in(
+    text: &[u8],
+    arrangement: Arrangement,
+    codes: &mut [u64],
+    spare: &mut [u64],
+    made: &mut [u8],
+    marks: &mut [u8],
+    named: &mut [u8],
+    stood: &mut [u8],
+    out: &mut [u8],
+    list: &mut [u64],
+) -> Rescued
+    requires { ⌜ (looseRefusal (now text) ≡ 0) × (arrangement ≡ looseArrangement (now text)) ⌝ }
+    requires { ⌜ (length (now text) ≤ length (now codes)) × (length (now codes) ≤ length (now spare)) × (length (now text) ≤ length (now made)) ⌝ }
+    requires { ⌜ (length (now text) ≤ length (now marks)) × (length (now text) ≤ length (now named)) × (length (now text) ≤ length (now stood)) ⌝ }
+    requires { ⌜ Zeros (now named) × Zeros (now stood) ⌝ }
+    ensures { λ r. ⌜ RescueIs (now (text .entry)) (now (out .entry)) (now (out .exit)) (now (list .entry)) (now (list .exit)) r ⌝ }
+{
+    let count = proper::put_largest(text, arrangement, codes, spare);
+    let largest = &codes[..count];
+    let length = make(arrangement, largest, made);
+    let proper = &made[..length];
+    find(
+        text,
+        arrangement,
+        proper,
+        largest,
+        spare,
+        marks,
+        named,
+        stood,
+    );
+    give(proper, &marks[..text.len() - 7], out, list)
+}
+
+// The rescue of a looser text of at most 4,096 bytes: little memory is to be cleared for it.
+fn rescue_short(text: &[u8], arrangement: Arrangement, out: &mut [u8], list: &mut [u64]) -> Rescued
+    requires { ⌜ (looseRefusal (now text) ≡ 0) × (arrangement ≡ looseArrangement (now text)) × (length (now text) ≤ 4096) ⌝ }
+    ensures { λ r. ⌜ RescueIs (now (text .entry)) (now (out .entry)) (now (out .exit)) (now (list .entry)) (now (list .exit)) r ⌝ }
+{
+    let mut codes = [0u64; 4096];
+    let mut spare = [0u64; 4096];
+    let mut made = [0u8; 4096];
+    let mut marks = [0u8; 4096];
+    let mut named = [0u8; 4096];
+    let mut stood = [0u8; 4096];
+    rescue_in(
+        text,
+        arrangement,
+        &mut codes,
+        &mut spare,
+        &mut made,
+        &mut marks,
+        &mut named,
+        &mut stood,
+        out,
+        list,
+    )
+}
+
+// The rescue of any looser text.
+fn rescue_long(text: &[u8], arrangement: Arrangement, out: &mut [u8], list: &mut [u64]) -> Rescued
     requires { ⌜ (looseRefusal (now text) ≡ 0) × (arrangement ≡ looseArrangement (now text)) ⌝ }
     ensures { λ r. ⌜ RescueIs (now (text .entry)) (now (out .entry)) (now (out .exit)) (now (list .entry)) (now (list .exit)) r ⌝ }
 {
@@ -311,31 +391,29 @@ fn rescue_loose(text: &[u8], arrangement: Arrangement, out: &mut [u8], list: &mu
     let mut marks = [0u8; 65536];
     let mut named = [0u8; 65536];
     let mut stood = [0u8; 65536];
-    let length = make(text, arrangement, &mut codes, &mut spare, &mut made);
-    find(
+    rescue_in(
         text,
         arrangement,
-        &made[..length],
         &mut codes,
         &mut spare,
+        &mut made,
         &mut marks,
         &mut named,
         &mut stood,
-    );
-    let body = text.len() - 7;
-    let changes = count(&marks[..body]);
-    if out.len() < length {
-        return refused(8, 0);
+        out,
+        list,
+    )
+}
+
+// The rescue of a looser text.
+fn rescue_loose(text: &[u8], arrangement: Arrangement, out: &mut [u8], list: &mut [u64]) -> Rescued
+    requires { ⌜ (looseRefusal (now text) ≡ 0) × (arrangement ≡ looseArrangement (now text)) ⌝ }
+    ensures { λ r. ⌜ RescueIs (now (text .entry)) (now (out .entry)) (now (out .exit)) (now (list .entry)) (now (list .exit)) r ⌝ }
+{
+    if text.len() <= 4096 {
+        return rescue_short(text, arrangement, out, list);
     }
-    if (list.len() as u64) < changes * 2 {
-        return refused(8, 0);
-    }
-    copy(&made[..length], out);
-    write(&marks[..body], list);
-    Rescued::Done {
-        length: length as u64,
-        changes,
-    }
+    rescue_long(text, arrangement, out, list)
 }
 
 // The rescue of any bytes: the proper text into `out`, and what was changed, place and kind one behind the other, into `list`; 13, 10, 9 or 8 where
