@@ -1,6 +1,7 @@
 pub mod Find
 pub mod Give
 pub mod Joint
+pub mod Lack
 pub mod Mark
 pub mod Marking
 pub mod Marks

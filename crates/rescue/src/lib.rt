@@ -1,14 +1,15 @@
 // The rescue of a hand-edited text: its proper text, and the list of what was changed. One pass marks each byte with its kinds of change; counting
 // and writing only read the marks.
 ghost use mathlib.Core.Path.{_≡_};
-ghost use mathlib.Core.Bool.{cond};
+ghost use mathlib.Core.Bool.{true, cond};
 ghost use mathlib.Core.List.{[], _++_};
 ghost use Prim.Native.Nat.{_+_, _-_, _*_, _/_, _%_, _≤_, _<_};
 ghost use lib.Dec.{eqb};
 ghost use lib.ListN.{length, take, drop};
 ghost use Rattle.logic.specs.Rise.{Rise};
+ghost use Rattle.track.specs.Track.{numberBelow};
 ghost use Rattle.walk.specs.Walk.{origin, Walks};
-ghost use Rattle.rescue.specs.Internal.Marks.{hasCode, bit, Seen, Zeros, lateAt, shuts, maskOf, masks, kindsAt, changesIn};
+ghost use Rattle.rescue.specs.Internal.Marks.{hasCode, lacking, bit, Seen, Zeros, lateAt, shuts, maskOf, masks, kindsAt, changesIn};
 ghost use Rattle.rescue.specs.Internal.Marking.{placed, Put};
 ghost use Rattle.rescue.specs.Internal.Note.{Noted, FirstIs, FourthIs};
 ghost use Rattle.cell.specs.Cell.{IsArrangement};
@@ -28,14 +29,34 @@ use loose::Looked;
 use walk::Spot;
 use writing::Written;
 
-// 0 where a code is none of the rising keys; 1 where it is one that was not met before; 2 where it was.
-fn note(keys: &[u64], seen: &mut [u8], code: u64) -> u64
-    requires { ⌜ Rise (now keys) × (length (now keys) ≤ length (now seen)) ⌝ }
+// How many of the rising keys are below a code, looked for from the hint on.
+fn place_in(keys: &[u64], hint: usize, code: u64) -> usize
+    requires { ⌜ Rise (now keys) ⌝ }
+    ensures { λ r. ⌜ r ≡ numberBelow code (now (keys .entry)) ⌝ }
+{
+    track::place_near(keys, keys.len(), hint, code)
+}
+
+// The same for a code that is looked for, which mostly stands behind the last one; else the last place.
+fn place_next(wanted: bool, keys: &[u64], last: usize, code: u64) -> usize
+    requires { ⌜ Rise (now keys) ⌝ }
+    ensures { λ r. ⌜ (wanted ≡ true → r ≡ numberBelow code (now (keys .entry))) ⌝ }
+{
+    if !wanted {
+        return last;
+    }
+    if last < keys.len() {
+        return place_in(keys, last + 1, code);
+    }
+    place_in(keys, last, code)
+}
+
+// 0 where a code, whose place is k, is none of the rising keys; 1 where it is one that was not met before; 2 where it was.
+fn note(keys: &[u64], seen: &mut [u8], k: usize, code: u64) -> u64
+    requires { ⌜ Rise (now keys) × (length (now keys) ≤ length (now seen)) × (k ≡ numberBelow code (now keys)) ⌝ }
     ensures { λ r. ⌜ Noted (now (keys .entry)) (now (seen .entry)) (now (seen .exit)) code r ⌝ }
 {
-    let count = keys.len();
-    let k = track::place_of(keys, count, code);
-    if k >= count {
+    if k >= keys.len() {
         return 0;
     }
     if keys[k] != code {
@@ -48,42 +69,58 @@ fn note(keys: &[u64], seen: &mut [u8], code: u64) -> u64
     1
 }
 
-// Whether a code is one of the rising keys.
-fn holds(keys: &[u64], code: u64) -> bool
-    requires { ⌜ Rise (now keys) ⌝ }
+// Whether a code, whose place is k, is one of the rising keys.
+fn holds(keys: &[u64], k: usize, code: u64) -> bool
+    requires { ⌜ Rise (now keys) × (k ≡ numberBelow code (now keys)) ⌝ }
     ensures { λ r. ⌜ r ≡ hasCode code (now (keys .entry)) ⌝ }
 {
-    let count = keys.len();
-    let k = track::place_of(keys, count, code);
-    if k >= count {
+    if k >= keys.len() {
         return false;
     }
     keys[k] == code
 }
 
+// Of the first `count` codes, those that are none of the rising keys, to the front; and how many they are.
+fn leave(keys: &[u64], codes: &mut [u64], count: usize) -> usize
+    requires { ⌜ Rise (now keys) × (count ≤ length (now codes)) ⌝ }
+    ensures { λ r. ⌜ r ≡ length (lacking (now (keys .entry)) (take count (now (codes .entry)))) ⌝ }
+    ensures { λ r. ⌜ now (codes .exit) ≡ lacking (now (keys .entry)) (take count (now (codes .entry))) ++ drop (length (lacking (now (keys .entry)) (take count (now (codes .entry))))) (now (codes .entry)) ⌝ }
+{
+    let mut kept: usize = 0;
+    let mut near: usize = 0;
+    let mut i: usize = 0;
+    while i < count {
+        let code = codes[i];
+        i = i + 1;
+        near = place_next(true, keys, near, code);
+        if holds(keys, near, code) {
+            continue;
+        }
+        codes[kept] = code;
+        kept = kept + 1;
+    }
+    kept
+}
+
 // Kind 1: a whole cell that is none of the largest, or was named before.
-fn first_kind(whole: bool, code: u64, largest: &[u64], named: &mut [u8]) -> bool
-    requires { ⌜ Rise (now largest) × (length (now largest) ≤ length (now named)) ⌝ }
+fn first_kind(whole: bool, code: u64, largest: &[u64], named: &mut [u8], k: usize) -> bool
+    requires { ⌜ Rise (now largest) × (length (now largest) ≤ length (now named)) × (whole ≡ true → k ≡ numberBelow code (now largest)) ⌝ }
     ensures { λ r. ⌜ FirstIs whole code (now (largest .entry)) (now (named .entry)) (now (named .exit)) r ⌝ }
 {
     if !whole {
         return false;
     }
-    let standing = note(largest, named, code);
+    let standing = note(largest, named, k, code);
     standing != 1
 }
 
 // Kind 4: the first that stands for a cell of the answer that is none of the largest.
-fn fourth_kind(code: u64, largest: &[u64], answers: &[u64], stood: &mut [u8]) -> bool
-    requires { ⌜ Rise (now largest) × Rise (now answers) × (length (now answers) ≤ length (now stood)) ⌝ }
-    ensures { λ r. ⌜ FourthIs code (now (largest .entry)) (now (answers .entry)) (now (stood .entry)) (now (stood .exit)) r ⌝ }
+fn fourth_kind(code: u64, fresh: &[u64], stood: &mut [u8], k: usize) -> bool
+    requires { ⌜ Rise (now fresh) × (length (now fresh) ≤ length (now stood)) × (k ≡ numberBelow code (now fresh)) ⌝ }
+    ensures { λ r. ⌜ FourthIs code (now (fresh .entry)) (now (stood .entry)) (now (stood .exit)) r ⌝ }
 {
-    let standing = note(answers, stood, code);
-    if standing != 1 {
-        return false;
-    }
-    let held = holds(largest, code);
-    !held
+    let standing = note(fresh, stood, k, code);
+    standing == 1
 }
 
 // Kind 2, by the byte right before, and the numbers of the cells before and after.
@@ -126,20 +163,20 @@ fn mask(first: bool, second: bool, fourth: bool) -> u8
     one(first) + one(second) * 2 + one(fourth) * 4
 }
 
-// For each byte of a body, the kinds of change there.
+// For each byte of a body, the kinds of change there. Codes are looked for from where the last ones stood, since most letters and digits rise.
 fn mark(
     arrangement: Arrangement,
     body: &[u8],
     largest: &[u64],
-    answers: &[u64],
+    fresh: &[u64],
     marks: &mut [u8],
     named: &mut [u8],
     stood: &mut [u8],
 )
     requires { ⌜ Walks (now body) 0 origin × (length (now body) ≤ length (now marks)) × IsArrangement arrangement ⌝ }
     requires { ⌜ Rise (now largest) × (length (now largest) ≤ length (now named)) × Seen (now largest) [] (now named) ⌝ }
-    requires { ⌜ Rise (now answers) × (length (now answers) ≤ length (now stood)) × Seen (now answers) [] (now stood) ⌝ }
-    ensures { λ _. ⌜ take (length (now (body .entry))) (now (marks .exit)) ≡ masks arrangement (now (largest .entry)) (now (answers .entry)) 40 origin [] [] (now (body .entry)) ⌝ }
+    requires { ⌜ Rise (now fresh) × (length (now fresh) ≤ length (now stood)) × Seen (now fresh) [] (now stood) ⌝ }
+    ensures { λ _. ⌜ take (length (now (body .entry))) (now (marks .exit)) ≡ masks arrangement (now (largest .entry)) (now (fresh .entry)) 40 origin [] [] (now (body .entry)) ⌝ }
 {
     let mut spot = Spot {
         resolution: 0,
@@ -147,6 +184,8 @@ fn mark(
         first: 0,
     };
     let mut before: u8 = b'(';
+    let mut near: usize = 0;
+    let mut next: usize = 0;
     let mut i: usize = 0;
     while i < body.len() {
         let b = body[i];
@@ -166,8 +205,10 @@ fn mark(
         }
         let code = code::code_as(arrangement, spot.resolution, spot.number);
         let whole = walk::whole_at(body, i);
-        let first = first_kind(whole, code, largest, named);
-        let fourth = fourth_kind(code, largest, answers, stood);
+        near = place_next(whole, largest, near, code);
+        next = place_in(fresh, next, code);
+        let first = first_kind(whole, code, largest, named, near);
+        let fourth = fourth_kind(code, fresh, stood, next);
         marks[i] = mask(first, late(before, old, spot.number), fourth);
         before = b;
         i = i + 1;
@@ -276,11 +317,12 @@ fn find(
     ensures { λ _. ⌜ changesIn 7 (take (length (now (text .entry)) - 7) (now (marks .exit))) ≡ changesOf (now (text .entry)) ⌝ }
 {
     let answers = proper::put_wholes(made, arrangement, spare);
+    let fresh = leave(largest, spare, answers);
     mark(
         arrangement,
         &text[7..],
         largest,
-        &spare[..answers],
+        &spare[..fresh],
         marks,
         named,
         stood,

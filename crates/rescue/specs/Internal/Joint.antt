@@ -47,7 +47,8 @@ use Rattle.rescue.specs.declared.Rescued.{Rescued}
 use Rattle.rescue.specs.declared.Rescued.the-variants.{Done, Refused}
 use Rattle.rescue.specs.Internal.Marks.{hasCode, bit, Seen, masks, changesIn, Zeros}
 use Rattle.rescue.specs.Laws.Flat.{flat-length}
-use Rattle.rescue.specs.Internal.Find.{largest, answers, marks-changes, largest-rise, answers-rise}
+use Rattle.rescue.specs.Internal.Find.{largest, answers, fresh, marks-changes, largest-rise, fresh-rise}
+use Rattle.rescue.specs.Internal.Lack.{lacking-length}
 use Rattle.rescue.specs.Rescue.{flat, changesOf, rescueRefusal, told, RescueIs}
 
 pub zeros-seen : (keys seen : List ℕ) → Zeros seen → Seen keys [] seen
@@ -123,13 +124,16 @@ module _ (t : List ℕ) (e : looseRefusal t ≡ 0) where
       pub made-codes : looseCodes ar made ≡ answers arranged t body
       made-codes = ap (looseCodes ar) m ∙ answer-codes
 
+    pub keys-rise : (ls : List ℕ) → ls ≡ largest arranged t body → Rise ls
+    keys-rise ls q = rw q (largest-rise arranged t body)
+
     largest-short : length (largest arranged t body) ≤ length t
     largest-short = omega (arith, thinned-length 0 (sorted (looseCodes ar t)), sorted-length (looseCodes ar t), codes-fit t is-text ar)
 
     walks : Walks (drop 7 t) 0 origin
     walks = let w = loose-start t body (loose-long t is-text) in record { within = omega arith; fits = w .fits; goes = w .goes }
 
-    module _ (text ls as′ : List ℕ) (p : text ≡ drop 7 t) (q : ls ≡ largest arranged t body) (s : as′ ≡ answers arranged t body) where
+    module _ (text ls as′ : List ℕ) (p : text ≡ drop 7 t) (q : ls ≡ largest arranged t body) (s : as′ ≡ fresh arranged t body) where
       pub mark-ready :
           (marks named stood : List ℕ) → length t ≤ length marks → length t ≤ length named → length t ≤ length stood → Zeros named → Zeros stood →
           (Walks text 0 origin × (length text ≤ length marks)) × ((Rise ls × (length ls ≤ length named) × Seen ls [] named) × (Rise as′ × (length as′ ≤ length stood) × Seen as′ [] stood))
@@ -138,7 +142,7 @@ module _ (t : List ℕ) (e : looseRefusal t ≡ 0) where
             (walks, omega (arith, length-drop 7 t)),
             (
               (largest-rise arranged t body, omega (arith, largest-short), zeros-seen (largest arranged t body) named y),
-              (answers-rise arranged t body, omega (arith, answers-short), zeros-seen (answers arranged t body) stood z),
+              (fresh-rise arranged t body, omega (arith, answers-short, lacking-length (largest arranged t body) (answers arranged t body)), zeros-seen (fresh arranged t body) stood z),
             ),
           )
 
@@ -146,7 +150,7 @@ module _ (t : List ℕ) (e : looseRefusal t ≡ 0) where
       unfolding changesOf
       marked marks h =
           let l : length t - 7 ≡ length text = sym (ap length p ∙ length-drop 7 t) in
-          let g : masks ar ls as′ 40 origin [] [] text ≡ masks ar (largest arranged t body) (answers arranged t body) 40 origin [] [] (drop 7 t) = rw (p, q, s) in
+          let g : masks ar ls as′ 40 origin [] [] text ≡ masks ar (largest arranged t body) (fresh arranged t body) 40 origin [] [] (drop 7 t) = rw (p, q, s) in
           ap (λ (x : ℕ). changesIn 7 (take x marks)) l ∙ ap (changesIn 7) (h ∙ g) ∙ marks-changes arranged t body
 
 -- ---- the answer
