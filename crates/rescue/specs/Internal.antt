@@ -6,3 +6,4 @@ pub mod Mark
 pub mod Marking
 pub mod Marks
 pub mod Note
+pub mod Same

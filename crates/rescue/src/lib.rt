@@ -23,9 +23,11 @@ ghost use Rattle.proper.specs.Thin.{thinned};
 ghost use Rattle.proper.specs.Wholes.{looseCodes};
 ghost use Rattle.rescue.specs.Rescue.{flat, changesOf, RescueIs};
 ghost use Rattle.rescue.specs.Internal.Give.{Gives};
+ghost use Rattle.rescue.specs.Internal.Same.{Same, GivesSame};
 ghost use Rattle.rescue.specs.declared.Rescued.the-variants.{Refused as RefusedWith};
 use cell::Arrangement;
 use loose::Looked;
+use reader::Checked;
 use walk::Spot;
 use writing::Written;
 
@@ -361,6 +363,31 @@ fn give(made: &[u8], marks: &[u8], out: &mut [u8], list: &mut [u64]) -> Rescued
     }
 }
 
+// Whether the reader accepts a looser text: then it is its own proper text.
+fn is_proper(text: &[u8]) -> bool
+    requires { ⌜ looseRefusal (now text) ≡ 0 ⌝ }
+    ensures { λ r. ⌜ (r ≡ true → Same (now (text .entry))) ⌝ }
+{
+    match reader::check(text) {
+        Checked::Refused { .. } => false,
+        Checked::Text { .. } => true,
+    }
+}
+
+// A proper text given as it stands.
+fn give_same(text: &[u8], out: &mut [u8]) -> Rescued
+    ensures { λ r. ⌜ GivesSame (now (text .entry)) (now (out .entry)) (now (out .exit)) r ⌝ }
+{
+    if out.len() < text.len() {
+        return refused(8, 0);
+    }
+    copy(text, out);
+    Rescued::Done {
+        length: text.len() as u64,
+        changes: 0,
+    }
+}
+
 // The rescue of a looser text in lent memory, each part of it as long as the text at least.
 fn rescue_in(
     text: &[u8],
@@ -452,6 +479,9 @@ fn rescue_loose(text: &[u8], arrangement: Arrangement, out: &mut [u8], list: &mu
     requires { ⌜ (looseRefusal (now text) ≡ 0) × (arrangement ≡ looseArrangement (now text)) ⌝ }
     ensures { λ r. ⌜ RescueIs (now (text .entry)) (now (out .entry)) (now (out .exit)) (now (list .entry)) (now (list .exit)) r ⌝ }
 {
+    if is_proper(text) {
+        return give_same(text, out);
+    }
     if text.len() <= 4096 {
         return rescue_short(text, arrangement, out, list);
     }

@@ -1,0 +1,59 @@
+-- `rescue_loose` meets its contract: a proper text comes back as it stands, another one is rescued. Assumes nothing.
+use native.Mathlib.Omega.{arith}
+use borrow.Author.Needs.{needs}
+use Rattle.rescue.proofs.rescue_loose.Statement.{statement}
+use Rattle.rescue.proofs.rescue_loose.Tie as tie
+
+is-proper-requires : tie.Need-is-proper-requires
+is-proper-requires c κs = search needs
+
+give-same-requires : tie.Need-give-same-requires
+give-same-requires c κs = search needs
+
+same-length : tie.Need-same-length
+same-length c = search needs
+
+returns : tie.Need-returns
+returns c =
+    let s = c .before .before .before .before .before .before .before .before .before in c .before .before .give-same .ensures .is (s .args .list .now) (s .pre .0) (c .before .before .before .before .before .is-proper .ensures (c .before .before .before .before .if1 .taken))
+
+rescue-short-requires : tie.Need-rescue-short-requires
+rescue-short-requires c κs = search needs
+
+same-length-2 : tie.Need-same-length-2
+same-length-2 c = search needs
+
+same-length-3 : tie.Need-same-length-3
+same-length-3 c = search needs
+
+returns-2 : tie.Need-returns-2
+returns-2 c = search needs
+
+rescue-long-requires : tie.Need-rescue-long-requires
+rescue-long-requires c κs = search needs
+
+same-length-4 : tie.Need-same-length-4
+same-length-4 c = search needs
+
+same-length-5 : tie.Need-same-length-5
+same-length-5 c = search needs
+
+returns-3 : tie.Need-returns-3
+returns-3 c = search needs
+
+pub rescue-loose-spec : {M : Type 1} → statement M
+rescue-loose-spec =
+    tie.close
+    (tie.spec
+    is-proper-requires
+    give-same-requires
+    same-length
+    returns
+    rescue-short-requires
+    same-length-2
+    same-length-3
+    returns-2
+    rescue-long-requires
+    same-length-4
+    same-length-5
+    returns-3)
