@@ -390,6 +390,10 @@ module _ {out₀ total out : List ℕ} {n : ℕ} (ms : List ℕ) (i : ℕ) (w : 
   pub left-step : {out′ : List ℕ} {n′ : ℕ} → i < length ms → Put out out′ n n′ (flat (kindsAt (i + 7) (getD ms i 0))) → Wrote out₀ total out′ n′ (leftAt ms (i + 1))
   left-step h e = wrote-on (flat (kindsAt (i + 7) (getD ms i 0))) (leftAt ms (i + 1)) (next h) (e .0) (e .1)
 
+  pub left-skip : i < length ms → getD ms i 0 ≡ 0 → Wrote out₀ total out n (leftAt ms (i + 1))
+  unfolding kindsAt flat
+  left-skip h e = rw e at (next h)
+
   pub left-done : length ms ≤ i → out ≡ total ++ drop (length total) out₀
   left-done h = wrote-end (rw (left-end ms i h) at w)
 
