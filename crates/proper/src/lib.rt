@@ -1,23 +1,18 @@
-// The proper text of a looser one: the codes of its whole cells, sorted, those inside others left out, and written.
+// The largest whole cells of a looser text: the codes of its whole cells, sorted, those inside others left out. Its proper text is what is written of them.
 ghost use mathlib.Core.Path.{_≡_};
 ghost use mathlib.Core.Bool.{true};
 ghost use mathlib.Core.List.{_++_};
 ghost use Prim.Native.Nat.{_≤_};
-ghost use lib.Dec.{ltb};
 ghost use lib.ListN.{length, take, drop};
-ghost use Rattle.logic.specs.Refusal.{refuse, given};
 ghost use Rattle.cell.specs.Cell.{IsArrangement};
-ghost use Rattle.writing.specs.Write.{allCodes, written};
+ghost use Rattle.writing.specs.Write.{allCodes};
 ghost use Rattle.sorting.specs.Sorted.{sorted};
 ghost use Rattle.loose.specs.LooseText.{LooseBody};
 ghost use Rattle.loose.specs.LooseScan.{looseNodes};
-ghost use Rattle.loose.specs.Look.{looseArrangement, IsLoose};
-ghost use Rattle.proper.specs.Proper.{properOf};
 ghost use Rattle.proper.specs.Thin.{thinned};
 ghost use Rattle.proper.specs.Wholes.{looseCodes};
 use cell::Arrangement;
 use walk::Spot;
-use writing::Written;
 
 // Of rising codes, the first `count` of `codes`, those whose cells lie in no earlier one's, to the front; and how many they are.
 fn thin(codes: &mut [u64], count: usize) -> usize
@@ -82,20 +77,4 @@ pub fn put_largest(
     let count = put_wholes(text, arrangement, codes);
     sorting::sort(&mut codes[..count], spare);
     thin(codes, count)
-}
-
-// The proper text of a looser one, into `out`: 8 where the room is shorter.
-pub fn put_proper(
-    text: &[u8],
-    arrangement: Arrangement,
-    codes: &mut [u64],
-    spare: &mut [u64],
-    out: &mut [u8],
-) -> Written
-    requires { ⌜ IsLoose (now text) × (length (now text) ≤ 65536) × (length (looseCodes arrangement (now text)) ≤ length (now codes)) × (length (now codes) ≤ length (now spare)) × (arrangement ≡ looseArrangement (now text)) ⌝ }
-    ensures { λ r. ⌜ r ≡ written (refuse (ltb (length (now (out .entry))) (length (properOf (now (text .entry))))) 8) (length (properOf (now (text .entry)))) ⌝ }
-    ensures { λ r. ⌜ now (out .exit) ≡ given (refuse (ltb (length (now (out .entry))) (length (properOf (now (text .entry))))) 8) (properOf (now (text .entry)) ++ drop (length (properOf (now (text .entry)))) (now (out .entry))) (now (out .entry)) ⌝ }
-{
-    let count = put_largest(text, arrangement, codes, spare);
-    writing::write(1, 15, arrangement, &codes[..count], out)
 }

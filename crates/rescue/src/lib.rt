@@ -1,35 +1,64 @@
 // The rescue of a hand-edited text: its proper text, and the list of what was changed. One pass marks each byte with its kinds of change; counting
 // and writing only read the marks.
 ghost use mathlib.Core.Path.{_≡_};
-ghost use mathlib.Core.Bool.{cond};
+ghost use mathlib.Core.Bool.{true, cond};
 ghost use mathlib.Core.List.{[], _++_};
 ghost use Prim.Native.Nat.{_+_, _-_, _*_, _/_, _%_, _≤_, _<_};
 ghost use lib.Dec.{eqb};
 ghost use lib.ListN.{length, take, drop};
 ghost use Rattle.logic.specs.Rise.{Rise};
+ghost use Rattle.track.specs.Track.{numberBelow};
 ghost use Rattle.walk.specs.Walk.{origin, Walks};
-ghost use Rattle.rescue.specs.Internal.Marks.{hasCode, bit, Seen, Zeros, lateAt, shuts, maskOf, masks, kindsAt, changesIn};
+ghost use Rattle.rescue.specs.Internal.Marks.{hasCode, lacking, bit, Seen, Zeros, lateAt, shuts, maskOf, masks, kindsAt, changesIn};
 ghost use Rattle.rescue.specs.Internal.Marking.{placed, Put};
 ghost use Rattle.rescue.specs.Internal.Note.{Noted, FirstIs, FourthIs};
 ghost use Rattle.cell.specs.Cell.{IsArrangement};
+ghost use Rattle.reading.specs.declared.Profile.the-variants.{Full};
+ghost use Rattle.writing.specs.Write.{textOf, writeRefusal};
+ghost use Rattle.sorting.specs.Sorted.{sorted};
 ghost use Rattle.logic.specs.Lent.{inFront};
 ghost use Rattle.loose.specs.Look.{looseArrangement, looseRefusal};
 ghost use Rattle.proper.specs.Proper.{properOf};
+ghost use Rattle.proper.specs.Thin.{thinned};
+ghost use Rattle.proper.specs.Wholes.{looseCodes};
 ghost use Rattle.rescue.specs.Rescue.{flat, changesOf, RescueIs};
+ghost use Rattle.rescue.specs.Internal.Give.{Gives};
+ghost use Rattle.rescue.specs.Internal.Same.{Same, GivesSame};
 ghost use Rattle.rescue.specs.declared.Rescued.the-variants.{Refused as RefusedWith};
 use cell::Arrangement;
 use loose::Looked;
+use reader::Checked;
 use walk::Spot;
 use writing::Written;
 
-// 0 where a code is none of the rising keys; 1 where it is one that was not met before; 2 where it was.
-fn note(keys: &[u64], seen: &mut [u8], code: u64) -> u64
-    requires { ⌜ Rise (now keys) × (length (now keys) ≤ length (now seen)) ⌝ }
+// How many of the rising keys are below a code, looked for from the hint on.
+fn place_in(keys: &[u64], hint: usize, code: u64) -> usize
+    requires { ⌜ Rise (now keys) ⌝ }
+    ensures { λ r. ⌜ r ≡ numberBelow code (now (keys .entry)) ⌝ }
+{
+    track::place_near(keys, keys.len(), hint, code)
+}
+
+// The same for a code that is looked for, which mostly stands behind the last one; else the last place.
+fn place_next(wanted: bool, keys: &[u64], last: usize, code: u64) -> usize
+    requires { ⌜ Rise (now keys) ⌝ }
+    ensures { λ r. ⌜ (wanted ≡ true → r ≡ numberBelow code (now (keys .entry))) ⌝ }
+{
+    if !wanted {
+        return last;
+    }
+    if last < keys.len() {
+        return place_in(keys, last + 1, code);
+    }
+    place_in(keys, last, code)
+}
+
+// 0 where a code, whose place is k, is none of the rising keys; 1 where it is one that was not met before; 2 where it was.
+fn note(keys: &[u64], seen: &mut [u8], k: usize, code: u64) -> u64
+    requires { ⌜ Rise (now keys) × (length (now keys) ≤ length (now seen)) × (k ≡ numberBelow code (now keys)) ⌝ }
     ensures { λ r. ⌜ Noted (now (keys .entry)) (now (seen .entry)) (now (seen .exit)) code r ⌝ }
 {
-    let count = keys.len();
-    let k = track::place_of(keys, count, code);
-    if k >= count {
+    if k >= keys.len() {
         return 0;
     }
     if keys[k] != code {
@@ -42,42 +71,58 @@ fn note(keys: &[u64], seen: &mut [u8], code: u64) -> u64
     1
 }
 
-// Whether a code is one of the rising keys.
-fn holds(keys: &[u64], code: u64) -> bool
-    requires { ⌜ Rise (now keys) ⌝ }
+// Whether a code, whose place is k, is one of the rising keys.
+fn holds(keys: &[u64], k: usize, code: u64) -> bool
+    requires { ⌜ Rise (now keys) × (k ≡ numberBelow code (now keys)) ⌝ }
     ensures { λ r. ⌜ r ≡ hasCode code (now (keys .entry)) ⌝ }
 {
-    let count = keys.len();
-    let k = track::place_of(keys, count, code);
-    if k >= count {
+    if k >= keys.len() {
         return false;
     }
     keys[k] == code
 }
 
+// Of the first `count` codes, those that are none of the rising keys, to the front; and how many they are.
+fn leave(keys: &[u64], codes: &mut [u64], count: usize) -> usize
+    requires { ⌜ Rise (now keys) × (count ≤ length (now codes)) ⌝ }
+    ensures { λ r. ⌜ r ≡ length (lacking (now (keys .entry)) (take count (now (codes .entry)))) ⌝ }
+    ensures { λ r. ⌜ now (codes .exit) ≡ lacking (now (keys .entry)) (take count (now (codes .entry))) ++ drop (length (lacking (now (keys .entry)) (take count (now (codes .entry))))) (now (codes .entry)) ⌝ }
+{
+    let mut kept: usize = 0;
+    let mut near: usize = 0;
+    let mut i: usize = 0;
+    while i < count {
+        let code = codes[i];
+        i = i + 1;
+        near = place_next(true, keys, near, code);
+        if holds(keys, near, code) {
+            continue;
+        }
+        codes[kept] = code;
+        kept = kept + 1;
+    }
+    kept
+}
+
 // Kind 1: a whole cell that is none of the largest, or was named before.
-fn first_kind(whole: bool, code: u64, largest: &[u64], named: &mut [u8]) -> bool
-    requires { ⌜ Rise (now largest) × (length (now largest) ≤ length (now named)) ⌝ }
+fn first_kind(whole: bool, code: u64, largest: &[u64], named: &mut [u8], k: usize) -> bool
+    requires { ⌜ Rise (now largest) × (length (now largest) ≤ length (now named)) × (whole ≡ true → k ≡ numberBelow code (now largest)) ⌝ }
     ensures { λ r. ⌜ FirstIs whole code (now (largest .entry)) (now (named .entry)) (now (named .exit)) r ⌝ }
 {
     if !whole {
         return false;
     }
-    let standing = note(largest, named, code);
+    let standing = note(largest, named, k, code);
     standing != 1
 }
 
 // Kind 4: the first that stands for a cell of the answer that is none of the largest.
-fn fourth_kind(code: u64, largest: &[u64], answers: &[u64], stood: &mut [u8]) -> bool
-    requires { ⌜ Rise (now largest) × Rise (now answers) × (length (now answers) ≤ length (now stood)) ⌝ }
-    ensures { λ r. ⌜ FourthIs code (now (largest .entry)) (now (answers .entry)) (now (stood .entry)) (now (stood .exit)) r ⌝ }
+fn fourth_kind(code: u64, fresh: &[u64], stood: &mut [u8], k: usize) -> bool
+    requires { ⌜ Rise (now fresh) × (length (now fresh) ≤ length (now stood)) × (k ≡ numberBelow code (now fresh)) ⌝ }
+    ensures { λ r. ⌜ FourthIs code (now (fresh .entry)) (now (stood .entry)) (now (stood .exit)) r ⌝ }
 {
-    let standing = note(answers, stood, code);
-    if standing != 1 {
-        return false;
-    }
-    let held = holds(largest, code);
-    !held
+    let standing = note(fresh, stood, k, code);
+    standing == 1
 }
 
 // Kind 2, by the byte right before, and the numbers of the cells before and after.
@@ -120,20 +165,20 @@ fn mask(first: bool, second: bool, fourth: bool) -> u8
     one(first) + one(second) * 2 + one(fourth) * 4
 }
 
-// For each byte of a body, the kinds of change there.
+// For each byte of a body, the kinds of change there. Codes are looked for from where the last ones stood, since most letters and digits rise.
 fn mark(
     arrangement: Arrangement,
     body: &[u8],
     largest: &[u64],
-    answers: &[u64],
+    fresh: &[u64],
     marks: &mut [u8],
     named: &mut [u8],
     stood: &mut [u8],
 )
     requires { ⌜ Walks (now body) 0 origin × (length (now body) ≤ length (now marks)) × IsArrangement arrangement ⌝ }
     requires { ⌜ Rise (now largest) × (length (now largest) ≤ length (now named)) × Seen (now largest) [] (now named) ⌝ }
-    requires { ⌜ Rise (now answers) × (length (now answers) ≤ length (now stood)) × Seen (now answers) [] (now stood) ⌝ }
-    ensures { λ _. ⌜ take (length (now (body .entry))) (now (marks .exit)) ≡ masks arrangement (now (largest .entry)) (now (answers .entry)) 40 origin [] [] (now (body .entry)) ⌝ }
+    requires { ⌜ Rise (now fresh) × (length (now fresh) ≤ length (now stood)) × Seen (now fresh) [] (now stood) ⌝ }
+    ensures { λ _. ⌜ take (length (now (body .entry))) (now (marks .exit)) ≡ masks arrangement (now (largest .entry)) (now (fresh .entry)) 40 origin [] [] (now (body .entry)) ⌝ }
 {
     let mut spot = Spot {
         resolution: 0,
@@ -141,6 +186,8 @@ fn mark(
         first: 0,
     };
     let mut before: u8 = b'(';
+    let mut near: usize = 0;
+    let mut next: usize = 0;
     let mut i: usize = 0;
     while i < body.len() {
         let b = body[i];
@@ -160,8 +207,10 @@ fn mark(
         }
         let code = code::code_as(arrangement, spot.resolution, spot.number);
         let whole = walk::whole_at(body, i);
-        let first = first_kind(whole, code, largest, named);
-        let fourth = fourth_kind(code, largest, answers, stood);
+        near = place_next(whole, largest, near, code);
+        next = place_in(fresh, next, code);
+        let first = first_kind(whole, code, largest, named, near);
+        let fourth = fourth_kind(code, fresh, stood, next);
         marks[i] = mask(first, late(before, old, spot.number), fourth);
         before = b;
         i = i + 1;
@@ -225,6 +274,10 @@ fn write(marks: &[u8], out: &mut [u64])
     let mut n: usize = 0;
     let mut i: usize = 0;
     while i < marks.len() {
+        if marks[i] == 0 {
+            i = i + 1;
+            continue;
+        }
         n = put_kinds(out, n, i as u64 + 7, marks[i]);
         i = i + 1;
     }
@@ -242,46 +295,40 @@ fn copy(text: &[u8], out: &mut [u8])
     }
 }
 
-// The proper text of a looser one, to the front of `made`; and its length.
-fn make(
-    text: &[u8],
-    arrangement: Arrangement,
-    codes: &mut [u64],
-    spare: &mut [u64],
-    made: &mut [u8],
-) -> usize
-    requires { ⌜ (looseRefusal (now text) ≡ 0) × (arrangement ≡ looseArrangement (now text)) × (length (now codes) ≡ 65536) × (length (now spare) ≡ 65536) × (length (now made) ≡ 65536) ⌝ }
-    ensures { λ r. ⌜ (r ≡ length (properOf (now (text .entry)))) × (take r (now (made .exit)) ≡ properOf (now (text .entry))) × (r ≤ 65536) ⌝ }
+// The text of cells that are written as they stand, to the front of `made`; and its length.
+fn make(arrangement: Arrangement, cells: &[u64], made: &mut [u8]) -> usize
+    requires { ⌜ writeRefusal 1 15 arrangement (now cells) (length (now made)) ≡ 0 ⌝ }
+    ensures { λ r. ⌜ (r ≡ length (textOf Full arrangement (now (cells .entry)))) × (take r (now (made .exit)) ≡ textOf Full arrangement (now (cells .entry))) ⌝ }
 {
-    match proper::put_proper(text, arrangement, codes, spare, made) {
+    match writing::write(1, 15, arrangement, cells, made) {
         Written::Refused(refusal) => 0,
         Written::Length(length) => length as usize,
     }
 }
 
-// What is changed, by the numbers of the bytes behind the heading. `made` is the proper text.
+// What is changed, by the numbers of the bytes behind the heading. `made` is the proper text, and `largest` holds the largest whole cells.
 fn find(
     text: &[u8],
     arrangement: Arrangement,
     made: &[u8],
-    codes: &mut [u64],
+    largest: &[u64],
     spare: &mut [u64],
     marks: &mut [u8],
     named: &mut [u8],
     stood: &mut [u8],
 )
-    requires { ⌜ (looseRefusal (now text) ≡ 0) × (now made ≡ properOf (now text)) × (arrangement ≡ looseArrangement (now text)) ⌝ }
-    requires { ⌜ (length (now codes) ≡ 65536) × (length (now spare) ≡ 65536) × (length (now marks) ≡ 65536) × (length (now named) ≡ 65536) × (length (now stood) ≡ 65536) ⌝ }
+    requires { ⌜ (looseRefusal (now text) ≡ 0) × (now made ≡ properOf (now text)) × (arrangement ≡ looseArrangement (now text)) × (now largest ≡ thinned 0 (sorted (looseCodes arrangement (now text)))) ⌝ }
+    requires { ⌜ (length (now text) ≤ length (now spare)) × (length (now text) ≤ length (now marks)) × (length (now text) ≤ length (now named)) × (length (now text) ≤ length (now stood)) ⌝ }
     requires { ⌜ Zeros (now named) × Zeros (now stood) ⌝ }
     ensures { λ _. ⌜ changesIn 7 (take (length (now (text .entry)) - 7) (now (marks .exit))) ≡ changesOf (now (text .entry)) ⌝ }
 {
-    let count = proper::put_largest(text, arrangement, codes, spare);
     let answers = proper::put_wholes(made, arrangement, spare);
+    let fresh = leave(largest, spare, answers);
     mark(
         arrangement,
         &text[7..],
-        &codes[..count],
-        &spare[..answers],
+        largest,
+        &spare[..fresh],
         marks,
         named,
         stood,
@@ -300,8 +347,164 @@ fn refused(refusal: u64, place: u64) -> Rescued
     Rescued::Refused { refusal, place }
 }
 
-// The rescue of a looser text. Both rooms are tested before anything is written.
-fn rescue_loose(text: &[u8], arrangement: Arrangement, out: &mut [u8], list: &mut [u64]) -> Rescued
+// A proper text and what was changed, given: both rooms are tested before anything is written.
+fn give(made: &[u8], marks: &[u8], out: &mut [u8], list: &mut [u64]) -> Rescued
+    requires { ⌜ length (now marks) ≤ 65536 ⌝ }
+    ensures { λ r. ⌜ Gives (now (made .entry)) (now (marks .entry)) (now (out .entry)) (now (out .exit)) (now (list .entry)) (now (list .exit)) r ⌝ }
+{
+    let changes = count(marks);
+    if out.len() < made.len() {
+        return refused(8, 0);
+    }
+    if (list.len() as u64) < changes * 2 {
+        return refused(8, 0);
+    }
+    copy(made, out);
+    write(marks, list);
+    Rescued::Done {
+        length: made.len() as u64,
+        changes,
+    }
+}
+
+// Whether the reader accepts a looser text: then it is its own proper text.
+fn is_proper(text: &[u8]) -> bool
+    requires { ⌜ looseRefusal (now text) ≡ 0 ⌝ }
+    ensures { λ r. ⌜ (r ≡ true → Same (now (text .entry))) ⌝ }
+{
+    match reader::check(text) {
+        Checked::Refused { .. } => false,
+        Checked::Text { .. } => true,
+    }
+}
+
+// A proper text given as it stands.
+fn give_same(text: &[u8], out: &mut [u8]) -> Rescued
+    ensures { λ r. ⌜ GivesSame (now (text .entry)) (now (out .entry)) (now (out .exit)) r ⌝ }
+{
+    if out.len() < text.len() {
+        return refused(8, 0);
+    }
+    copy(text, out);
+    Rescued::Done {
+        length: text.len() as u64,
+        changes: 0,
+    }
+}
+
+// The rescue of a looser text in lent memory, each part of it as long as the text at least.
+fn rescue_in(
+    text: &[u8],
+    arrangement: Arrangement,
+    codes: &mut [u64],
+    spare: &mut [u64],
+    made: &mut [u8],
+    marks: &mut [u8],
+    named: &mut [u8],
+    stood: &mut [u8],
+    out: &mut [u8],
+    list: &mut [u64],
+) -> Rescued
+    requires { ⌜ (looseRefusal (now text) ≡ 0) × (arrangement ≡ looseArrangement (now text)) ⌝ }
+    requires { ⌜ (length (now text) ≤ length (now codes)) × (length (now codes) ≤ length (now spare)) × (length (now text) ≤ length (now made)) ⌝ }
+    requires { ⌜ (length (now text) ≤ length (now marks)) × (length (now text) ≤ length (now named)) × (length (now text) ≤ length (now stood)) ⌝ }
+    requires { ⌜ Zeros (now named) × Zeros (now stood) ⌝ }
+    ensures { λ r. ⌜ RescueIs (now (text .entry)) (now (out .entry)) (now (out .exit)) (now (list .entry)) (now (list .exit)) r ⌝ }
+{
+    let count = proper::put_largest(text, arrangement, codes, spare);
+    let largest = &codes[..count];
+    let length = make(arrangement, largest, made);
+    let proper = &made[..length];
+    find(
+        text,
+        arrangement,
+        proper,
+        largest,
+        spare,
+        marks,
+        named,
+        stood,
+    );
+    give(proper, &marks[..text.len() - 7], out, list)
+}
+
+// The rescue of a looser text of at most 1,024 bytes. The memory of a call is cleared each time, so short texts have little of it.
+fn rescue_small(text: &[u8], arrangement: Arrangement, out: &mut [u8], list: &mut [u64]) -> Rescued
+    requires { ⌜ (looseRefusal (now text) ≡ 0) × (arrangement ≡ looseArrangement (now text)) × (length (now text) ≤ 1024) ⌝ }
+    ensures { λ r. ⌜ RescueIs (now (text .entry)) (now (out .entry)) (now (out .exit)) (now (list .entry)) (now (list .exit)) r ⌝ }
+{
+    let mut codes = [0u64; 1024];
+    let mut spare = [0u64; 1024];
+    let mut made = [0u8; 1024];
+    let mut marks = [0u8; 1024];
+    let mut named = [0u8; 1024];
+    let mut stood = [0u8; 1024];
+    rescue_in(
+        text,
+        arrangement,
+        &mut codes,
+        &mut spare,
+        &mut made,
+        &mut marks,
+        &mut named,
+        &mut stood,
+        out,
+        list,
+    )
+}
+
+// The rescue of a looser text of at most 4,096 bytes.
+fn rescue_short(text: &[u8], arrangement: Arrangement, out: &mut [u8], list: &mut [u64]) -> Rescued
+    requires { ⌜ (looseRefusal (now text) ≡ 0) × (arrangement ≡ looseArrangement (now text)) × (length (now text) ≤ 4096) ⌝ }
+    ensures { λ r. ⌜ RescueIs (now (text .entry)) (now (out .entry)) (now (out .exit)) (now (list .entry)) (now (list .exit)) r ⌝ }
+{
+    let mut codes = [0u64; 4096];
+    let mut spare = [0u64; 4096];
+    let mut made = [0u8; 4096];
+    let mut marks = [0u8; 4096];
+    let mut named = [0u8; 4096];
+    let mut stood = [0u8; 4096];
+    rescue_in(
+        text,
+        arrangement,
+        &mut codes,
+        &mut spare,
+        &mut made,
+        &mut marks,
+        &mut named,
+        &mut stood,
+        out,
+        list,
+    )
+}
+
+// The rescue of a looser text of at most 16,384 bytes.
+fn rescue_middle(text: &[u8], arrangement: Arrangement, out: &mut [u8], list: &mut [u64]) -> Rescued
+    requires { ⌜ (looseRefusal (now text) ≡ 0) × (arrangement ≡ looseArrangement (now text)) × (length (now text) ≤ 16384) ⌝ }
+    ensures { λ r. ⌜ RescueIs (now (text .entry)) (now (out .entry)) (now (out .exit)) (now (list .entry)) (now (list .exit)) r ⌝ }
+{
+    let mut codes = [0u64; 16384];
+    let mut spare = [0u64; 16384];
+    let mut made = [0u8; 16384];
+    let mut marks = [0u8; 16384];
+    let mut named = [0u8; 16384];
+    let mut stood = [0u8; 16384];
+    rescue_in(
+        text,
+        arrangement,
+        &mut codes,
+        &mut spare,
+        &mut made,
+        &mut marks,
+        &mut named,
+        &mut stood,
+        out,
+        list,
+    )
+}
+
+// The rescue of any looser text.
+fn rescue_long(text: &[u8], arrangement: Arrangement, out: &mut [u8], list: &mut [u64]) -> Rescued
     requires { ⌜ (looseRefusal (now text) ≡ 0) × (arrangement ≡ looseArrangement (now text)) ⌝ }
     ensures { λ r. ⌜ RescueIs (now (text .entry)) (now (out .entry)) (now (out .exit)) (now (list .entry)) (now (list .exit)) r ⌝ }
 {
@@ -311,31 +514,38 @@ fn rescue_loose(text: &[u8], arrangement: Arrangement, out: &mut [u8], list: &mu
     let mut marks = [0u8; 65536];
     let mut named = [0u8; 65536];
     let mut stood = [0u8; 65536];
-    let length = make(text, arrangement, &mut codes, &mut spare, &mut made);
-    find(
+    rescue_in(
         text,
         arrangement,
-        &made[..length],
         &mut codes,
         &mut spare,
+        &mut made,
         &mut marks,
         &mut named,
         &mut stood,
-    );
-    let body = text.len() - 7;
-    let changes = count(&marks[..body]);
-    if out.len() < length {
-        return refused(8, 0);
+        out,
+        list,
+    )
+}
+
+// The rescue of a looser text.
+fn rescue_loose(text: &[u8], arrangement: Arrangement, out: &mut [u8], list: &mut [u64]) -> Rescued
+    requires { ⌜ (looseRefusal (now text) ≡ 0) × (arrangement ≡ looseArrangement (now text)) ⌝ }
+    ensures { λ r. ⌜ RescueIs (now (text .entry)) (now (out .entry)) (now (out .exit)) (now (list .entry)) (now (list .exit)) r ⌝ }
+{
+    if is_proper(text) {
+        return give_same(text, out);
     }
-    if (list.len() as u64) < changes * 2 {
-        return refused(8, 0);
+    if text.len() <= 1024 {
+        return rescue_small(text, arrangement, out, list);
     }
-    copy(&made[..length], out);
-    write(&marks[..body], list);
-    Rescued::Done {
-        length: length as u64,
-        changes,
+    if text.len() <= 4096 {
+        return rescue_short(text, arrangement, out, list);
     }
+    if text.len() <= 16384 {
+        return rescue_middle(text, arrangement, out, list);
+    }
+    rescue_long(text, arrangement, out, list)
 }
 
 // The rescue of any bytes: the proper text into `out`, and what was changed, place and kind one behind the other, into `list`; 13, 10, 9 or 8 where

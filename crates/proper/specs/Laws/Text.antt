@@ -9,7 +9,7 @@ use lib.Dec.{ltb}
 use lib.ListN.{length, take, drop, length-map, length-drop}
 use lib.Seq.{take-all}
 use borrow.Author.Tests.{le-ltb}
-use Rattle.logic.specs.Refusal.{refuse, _otherwise_, given}
+use Rattle.logic.specs.Refusal.{refuse, _otherwise_}
 use Rattle.logic.specs.Laws.Refusal.{passes}
 use Rattle.logic.specs.Laws.Order.{lt-or}
 use Rattle.cell.specs.declared.Arrangement.{Arrangement}
@@ -25,8 +25,7 @@ use Rattle.reading.specs.Laws.Report.{count-names, count-most}
 use Rattle.reading.specs.Written.{keeps, nodesFor}
 use Rattle.reading.specs.Laws.Written.{nodes-good}
 use Rattle.reading.specs.Laws.Fits.{good-fits}
-use Rattle.writing.specs.declared.Written.{Written}
-use Rattle.writing.specs.Write.{allCodes, codesRefusal, isVersion, textOf, fitRefusal, writeRefusal, textIn, written}
+use Rattle.writing.specs.Write.{allCodes, codesRefusal, isVersion, textOf, fitRefusal, writeRefusal}
 use Rattle.sorting.specs.Sorted.{sorted}
 use Rattle.loose.specs.LooseText.{LooseBody}
 use Rattle.loose.specs.LooseScan.{looseNodes}
@@ -53,9 +52,9 @@ module _ (t : List ℕ) (r : IsLoose t) where
   short-enough = rescued-short r
 
   -- as many codes as letters and digits at most
-  pub codes-fit : (a : Arrangement) → length t ≤ 65536 → length (looseCodes a t) ≤ 65536
+  pub codes-fit : (a : Arrangement) → length (looseCodes a t) ≤ length t
   unfolding looseCodes wholeCells
-  codes-fit a h =
+  codes-fit a =
       let ns = looseNodes (drop 7 t) in
       omega (
         arith,
@@ -98,28 +97,21 @@ module _ (t : List ℕ) (r : IsLoose t) where
       ∙ passes _ (ap (λ (b : Bool). refuse b 13) l)
       ∙ ap (λ (x : List ℕ). refuse (ltb room (length x)) 8) text-is
 
-  pub text-in : (out : List ℕ) → textIn Full (looseArrangement t) left out ≡ properOf t ++ drop (length (properOf t)) out
-  unfolding textIn
-  text-in out = ap (λ (x : List ℕ). x ++ drop (length x) out) text-is
-
 -- what was taken from the front is all there
 pub take-fits : (n : ℕ) (c x : List ℕ) → n ≡ length x → take n c ≡ x → n ≤ length c
 take-fits n c x e f =
     ⊎-elim (λ h. absurd (let z = ap length (sym (take-all n c (omega arith)) ∙ f) in omega arith)) (λ h. h) (lt-or (length c) n)
 
-pub proper-written :
-    (t out out′ : List ℕ) → IsLoose t → (a : Arrangement) (c : List ℕ) (w : Written) → a ≡ looseArrangement t → c ≡ thinned 0 (sorted (looseCodes a t)) →
-    length t ≤ 65536 →
-    (w ≡ written (writeRefusal 1 15 a c (length out)) (length (textOf Full a c))) ×
-    (out′ ≡ given (writeRefusal 1 15 a c (length out)) (textIn Full a c out) out) →
-    (w ≡ written (refuse (ltb (length out) (length (properOf t))) 8) (length (properOf t))) ×
-    (out′ ≡ given (refuse (ltb (length out) (length (properOf t))) 8) (properOf t ++ drop (length (properOf t)) out) out)
-proper-written t out out′ r a c w ea ec h p =
-    let ed : c ≡ thinned 0 (sorted (looseCodes (looseArrangement t) t)) = ec ∙ ap (λ (x : Arrangement). thinned 0 (sorted (looseCodes x t))) ea in
-    let f : writeRefusal 1 15 a c (length out) ≡ refuse (ltb (length out) (length (properOf t))) 8 =
-    ap₂ (λ (x : Arrangement) (y : List ℕ). writeRefusal 1 15 x y (length out)) ea ed ∙ only-eight t r (length out) h in
-    let l : length (textOf Full a c) ≡ length (properOf t) =
-    ap₂ (λ (x : Arrangement) (y : List ℕ). length (textOf Full x y)) ea ed ∙ ap length (text-is t r) in
-    let i : textIn Full a c out ≡ properOf t ++ drop (length (properOf t)) out =
-    ap₂ (λ (x : Arrangement) (y : List ℕ). textIn Full x y out) ea ed ∙ text-in t r out in
-    (p .0 ∙ ap₂ written f l, p .1 ∙ ap₂ (λ (x : ℕ) (y : List ℕ). given x y out) f i)
+-- the text of those that are left, in a room as long as the looser text
+module _ (t : List ℕ) (r : IsLoose t) {a : Arrangement} {c : List ℕ} (ea : a ≡ looseArrangement t) (ec : c ≡ thinned 0 (sorted (looseCodes a t))) where
+  own : c ≡ thinned 0 (sorted (looseCodes (looseArrangement t) t))
+  own = ec ∙ ap (λ (x : Arrangement). thinned 0 (sorted (looseCodes x t))) ea
+
+  pub proper-text : textOf Full a c ≡ properOf t
+  proper-text = ap₂ (textOf Full) ea own ∙ text-is t r
+
+  pub proper-fits : (room : ℕ) → length t ≤ 65536 → length t ≤ room → writeRefusal 1 15 a c room ≡ 0
+  proper-fits room h l =
+      ap₂ (λ (x : Arrangement) (y : List ℕ). writeRefusal 1 15 x y room) ea own
+      ∙ only-eight t r room h
+      ∙ ap (λ (b : Bool). refuse b 8) (le-ltb room (length (properOf t)) (omega (arith, short-enough t r)))

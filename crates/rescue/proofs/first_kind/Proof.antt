@@ -1,9 +1,9 @@
 -- Assumes nothing.
 use native.Mathlib.Omega.{arith}
 use borrow.Author.Needs.{needs}
-use Rattle.rescue.specs.Internal.Note.{first-not, first-noted}
-use borrow.Author.Tests.{not-true, not-false}
 use mathlib.Core.Path.{refl}
+use borrow.Author.Tests.{not-true, not-false}
+use Rattle.rescue.specs.Internal.Note.{first-not, first-noted}
 use Rattle.rescue.proofs.first_kind.Statement.{statement}
 use Rattle.rescue.proofs.first_kind.Tie as tie
 
@@ -11,7 +11,7 @@ returns : tie.Need-returns
 returns c = first-not (not-true _ (c .if1 .taken))
 
 note-requires : tie.Need-note-requires
-note-requires c κs = search needs
+note-requires c κs = let p = c .before .before .before .before .pre in (p .0, p .1, p .2 (not-false _ (c .before .if1 .left)))
 
 same-length : tie.Need-same-length
 same-length c = search needs

@@ -1,16 +1,13 @@
--- Assumes nothing.
+-- `holds` meets its contract: a code stands at its place, or nowhere. Assumes nothing.
 use native.Mathlib.Omega.{arith}
 use borrow.Author.Needs.{needs}
-use Rattle.rescue.specs.Internal.Note.{held-all, holds-past, holds-here}
 use mathlib.Core.Path.{refl}
+use Rattle.rescue.specs.Internal.Note.{holds-past, holds-here}
 use Rattle.rescue.proofs.holds.Statement.{statement}
 use Rattle.rescue.proofs.holds.Tie as tie
 
-place-of-requires : tie.Need-place-of-requires
-place-of-requires c κs = held-all _ (c .before .pre)
-
 returns : tie.Need-returns
-returns c = let a = c .before .before .before .args in holds-past (a .keys .now) (a .code) (c .before .before .before .pre) (c .before .place-of .ensures) (c .if1 .taken)
+returns c = let s = c .before in holds-past (s .args .keys .now) (s .args .code) (s .pre .0) (s .pre .1) (c .if1 .taken)
 
 mul-result : tie.Need-mul-result
 mul-result c = search needs
@@ -19,8 +16,7 @@ shared-slice-read-result : tie.Need-shared-slice-read-result
 shared-slice-read-result c = search needs
 
 returns-2 : tie.Need-returns-2
-returns-2 c = let a = c .before .before .before .before .args in holds-here (a .keys .now) (a .code) (c .before .before .before .before .pre) (c .before .before .place-of .ensures) (omega arith) refl
+returns-2 c = let s = c .before .before in holds-here (s .args .keys .now) (s .args .code) (s .pre .0) (s .pre .1) (omega arith) refl
 
 pub holds-spec : {M : Type 1} → statement M
-holds-spec =
-    tie.close (tie.spec place-of-requires returns mul-result shared-slice-read-result returns-2)
+holds-spec = tie.close (tie.spec returns mul-result shared-slice-read-result returns-2)

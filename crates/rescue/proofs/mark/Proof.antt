@@ -11,15 +11,17 @@ use Rattle.rescue.proofs.mark.Statement.{statement}
 use Rattle.rescue.proofs.mark.Tie as tie
 
 abbrev Inv-loop : tie.InvT-loop
-Inv-loop arrangement body largest answers marks₀ named₀ stood₀ spot₀ before₀ i₀ marks named stood spot before i =
-    Rise largest × Rise answers × (length marks ≡ length marks₀) × (length named ≡ length named₀) × (length stood ≡ length stood₀)
-    × Marking arrangement largest answers body marks named stood before i spot
+Inv-loop arrangement body largest fresh marks₀ named₀ stood₀ spot₀ before₀ near₀ next₀ i₀ marks named stood spot before near next i =
+    Rise largest × Rise fresh × (length marks ≡ length marks₀) × (length named ≡ length named₀) × (length stood ≡ length stood₀)
+    × Marking arrangement largest fresh body marks named stood before i spot
 
 abbrev μ-loop : tie.MeasureT-loop
-μ-loop arrangement body largest answers marks₀ named₀ stood₀ spot₀ before₀ i₀ marks named stood spot before i = length body - i
+μ-loop arrangement body largest fresh marks₀ named₀ stood₀ spot₀ before₀ near₀ next₀ i₀ marks named stood spot before near next i =
+    length body - i
 
 loop-holds : tie.Need-loop-holds Inv-loop μ-loop
-loop-holds c = let p = c .before .before .before .before .before .before .pre in
+loop-holds c =
+    let p = c .before .before .before .before .before .before .pre in
     (p .1 .0 .0, p .1 .1 .0, refl, refl, refl, marking-start _ _ _ _ _ _ _ (p .0 .0) (p .0 .1) (p .1 .0 .1) (p .1 .1 .1) (p .1 .0 .2) (p .1 .1 .2))
 
 shared-slice-read-b : tie.Need-shared-slice-read-b Inv-loop μ-loop
@@ -71,11 +73,17 @@ code-as-requires c κs =
 whole-at-requires : tie.Need-whole-at-requires Inv-loop μ-loop
 whole-at-requires c κs = search needs
 
+place-next-requires : tie.Need-place-next-requires Inv-loop μ-loop
+place-next-requires c κs = c .before .before .before .before .before .before .before .loop .inv .0
+
+place-in-requires : tie.Need-place-in-requires Inv-loop μ-loop
+place-in-requires c κs = c .before .before .before .before .before .before .before .before .loop .inv .1
+
 first-kind-requires : tie.Need-first-kind-requires Inv-loop μ-loop
-first-kind-requires c κs = let l = c .before .before .before .before .before .before .before .before .loop .inv in (l .0, l .5 .named-long)
+first-kind-requires c κs = let l = c .before .before .before .before .before .before .before .before .before .before .loop .inv in (l .0, l .5 .named-long, c .before .before .place-next .ensures)
 
 fourth-kind-requires : tie.Need-fourth-kind-requires Inv-loop μ-loop
-fourth-kind-requires c κs = let l = c .before .before .before .before .before .before .before .before .before .before .before .before .loop .inv in (l .0, l .1, l .5 .stood-long)
+fourth-kind-requires c κs = let l = c .before .before .before .before .before .before .before .before .before .before .before .before .before .before .loop .inv in (l .1, l .5 .stood-long, c .before .before .before .before .before .place-in .ensures)
 
 late-requires : tie.Need-late-requires Inv-loop μ-loop
 late-requires c κs = search needs
@@ -88,7 +96,7 @@ slice-write-marks-3 c = search needs
 
 add-i-3 : tie.Need-add-i-3 Inv-loop μ-loop
 add-i-3 c =
-    let a = c .before .before .before .before .before .before .before .before .before .before .before .before .before .before .before .before in
+    let a = c .before .before .before .before .before .before .before .before .before .before .before .before .before .before .before .before .before .before in
     let g = a .before .before .before .before .before .before .before .before .good in
     omega (arith, a .loop-test .taken)
 
@@ -99,7 +107,7 @@ loop-again-3 : tie.Need-loop-again-3 Inv-loop μ-loop
 loop-again-3 c =
     let n = c .before .before .before .before in
     let f = n .before .before .before .before in
-    let w = f .before .before in
+    let w = f .before .before .before .before in
     let b = w .before .before .before in
     let l = b .before .before .before .before .loop .inv in (
       l .0,
@@ -144,6 +152,8 @@ mark-spec =
     loop-again-2
     code-as-requires
     whole-at-requires
+    place-next-requires
+    place-in-requires
     first-kind-requires
     fourth-kind-requires
     late-requires

@@ -38,7 +38,8 @@ use Rattle.proper.specs.Thin.{thinned, Coded}
 use Rattle.proper.specs.Laws.Thin.{thinned-coded, thinned-good}
 use Rattle.proper.specs.Laws.Thinned.{codes-sorted}
 use Rattle.proper.specs.Wholes.{looseCodes}
-use Rattle.rescue.specs.Internal.Marks.{hasCode, standing, firstKind, fourthKind, metOwn, masks, changesIn, codeNamed, itemChanges, tested}
+use Rattle.rescue.specs.Internal.Marks.{hasCode, lacking, standing, firstKind, fourthKind, metOwn, masks, changesIn, codeNamed, itemChanges, tested}
+use Rattle.rescue.specs.Internal.Lack.{has-lacking, rise-lacking}
 use Rattle.rescue.specs.Internal.Mark.{name-more, marks-tested}
 
 -- ---- names and codes
@@ -131,7 +132,7 @@ first-test true false true = refl
 first-test true false false = refl
 first-test false a b = refl
 
-fourth-test : (a m e : Bool) → (a && (not m && not e)) ≡ (eqb (cond a (cond e 2 1) 0) 1 && not m)
+fourth-test : (a m e : Bool) → (a && (not m && not e)) ≡ eqb (cond (a && not m) (cond e 2 1) 0) 1
 fourth-test true true true = refl
 fourth-test true true false = refl
 fourth-test true false true = refl
@@ -151,6 +152,10 @@ module _ {ar : Arrangement} (v : IsArrangement ar) (t : List ℕ) (b : LooseBody
 
   abbrev pub answers : List ℕ
   answers = map (codeOf ar) (map cellNamed (names (answer nodes)))
+
+  -- those of the answer that are named whole nowhere
+  abbrev pub fresh : List ℕ
+  fresh = lacking largest answers
 
   abbrev all : List Item
   all = items 7 [] 0 nodes
@@ -173,17 +178,18 @@ module _ {ar : Arrangement} (v : IsArrangement ar) (t : List ℕ) (b : LooseBody
 
   fourth-is :
       (earlier : List Item) (e : Item) → IsName 6 15 (e .name) → Named earlier →
-      kind-4 (names (answer nodes)) all earlier e ≡ fourthKind (codeNamed ar (e .name)) largest answers (metCodes ar earlier)
+      kind-4 (names (answer nodes)) all earlier e ≡ fourthKind (codeNamed ar (e .name)) fresh (metCodes ar earlier)
   unfolding fourthKind standing
   fourth-is earlier e n m =
       fourth-kind nodes (b .loose) (map nameIn largest) (left-largest v t b) earlier e
       ∙ ap₂ (λ (x y : Bool). x && (not y && not (any (stands-for (e .name)) earlier))) (has-names v (names (answer nodes)) (e .name) answer-names n) (has-left v largest (e .name) left-coded n)
       ∙ ap (λ (x : Bool). hasCode (codeNamed ar (e .name)) answers && (not (hasCode (codeNamed ar (e .name)) largest) && not x)) (any-met v earlier (e .name) m n)
       ∙ fourth-test (hasCode (codeNamed ar (e .name)) answers) (hasCode (codeNamed ar (e .name)) largest) (hasCode (codeNamed ar (e .name)) (metCodes ar earlier))
+      ∙ ap (λ (x : Bool). eqb (cond x (cond (hasCode (codeNamed ar (e .name)) (metCodes ar earlier)) 2 1) 0) 1) (sym (has-lacking largest answers (codeNamed ar (e .name))))
 
   from-tested :
       (es earlier : List Item) → Named es → Named earlier → ((e : Item) → IMem e es → IMem e all) →
-      changesFrom (names (answer nodes)) all earlier es ≡ tested ar largest answers (ownCodes ar earlier) (metCodes ar earlier) es
+      changesFrom (names (answer nodes)) all earlier es ≡ tested ar largest fresh (ownCodes ar earlier) (metCodes ar earlier) es
   unfolding changesFrom tested ownCodes metCodes
   from-tested [] earlier n m i = refl
   from-tested (e ∷ es) earlier n m i =
@@ -192,11 +198,11 @@ module _ {ar : Arrangement} (v : IsArrangement ar) (t : List ℕ) (b : LooseBody
       (from-tested es (e ∷ earlier) (n .1) (n .0, m) (λ x k. i x (inr k)))
 
   -- the numbers of the body stand for the changes
-  pub marks-changes : changesIn 7 (masks ar largest answers 40 origin [] [] (drop 7 t)) ≡ changes nodes
+  pub marks-changes : changesIn 7 (masks ar largest fresh 40 origin [] [] (drop 7 t)) ≡ changes nodes
   unfolding changes ownCodes metCodes
   marks-changes =
-      ap (λ (x : List ℕ). changesIn 7 (masks ar largest answers 40 origin [] [] x)) (b .all)
-      ∙ marks-tested ar largest answers nodes (b .loose)
+      ap (λ (x : List ℕ). changesIn 7 (masks ar largest fresh 40 origin [] [] x)) (b .all)
+      ∙ marks-tested ar largest fresh nodes (b .loose)
       ∙ sym (from-tested all [] (items-named nodes Faces 15 7 0 [] (b .loose) (omega arith) (λ c h. (h, omega arith, tt))) tt (λ e m. m))
 
   -- ---- both lists rise
@@ -210,8 +216,11 @@ module _ {ar : Arrangement} (v : IsArrangement ar) (t : List ℕ) (b : LooseBody
       rw (codes-back largest left-coded) at
       (codes-rise ar (map cellOf largest) (good-list ar largest (thinned-good ar (sorted (looseCodes ar t)) (codes-sorted v t b)) .rising))
 
-  pub answers-rise : Rise answers
+  answers-rise : Rise answers
   answers-rise =
       codes-rise ar (map cellNamed (names (answer nodes)))
       (rise-rising (map cellNamed (names (answer nodes))) (cells-named (names (answer nodes)) answer-names)
       (rw (names-named (names (answer nodes)) answer-names) (names-rise (answer nodes) Faces 15 0 good)))
+
+  pub fresh-rise : Rise fresh
+  fresh-rise = rise-lacking largest answers answers-rise

@@ -47,7 +47,8 @@ use Rattle.rescue.specs.declared.Rescued.{Rescued}
 use Rattle.rescue.specs.declared.Rescued.the-variants.{Done, Refused}
 use Rattle.rescue.specs.Internal.Marks.{hasCode, bit, Seen, masks, changesIn, Zeros}
 use Rattle.rescue.specs.Laws.Flat.{flat-length}
-use Rattle.rescue.specs.Internal.Find.{largest, answers, marks-changes, largest-rise, answers-rise}
+use Rattle.rescue.specs.Internal.Find.{largest, answers, fresh, marks-changes, largest-rise, fresh-rise}
+use Rattle.rescue.specs.Internal.Lack.{lacking-length}
 use Rattle.rescue.specs.Rescue.{flat, changesOf, rescueRefusal, told, RescueIs}
 
 pub zeros-seen : (keys seen : List ℕ) → Zeros seen → Seen keys [] seen
@@ -76,30 +77,8 @@ module _ (t : List ℕ) (e : looseRefusal t ≡ 0) where
   abbrev nodes : Nodes
   nodes = looseNodes (drop 7 t)
 
-  pub short : length (properOf t) ≤ 65536
-  short = omega (arith, short-enough t is-text, loose-short t e)
-
-  -- ---- the proper text
-
-  pub make-length :
-      (made : List ℕ) {made′ : List ℕ} {n : ℕ} → length made ≡ 65536 → written-as.Length n ≡ written (refuse (ltb (length made) (length (properOf t))) 8) (length (properOf t)) →
-      made′ ≡ given (refuse (ltb (length made) (length (properOf t))) 8) (inFront (properOf t) made) made →
-      (n ≡ length (properOf t)) × (take n made′ ≡ properOf t) × (n ≤ 65536)
-  unfolding written given
-  make-length made {made′} {n} l w h =
-      let f : ltb (length made) (length (properOf t)) ≡ false = le-ltb (length made) (length (properOf t)) (omega (arith, short)) in
-      let w′ : written-as.Length n ≡ written-as.Length (length (properOf t)) = rw f at w in
-      let h′ : made′ ≡ inFront (properOf t) made = rw f at h in
-      let i : n ≡ length (properOf t) = cc in
-      (i, ap (take n) h′ ∙ take-at (properOf t) (drop (length (properOf t)) made) n (sym i), omega (arith, short))
-
-  pub make-refused : (made : List ℕ) {r : ℕ} → length made ≡ 65536 → written-as.Refused r ≡ written (refuse (ltb (length made) (length (properOf t))) 8) (length (properOf t)) → ⊥
-  unfolding written
-  make-refused made {r} l w =
-      let f : ltb (length made) (length (properOf t)) ≡ false = le-ltb (length made) (length (properOf t)) (omega (arith, short)) in
-      let w′ : written-as.Refused r ≡ written-as.Length (length (properOf t)) = rw f at w in
-      let k : _≡_ {A = ℕ} 0 1 = cc in
-      omega arith
+  short : length (properOf t) ≤ length t
+  short = short-enough t is-text
 
   -- ---- the cells of the answer
 
@@ -123,7 +102,7 @@ module _ (t : List ℕ) (e : looseRefusal t ≡ 0) where
     unfolding looseCodes wholeCells
     answer-codes = ap (λ (x : Nodes). map (codeOf ar) (map cellNamed (names x))) answer-nodes
 
-    answers-short : length (answers arranged t body) ≤ 65536
+    answers-short : length (answers arranged t body) ≤ length t
     answers-short =
         omega (
           arith,
@@ -137,7 +116,7 @@ module _ (t : List ℕ) (e : looseRefusal t ≡ 0) where
         )
 
     module _ (made : List ℕ) (m : made ≡ properOf t) where
-      pub made-ready : (room : ℕ) → room ≡ 65536 → LooseBody (drop 7 made) (looseNodes (drop 7 made)) × (7 ≤ length made) × (length (looseCodes ar made) ≤ room) × IsArrangement ar
+      pub made-ready : (room : ℕ) → length t ≤ room → LooseBody (drop 7 made) (looseNodes (drop 7 made)) × (7 ≤ length made) × (length (looseCodes ar made) ≤ room) × IsArrangement ar
       made-ready room h =
           let b : LooseBody (drop 7 (properOf t)) (looseNodes (drop 7 (properOf t))) = rw answer-nodes answer-body in
           rw m (b, seven, omega (arith, answers-short, ap length answer-codes), arranged)
@@ -145,22 +124,25 @@ module _ (t : List ℕ) (e : looseRefusal t ≡ 0) where
       pub made-codes : looseCodes ar made ≡ answers arranged t body
       made-codes = ap (looseCodes ar) m ∙ answer-codes
 
-    largest-short : length (largest arranged t body) ≤ 65536
-    largest-short = omega (arith, thinned-length 0 (sorted (looseCodes ar t)), sorted-length (looseCodes ar t), codes-fit t is-text ar (loose-short t e))
+    pub keys-rise : (ls : List ℕ) → ls ≡ largest arranged t body → Rise ls
+    keys-rise ls q = rw q (largest-rise arranged t body)
+
+    largest-short : length (largest arranged t body) ≤ length t
+    largest-short = omega (arith, thinned-length 0 (sorted (looseCodes ar t)), sorted-length (looseCodes ar t), codes-fit t is-text ar)
 
     walks : Walks (drop 7 t) 0 origin
     walks = let w = loose-start t body (loose-long t is-text) in record { within = omega arith; fits = w .fits; goes = w .goes }
 
-    module _ (text ls as′ : List ℕ) (p : text ≡ drop 7 t) (q : ls ≡ largest arranged t body) (s : as′ ≡ answers arranged t body) where
+    module _ (text ls as′ : List ℕ) (p : text ≡ drop 7 t) (q : ls ≡ largest arranged t body) (s : as′ ≡ fresh arranged t body) where
       pub mark-ready :
-          (marks named stood : List ℕ) → length marks ≡ 65536 → length named ≡ 65536 → length stood ≡ 65536 → Zeros named → Zeros stood →
+          (marks named stood : List ℕ) → length t ≤ length marks → length t ≤ length named → length t ≤ length stood → Zeros named → Zeros stood →
           (Walks text 0 origin × (length text ≤ length marks)) × ((Rise ls × (length ls ≤ length named) × Seen ls [] named) × (Rise as′ × (length as′ ≤ length stood) × Seen as′ [] stood))
       mark-ready marks named stood a b c y z =
           rw (p, q, s) (
-            (walks, omega (arith, length-drop 7 t, loose-short t e)),
+            (walks, omega (arith, length-drop 7 t)),
             (
               (largest-rise arranged t body, omega (arith, largest-short), zeros-seen (largest arranged t body) named y),
-              (answers-rise arranged t body, omega (arith, answers-short), zeros-seen (answers arranged t body) stood z),
+              (fresh-rise arranged t body, omega (arith, answers-short, lacking-length (largest arranged t body) (answers arranged t body)), zeros-seen (fresh arranged t body) stood z),
             ),
           )
 
@@ -168,7 +150,7 @@ module _ (t : List ℕ) (e : looseRefusal t ≡ 0) where
       unfolding changesOf
       marked marks h =
           let l : length t - 7 ≡ length text = sym (ap length p ∙ length-drop 7 t) in
-          let g : masks ar ls as′ 40 origin [] [] text ≡ masks ar (largest arranged t body) (answers arranged t body) 40 origin [] [] (drop 7 t) = rw (p, q, s) in
+          let g : masks ar ls as′ 40 origin [] [] text ≡ masks ar (largest arranged t body) (fresh arranged t body) 40 origin [] [] (drop 7 t) = rw (p, q, s) in
           ap (λ (x : ℕ). changesIn 7 (take x marks)) l ∙ ap (changesIn 7) (h ∙ g) ∙ marks-changes arranged t body
 
 -- ---- the answer

@@ -66,7 +66,7 @@ tested-append :
 unfolding tested ownAfter allAfter
 tested-append ar ms as′ [] ys own all = refl
 tested-append ar ms as′ (e ∷ xs) ys own all =
-    let h : List Change = itemChanges (firstKind (e .own) (codeNamed ar (e .name)) ms own) (e .late) (fourthKind (codeNamed ar (e .name)) ms as′ all) (e .void) (e .place) in
+    let h : List Change = itemChanges (firstKind (e .own) (codeNamed ar (e .name)) ms own) (e .late) (fourthKind (codeNamed ar (e .name)) as′ all) (e .void) (e .place) in
     ap (λ (x : List Change). h ++ x) (tested-append ar ms as′ xs ys (metOwn (e .own) (codeNamed ar (e .name)) own) (codeNamed ar (e .name) ∷ all))
     ∙ sym (append-assoc h _ _)
 
@@ -89,14 +89,14 @@ module _ (ar : Arrangement) (ms as′ : List ℕ) where
   step-name :
       (c : ℕ) (l : Level) → c < many l → (p prev k n : ℕ) (own all bs : List ℕ) →
       from p prev k n own all ((first l + c) ∷ bs) ≡
-      itemChanges (firstKind (not (opens bs)) (codeAs ar k (n / 9 * 9 + c)) ms own) (lateAt prev n (n / 9 * 9 + c)) (fourthKind (codeAs ar k (n / 9 * 9 + c)) ms as′ all) false p ++
+      itemChanges (firstKind (not (opens bs)) (codeAs ar k (n / 9 * 9 + c)) ms own) (lateAt prev n (n / 9 * 9 + c)) (fourthKind (codeAs ar k (n / 9 * 9 + c)) as′ all) false p ++
       from (p + 1) (first l + c) k (n / 9 * 9 + c) (metOwn (not (opens bs)) (codeAs ar k (n / 9 * 9 + c)) own) (codeAs ar k (n / 9 * 9 + c) ∷ all) bs
   unfolding from masks changesIn
   step-name c l h p prev k n own all bs =
       rw (not-open c l, not-shut c l, after-name c l h k n, whole-name c l bs)
       (ap (λ (x : List Change). x ++
       changesIn (p + 1) (masks ar ms as′ (first l + c) (spot k (n / 9 * 9 + c)) (metOwn (not (opens bs)) (codeAs ar k (n / 9 * 9 + c)) own) (codeAs ar k (n / 9 * 9 + c) ∷ all) bs))
-      (kinds-mask (firstKind (not (opens bs)) (codeAs ar k (n / 9 * 9 + c)) ms own) (lateAt prev n (n / 9 * 9 + c)) (fourthKind (codeAs ar k (n / 9 * 9 + c)) ms as′ all) p))
+      (kinds-mask (firstKind (not (opens bs)) (codeAs ar k (n / 9 * 9 + c)) ms own) (lateAt prev n (n / 9 * 9 + c)) (fourthKind (codeAs ar k (n / 9 * 9 + c)) as′ all) p))
 
   step-open :
       (p prev k n : ℕ) (own all bs : List ℕ) →
@@ -214,12 +214,12 @@ module _ (ar : Arrangement) (ms as′ : List ℕ) where
       let y : opens (render l ns ++ rest) ≡ false = opens-nodes ns l rest o in
       let t : lateAt prev n m ≡ ltb c lo = late-is prev n lo c h e in
       let a : from ar ms as′ p prev k n own all ((first l + c) ∷ (render l ns ++ rest)) ≡
-      itemChanges (firstKind true q ms own) (ltb c lo) (fourthKind q ms as′ all) false p ++ from ar ms as′ (p + 1) (first l + c) k m (q ∷ own) (q ∷ all) (render l ns ++ rest) =
+      itemChanges (firstKind true q ms own) (ltb c lo) (fourthKind q as′ all) false p ++ from ar ms as′ (p + 1) (first l + c) k m (q ∷ own) (q ∷ all) (render l ns ++ rest) =
       step-name ar ms as′ c l (g .0) p prev k n own all (render l ns ++ rest) ∙ rw (y, z, t) in
       let b = over ns l d (p + 1) k m (suc c) (first l + c) w (q ∷ own) (q ∷ all) rest (g .1) (where-on v c h) (after-prev l c n h) o in
       let r : p + 1 + length (render l ns) ≡ p + suc (length (render l ns)) = omega arith in
-      a ∙ ap (λ (x : List Change). itemChanges (firstKind true q ms own) (ltb c lo) (fourthKind q ms as′ all) false p ++ x) (b ∙ rw r)
-      ∙ sym (append-assoc (itemChanges (firstKind true q ms own) (ltb c lo) (fourthKind q ms as′ all) false p) _ _)
+      a ∙ ap (λ (x : List Change). itemChanges (firstKind true q ms own) (ltb c lo) (fourthKind q as′ all) false p ++ x) (b ∙ rw r)
+      ∙ sym (append-assoc (itemChanges (firstKind true q ms own) (ltb c lo) (fourthKind q as′ all) false p) _ _)
   over (listed c is ns) l d p k n lo prev w own all rest g v e o =
       let m : ℕ = n / 9 * 9 + c in
       let h : c < 9 = below-nine c l (g .0) in
@@ -233,11 +233,11 @@ module _ (ar : Arrangement) (ms as′ : List ℕ) where
       let ys : List Item = items (p + 3 + length (render Digits is)) w (suc c) ns in
       let own₁ : List ℕ = ownAfter ar own xs in
       let all₁ : List ℕ = allAfter ar (q ∷ all) xs in
-      let here : List Change = itemChanges (firstKind false q ms own) (ltb c lo) (fourthKind q ms as′ all) (isEnd is) p in
+      let here : List Change = itemChanges (firstKind false q ms own) (ltb c lo) (fourthKind q as′ all) (isEnd is) p in
       let r₁ : m * 9 / 9 ≡ m = omega arith in
       let shut : lastIn (m * 9) is / 9 ≡ m = last-in is Digits (d - 1) (m * 9) (g .2) ∙ r₁ in
       let a : from ar ms as′ p prev k n own all ((first l + c) ∷ 40 ∷ inner) ≡
-      itemChanges (firstKind false q ms own) (ltb c lo) (fourthKind q ms as′ all) false p ++ from ar ms as′ (p + 1) (first l + c) k m own (q ∷ all) (40 ∷ inner) =
+      itemChanges (firstKind false q ms own) (ltb c lo) (fourthKind q as′ all) false p ++ from ar ms as′ (p + 1) (first l + c) k m own (q ∷ all) (40 ∷ inner) =
       step-name ar ms as′ c l (g .0) p prev k n own all (40 ∷ inner) ∙ rw (z, t) in
       let p₂ : p + 1 + 1 ≡ p + 2 = omega arith in
       let b : from ar ms as′ (p + 1) (first l + c) k m own (q ∷ all) (40 ∷ inner) ≡
@@ -260,7 +260,7 @@ module _ (ar : Arrangement) (ms as′ : List ℕ) where
       let x₃ : tested ar ms as′ own (q ∷ all) (xs ++ ys) ≡ tested ar ms as′ own (q ∷ all) xs ++ tested ar ms as′ own₁ all₁ ys = tested-append ar ms as′ xs ys own (q ∷ all) in
       let end′ : List Change = from ar ms as′ (p + length (render l (listed c is ns))) (lastPrev 41 l ns) k (lastIn m ns) (ownAfter ar own (xs ++ ys)) (allAfter ar (q ∷ all) (xs ++ ys)) rest in
       let end-is : from ar ms as′ (p + length (render l (listed c is ns))) (lastPrev 41 l ns) k (lastIn m ns) (ownAfter ar own₁ ys) (allAfter ar all₁ ys) rest ≡ end′ = rw (x₁, x₂) in
-      let first′ : List Change = itemChanges (firstKind false q ms own) (ltb c lo) (fourthKind q ms as′ all) false p in
+      let first′ : List Change = itemChanges (firstKind false q ms own) (ltb c lo) (fourthKind q as′ all) false p in
       let mid : from ar ms as′ (p + 2) 40 (k + 1) (m * 9) own (q ∷ all) inner ≡ tested ar ms as′ own (q ∷ all) (xs ++ ys) ++ end′ =
       i ∙ ap (λ (x : List Change). tested ar ms as′ own (q ∷ all) xs ++ x) (j ∙ f ∙ ap (λ (x : List Change). tested ar ms as′ own₁ all₁ ys ++ x) end-is)
       ∙ sym (append-assoc (tested ar ms as′ own (q ∷ all) xs) (tested ar ms as′ own₁ all₁ ys) end′)
@@ -269,7 +269,7 @@ module _ (ar : Arrangement) (ms as′ : List ℕ) where
       ∙ a
       ∙ ap (λ (x : List Change). first′ ++ x) (b ∙ ap (λ (x : List Change). when (isEnd is) (record { place = p + 1; kind = 3 }) ++ x) mid)
       ∙ sym (append-assoc first′ (when (isEnd is) (record { place = p + 1; kind = 3 })) (tested ar ms as′ own (q ∷ all) (xs ++ ys) ++ end′))
-      ∙ ap (λ (x : List Change). x ++ (tested ar ms as′ own (q ∷ all) (xs ++ ys) ++ end′)) (item-void (firstKind false q ms own) (ltb c lo) (fourthKind q ms as′ all) (isEnd is) p)
+      ∙ ap (λ (x : List Change). x ++ (tested ar ms as′ own (q ∷ all) (xs ++ ys) ++ end′)) (item-void (firstKind false q ms own) (ltb c lo) (fourthKind q as′ all) (isEnd is) p)
       ∙ sym (append-assoc here (tested ar ms as′ own (q ∷ all) (xs ++ ys)) end′)
 
   pub marks-tested :

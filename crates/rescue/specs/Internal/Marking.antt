@@ -49,7 +49,7 @@ masks-shut ar ms as′ prev b s own all bs e = rw (ne-eqb b 40 (λ z. omega arit
 masks-name :
     (ar : Arrangement) (ms as′ : List ℕ) (prev b : ℕ) (s : Spot) (own all bs : List ℕ) → (b ≡ 40 → ⊥) → (b ≡ 41 → ⊥) →
     masks ar ms as′ prev s own all (b ∷ bs) ≡
-    maskOf (firstKind (wholeAt (b ∷ bs)) (spotCode ar (after s b)) ms own) (lateAt prev (s .number) (after s b .number)) (fourthKind (spotCode ar (after s b)) ms as′ all) ∷
+    maskOf (firstKind (wholeAt (b ∷ bs)) (spotCode ar (after s b)) ms own) (lateAt prev (s .number) (after s b .number)) (fourthKind (spotCode ar (after s b)) as′ all) ∷
     masks ar ms as′ b (after s b) (metOwn (wholeAt (b ∷ bs)) (spotCode ar (after s b)) own) (spotCode ar (after s b) ∷ all) bs
 unfolding masks
 masks-name ar ms as′ prev b s own all bs n m = rw (ne-eqb b 40 n, ne-eqb b 41 m)
@@ -111,7 +111,7 @@ module _ {ar : Arrangement} {ms as′ body marks named stood : List ℕ} {prev i
 
   pub marking-name :
       {v c : ℕ} {w a l d : Bool} {named₁ stood₁ : List ℕ} → (byte ≡ 40 → ⊥) → (byte ≡ 41 → ⊥) → c ≡ spotCode ar s′ → w ≡ wholeAt (drop i body) →
-      FirstIs w c ms named named₁ a → FourthIs c ms as′ stood stood₁ d → length named₁ ≡ length named → length stood₁ ≡ length stood →
+      FirstIs w c ms named named₁ a → FourthIs c as′ stood stood₁ d → length named₁ ≡ length named → length stood₁ ≡ length stood →
       l ≡ lateAt prev (s .number) (s′ .number) → v ≡ maskOf a l d → Marking ar ms as′ body (set marks i v) named₁ stood₁ byte (i + 1) s′
   marking-name {v} {c} {w} {a} {l} {d} {named₁} {stood₁} n₁ n₂ ec ew fa fd ln ls el ev =
       let x = fa .is (m .own) (m .named-is) in
@@ -120,7 +120,7 @@ module _ {ar : Arrangement} {ms as′ body marks named stood : List ℕ} {prev i
       let ww : wholeAt (byte ∷ bytes) ≡ w = sym (ew ∙ ap wholeAt (byte-at body i h)) in
       let ll : lateAt prev (s .number) (after s byte .number) ≡ l = sym (el ∙ ap (λ (z : Spot). lateAt prev (s .number) (z .number)) e) in
       let vv : maskOf (firstKind (wholeAt (byte ∷ bytes)) (spotCode ar (after s byte)) ms (m .own))
-      (lateAt prev (s .number) (after s byte .number)) (fourthKind (spotCode ar (after s byte)) ms as′ (m .all)) ≡ v =
+      (lateAt prev (s .number) (after s byte .number)) (fourthKind (spotCode ar (after s byte)) as′ (m .all)) ≡ v =
       rw (ww, cc′, ll) (ap₂ (λ (p q : Bool). maskOf p l q) (sym (x .0)) (sym (y .0)) ∙ sym ev) in
       let rr : masks ar ms as′ byte (after s byte) (metOwn (wholeAt (byte ∷ bytes)) (spotCode ar (after s byte)) (m .own)) (spotCode ar (after s byte) ∷ m .all) bytes ≡
       masks ar ms as′ byte s′ (metOwn w c (m .own)) (c ∷ m .all) bytes =
@@ -389,6 +389,10 @@ module _ {out₀ total out : List ℕ} {n : ℕ} (ms : List ℕ) (i : ℕ) (w : 
 
   pub left-step : {out′ : List ℕ} {n′ : ℕ} → i < length ms → Put out out′ n n′ (flat (kindsAt (i + 7) (getD ms i 0))) → Wrote out₀ total out′ n′ (leftAt ms (i + 1))
   left-step h e = wrote-on (flat (kindsAt (i + 7) (getD ms i 0))) (leftAt ms (i + 1)) (next h) (e .0) (e .1)
+
+  pub left-skip : i < length ms → getD ms i 0 ≡ 0 → Wrote out₀ total out n (leftAt ms (i + 1))
+  unfolding kindsAt flat
+  left-skip h e = rw e at (next h)
 
   pub left-done : length ms ≤ i → out ≡ total ++ drop (length total) out₀
   left-done h = wrote-end (rw (left-end ms i h) at w)

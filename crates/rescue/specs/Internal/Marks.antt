@@ -18,6 +18,12 @@ unfoldable pub hasCode : ℕ → List ℕ → Bool
 hasCode c [] = false
 hasCode c (x ∷ xs) = eqb x c || hasCode c xs
 
+-- those that are none of the keys
+unfoldable pub lacking : (keys : List ℕ) → List ℕ → List ℕ
+unfolding hasCode
+lacking keys [] = []
+lacking keys (x ∷ xs) = cond (hasCode x keys) (lacking keys xs) (x ∷ lacking keys xs)
+
 -- 0: it is none of the keys; 1: it is one, and was not met earlier; 2: it is one that was
 unfoldable pub standing : (keys earlier : List ℕ) (c : ℕ) → ℕ
 standing keys earlier c = cond (hasCode c keys) (cond (hasCode c earlier) 2 1) 0
@@ -33,14 +39,14 @@ Seen keys earlier seen = (k : ℕ) → k < length keys → getD seen k 0 ≡ bit
 abbrev pub Zeros : List ℕ → Type 0
 Zeros l = (k : ℕ) → getD l k 0 ≡ 0
 
--- the tests of kinds 1, 2 and 4
+-- the tests of kinds 1, 2 and 4; ms are the largest whole cells, and as′ the cells of the answer that are none of them
 unfoldable pub firstKind : Bool → ℕ → (ms own : List ℕ) → Bool
 unfolding standing
 firstKind w c ms own = w && not (eqb (standing ms own c) 1)
 
-unfoldable pub fourthKind : ℕ → (ms as′ all : List ℕ) → Bool
+unfoldable pub fourthKind : ℕ → (as′ all : List ℕ) → Bool
 unfolding standing
-fourthKind c ms as′ all = eqb (standing as′ all c) 1 && not (hasCode c ms)
+fourthKind c as′ all = eqb (standing as′ all c) 1
 
 unfoldable pub lateAt : (prev n m : ℕ) → Bool
 lateAt prev n m = not (eqb prev 40) && leb m n
@@ -63,7 +69,7 @@ masks ar ms as′ prev s own all [] = []
 masks ar ms as′ prev s own all (b ∷ bs) =
     cond (eqb b 40) (cond (shuts bs) 8 0 ∷ masks ar ms as′ b (after s b) own all bs)
     (cond (eqb b 41) (0 ∷ masks ar ms as′ b (after s b) own all bs)
-    (maskOf (firstKind (wholeAt (b ∷ bs)) (spotCode ar (after s b)) ms own) (lateAt prev (s .number) (after s b .number)) (fourthKind (spotCode ar (after s b)) ms as′ all) ∷
+    (maskOf (firstKind (wholeAt (b ∷ bs)) (spotCode ar (after s b)) ms own) (lateAt prev (s .number) (after s b .number)) (fourthKind (spotCode ar (after s b)) as′ all) ∷
     masks ar ms as′ b (after s b) (metOwn (wholeAt (b ∷ bs)) (spotCode ar (after s b)) own) (spotCode ar (after s b) ∷ all) bs))
 
 -- the changes that such numbers stand for, from the place p on
@@ -92,7 +98,7 @@ unfoldable pub tested : Arrangement → (ms as′ own all : List ℕ) → List I
 unfolding firstKind fourthKind
 tested ar ms as′ own all [] = []
 tested ar ms as′ own all (e ∷ es) =
-    itemChanges (firstKind (e .own) (codeNamed ar (e .name)) ms own) (e .late) (fourthKind (codeNamed ar (e .name)) ms as′ all) (e .void) (e .place) ++
+    itemChanges (firstKind (e .own) (codeNamed ar (e .name)) ms own) (e .late) (fourthKind (codeNamed ar (e .name)) as′ all) (e .void) (e .place) ++
     tested ar ms as′ (metOwn (e .own) (codeNamed ar (e .name)) own) (codeNamed ar (e .name) ∷ all) es
 
 unfoldable pub ownAfter : Arrangement → List ℕ → List Item → List ℕ

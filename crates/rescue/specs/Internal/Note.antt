@@ -153,8 +153,8 @@ holds-at c keys r h = go (eqb (getD keys (numberBelow c keys) 0) c) refl
 pub record FirstIs (w : Bool) (c : ℕ) (ms named₀ named₁ : List ℕ) (r : Bool) : Type 0 where
   pub is : (own : List ℕ) → Seen ms own named₀ → (r ≡ firstKind w c ms own) × Seen ms (metOwn w c own) named₁
 
-pub record FourthIs (c : ℕ) (ms as′ stood₀ stood₁ : List ℕ) (r : Bool) : Type 0 where
-  pub is : (all : List ℕ) → Seen as′ all stood₀ → (r ≡ fourthKind c ms as′ all) × Seen as′ (c ∷ all) stood₁
+pub record FourthIs (c : ℕ) (as′ stood₀ stood₁ : List ℕ) (r : Bool) : Type 0 where
+  pub is : (all : List ℕ) → Seen as′ all stood₀ → (r ≡ fourthKind c as′ all) × Seen as′ (c ∷ all) stood₁
 
 pub first-not : {w : Bool} {c : ℕ} {ms named : List ℕ} → w ≡ false → FirstIs w c ms named named false
 unfolding firstKind
@@ -165,48 +165,31 @@ unfolding firstKind
 first-noted {w} {c} {n} {ms} {named₀} {named₁} {r} e k f =
     record { is = λ own s. let z = k .is own s in rw e (f ∙ ap (λ (x : ℕ). not (eqb x 1)) (z .0), z .1) }
 
-pub fourth-not : {c n : ℕ} {ms as′ stood₀ stood₁ : List ℕ} → Noted as′ stood₀ stood₁ c n → (n ≡ 1 → ⊥) → FourthIs c ms as′ stood₀ stood₁ false
+pub fourth-noted : {c n : ℕ} {as′ stood₀ stood₁ : List ℕ} {r : Bool} → Noted as′ stood₀ stood₁ c n → r ≡ eqb n 1 → FourthIs c as′ stood₀ stood₁ r
 unfolding fourthKind
-fourth-not {c} {n} {ms} {as′} {stood₀} {stood₁} k f =
-    record {
-      is =
-          λ all s.
-          let z = k .is all s in
-          let e : eqb (standing as′ all c) 1 ≡ false = ne-eqb (standing as′ all c) 1 (λ y. f (z .0 ∙ y)) in
-          (rw e refl, z .1);
-    }
-
-pub fourth-noted : {c n : ℕ} {ms as′ stood₀ stood₁ : List ℕ} {h r : Bool} → Noted as′ stood₀ stood₁ c n → n ≡ 1 → h ≡ hasCode c ms → r ≡ not h → FourthIs c ms as′ stood₀ stood₁ r
-unfolding fourthKind
-fourth-noted {c} {n} {ms} {as′} {stood₀} {stood₁} {h} {r} k f g i =
-    record {
-      is =
-          λ all s.
-          let z = k .is all s in
-          let e : eqb (standing as′ all c) 1 ≡ true = eq-eqb (standing as′ all c) 1 (sym (z .0) ∙ f) in
-          (i ∙ ap not g ∙ rw e refl, z .1);
-    }
+fourth-noted {c} {n} {as′} {stood₀} {stood₁} {r} k f =
+    record { is = λ all s. let z = k .is all s in (f ∙ ap (λ (x : ℕ). eqb x 1) (z .0), z .1) }
 
 -- ---- the search
 
 pub held-all : (keys : List ℕ) → Rise keys → Held keys (length keys)
 held-all keys r = record { fits = omega arith; rises = rw (take-all (length keys) keys (omega arith)) r }
 
-module _ (keys : List ℕ) (c : ℕ) {k : ℕ} (r : Rise keys) (e : k ≡ numberBelow c (take (length keys) keys)) where
-  place-is : k ≡ numberBelow c keys
-  place-is = e ∙ ap (numberBelow c) (take-all (length keys) keys (omega arith))
+pub place-is : (keys : List ℕ) (c : ℕ) {k : ℕ} → k ≡ numberBelow c (take (length keys) keys) → k ≡ numberBelow c keys
+place-is keys c e = e ∙ ap (numberBelow c) (take-all (length keys) keys (omega arith))
 
+module _ (keys : List ℕ) (c : ℕ) {k : ℕ} (r : Rise keys) (e : k ≡ numberBelow c keys) where
   pub none-past : {seen : List ℕ} → length keys ≤ k → Noted keys seen seen c 0
-  none-past {seen} h = noted-none keys seen c r (λ i z. omega (arith, place-is))
+  none-past {seen} h = noted-none keys seen c r (λ i z. omega (arith, e))
 
   pub none-other : {seen : List ℕ} → (getD keys k 0 ≡ c → ⊥) → Noted keys seen seen c 0
-  none-other {seen} h = noted-none keys seen c r (λ i z. h (ap (λ (x : ℕ). getD keys x 0) place-is ∙ z))
+  none-other {seen} h = noted-none keys seen c r (λ i z. h (ap (λ (x : ℕ). getD keys x 0) e ∙ z))
 
   pub holds-past : length keys ≤ k → false ≡ hasCode c keys
-  holds-past h = sym (missing c keys r (λ i z. omega (arith, place-is)))
+  holds-past h = sym (missing c keys r (λ i z. omega (arith, e)))
 
   pub holds-here : {t : Bool} → k < length keys → t ≡ eqb (getD keys k 0) c → t ≡ hasCode c keys
-  holds-here h f = f ∙ ap (λ (x : ℕ). eqb (getD keys x 0) c) place-is ∙ holds-at c keys r (omega (arith, place-is))
+  holds-here h f = f ∙ ap (λ (x : ℕ). eqb (getD keys x 0) c) e ∙ holds-at c keys r (omega (arith, e))
 
 -- ---- small tests
 
