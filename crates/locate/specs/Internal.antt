@@ -1,2 +1,4 @@
 pub mod End
+pub mod PartLaws
+pub mod Parts
 pub mod RangeLaws

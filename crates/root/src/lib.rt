@@ -4,6 +4,7 @@ ghost use Prim.Native.Nat.{_+_, _*_, _^_, _≤_, _<_};
 ghost use lib.IntN.{negℤ};
 ghost use Rattle.wide.specs.Value.{three};
 ghost use Rattle.root.specs.Floor.{square, plusAt, minusAt, atMost, rootFloor, axisOf};
+ghost use Rattle.root.specs.Part.{firm, partOf};
 ghost use Rattle.root.specs.Internal.Bracket.{lowPart};
 use ternary::FINEST_ROWS;
 use wide::Three;
@@ -211,4 +212,28 @@ pub fn floor(k: u64, m: u64, radicand: u64, root: u64, p: Axis) -> u64
         return w * m / FINEST_ROWS;
     }
     w
+}
+
+// ---- parts of 2^56, for weaving: a part is good where its digits are certain, and that is almost everywhere
+
+// Whether the first fifteen ternary digits of a part are those of somewhat more too. One product of the upper 40 bits tells.
+pub fn is_firm(part: u64, room: u64) -> bool
+    requires { ⌜ (part < 2 ^ 56) × (room ≤ 2 ^ 40) ⌝ }
+    ensures { λ r. ⌜ r ≡ firm part room ⌝ }
+{
+    part / 65_536 * FINEST_ROWS % 1_099_511_627_776 + room < 1_099_511_627_776
+}
+
+// The room that the upper end takes.
+pub const ROOM: u64 = 7_902_744_606;
+
+// 2^120 / UNITS, rounded down.
+const BY_UNITS: u64 = 738_459_997_658_286_596;
+
+// The lower end as a part. Where it is firm by ROOM, its digits are the finest floor's.
+pub fn part(root: u64, p: Axis) -> u64
+    requires { ⌜ (root < 1000000000) × (p .size ≤ 900000000) ⌝ }
+    ensures { λ r. ⌜ (r ≡ partOf (p .minus) (p .size) root) × (r < 2 ^ 56) ⌝ }
+{
+    wide::high(low_end(root, p), BY_UNITS)
 }
