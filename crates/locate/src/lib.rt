@@ -3,17 +3,17 @@
 ghost use mathlib.Core.Path.{_≡_};
 ghost use mathlib.Core.Bool.{true, cond};
 ghost use Prim.Native.Nat.{_+_, _-_, _*_, _/_, _%_, _^_, _≤_, _<_};
-ghost use lib.IntN.{negℤ, subℕ};
+ghost use lib.IntN.{negℤ, natAbs, subℕ};
 ghost use Rattle.ternary.specs.Weave.{weave};
 ghost use Rattle.cell.specs.Cell.{IsArrangement, found};
 ghost use Rattle.cell.specs.Neighbour.{turnOf};
 ghost use Rattle.code.specs.Code.{codeAt, codeOf, foundCode};
-ghost use Rattle.signed.specs.Sign.{withSign};
 ghost use Rattle.root.specs.Floor.{axisOf};
-ghost use Rattle.locate.specs.Fix.{quarter, inRange, eastOf, offsetOf, beltCell, capCell, fixCell, fixRefusal};
+ghost use Rattle.locate.specs.Fix.{quarter, inRange, isBelt, offsetOf, beltCell, capCell, fixCell, fixRefusal};
 ghost use Rattle.locate.specs.Fix.{turnedNorth};
 ghost use Rattle.locate.specs.Internal.End.{Stands, turnedEnd};
 ghost use Rattle.locate.specs.Internal.Parts.{placeAt, eastPart};
+ghost use Rattle.locate.specs.Internal.Place.{placeCell};
 use cell::Arrangement;
 use cell::Cell;
 use code::Coded;
@@ -61,15 +61,23 @@ fn in_range(longitude: i64, z: i64) -> bool
     false
 }
 
-// 2 x 10^18 - 3z, in the belt.
-fn offset(south: bool, size: u64) -> u64
-    requires { ⌜ 3 * size ≤ 2 * 10 ^ 18 ⌝ }
-    ensures { λ r. ⌜ r ≡ offsetOf (withSign south size) ⌝ }
+// "Belt, 3|z| <= 2 x 10^18".
+fn in_belt(z: i64) -> bool
+    ensures { λ r. ⌜ r ≡ isBelt z ⌝ }
 {
-    if south {
-        return 2_000_000_000_000_000_000 + 3 * size;
+    if signed::at_most(-666_666_666_666_666_666, z) {
+        return signed::at_most(z, 666_666_666_666_666_666);
     }
-    2_000_000_000_000_000_000 - 3 * size
+    false
+}
+
+// 2 x 10^18 - 3z, in the belt. By how far z is above the belt's bottom it takes no sign.
+fn offset(z: i64) -> u64
+    requires { ⌜ isBelt z ≡ true ⌝ }
+    ensures { λ r. ⌜ r ≡ offsetOf z ⌝ }
+{
+    let up = signed::shifted(z, 666_666_666_666_666_666);
+    3_999_999_999_999_999_998 - 3 * up
 }
 
 // The row at resolution 15. By STEP it is found or is one too small: the rest says which.
@@ -219,18 +227,6 @@ fn cap(face: u64, resolution: u64, m: u64, height: u64, root: u64, end: End) -> 
     }
 }
 
-// How far east of -1,800,000,000 a longitude lies: 1,800,000,000 is a full turn, and the same place.
-fn place_of(longitude: i64, z: i64) -> u64
-    requires { ⌜ inRange longitude z ≡ true ⌝ }
-    ensures { λ r. ⌜ r ≡ eastOf longitude ⌝ }
-{
-    let east = signed::shifted(longitude, 1_800_000_000);
-    if east < FULL_TURN {
-        return east;
-    }
-    east - FULL_TURN
-}
-
 // The code of a face, a resolution, and how far down and how far right on the face a point lies, in parts: the first digits of the finest path.
 fn part_code(arrangement: Arrangement, face: u64, resolution: u64, row: u64, column: u64) -> u64
     requires { ⌜ IsArrangement arrangement ⌝ }
@@ -294,22 +290,36 @@ fn cap_code(arrangement: Arrangement, face: u64, resolution: u64, height: u64, e
     code::code_of(arrangement, cap(face, resolution, m, height, root, end))
 }
 
-// The code of a fix in range.
+// The code of a place, in the belt or in a cap.
+fn place_code(arrangement: Arrangement, resolution: u64, east: u64, z: i64) -> u64
+    requires { ⌜ IsArrangement arrangement ⌝ }
+    requires { ⌜ resolution ≤ 15 ⌝ }
+    requires { ⌜ east < 3600000000 ⌝ }
+    requires { ⌜ natAbs z ≤ 10 ^ 18 ⌝ }
+    ensures { λ r. ⌜ r ≡ codeOf arrangement (placeCell arrangement resolution east z) ⌝ }
+{
+    if in_belt(z) {
+        return belt_code(arrangement, resolution, east, offset(z));
+    }
+    let size = signed::magnitude(z);
+    let south = signed::is_negative(z);
+    let height = 3 * (1_000_000_000_000_000_000 - size);
+    let end = end_of(arrangement, south, east);
+    cap_code(arrangement, cap_face(south), resolution, height, end)
+}
+
+// The code of a fix in range, by how far east of -1,800,000,000 it lies: 1,800,000,000 is a full turn, and the same place.
 fn code_of(arrangement: Arrangement, resolution: u64, longitude: i64, z: i64) -> u64
     requires { ⌜ IsArrangement arrangement ⌝ }
     requires { ⌜ resolution ≤ 15 ⌝ }
     requires { ⌜ inRange longitude z ≡ true ⌝ }
     ensures { λ r. ⌜ r ≡ codeOf arrangement (fixCell arrangement resolution longitude z) ⌝ }
 {
-    let east = place_of(longitude, z);
-    let size = signed::magnitude(z);
-    let south = signed::is_negative(z);
-    if 3 * size <= 2_000_000_000_000_000_000 {
-        return belt_code(arrangement, resolution, east, offset(south, size));
+    let east = signed::shifted(longitude, 1_800_000_000);
+    if east < FULL_TURN {
+        return place_code(arrangement, resolution, east, z);
     }
-    let height = 3 * (1_000_000_000_000_000_000 - size);
-    let end = end_of(arrangement, south, east);
-    cap_code(arrangement, cap_face(south), resolution, height, end)
+    place_code(arrangement, resolution, east - FULL_TURN, z)
 }
 
 // The code of the cell of that resolution in which a fix lies, or the refusal.
