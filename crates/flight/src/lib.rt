@@ -5,7 +5,7 @@ ghost use mathlib.Core.List.{[]};
 ghost use Prim.Native.Nat.{_≤_};
 ghost use lib.ListN.{length, take};
 ghost use Rattle.cell.specs.Cell.{IsArrangement, found};
-ghost use Rattle.code.specs.Code.{isCode};
+ghost use Rattle.code.specs.Code.{isCode, foundCode};
 ghost use Rattle.code.specs.declared.Coded.the-variants.{Code as CodeIs};
 ghost use Rattle.reading.specs.declared.Profile.the-variants.{Full};
 ghost use Rattle.reading.specs.Written.{writtenText};
@@ -14,7 +14,6 @@ ghost use Rattle.flight.specs.Flight.{lineRefusal, lineCell, noFix, line
 ghost use Rattle.flight.specs.Recording.{taken, takenText, Records, recordingAfter};
 use adding::Added;
 use cell::Arrangement;
-use cell::Found;
 use code::Coded;
 use decimal::FixLine;
 use reading::Profile;
@@ -74,17 +73,17 @@ fn no_fix(setting: Setting) -> Coded
     Coded::Refused(6)
 }
 
-// The cell in which the fix of these two numbers lies, or the refusal.
-fn fix_cell(setting: Setting, longitude: i64, second: i64) -> Found
-    ensures { λ r. ⌜ r ≡ found (lineRefusal setting longitude second) (lineCell setting longitude second) ⌝ }
+// The code of the cell in which the fix of these two numbers lies, or the refusal.
+fn coded_fix(setting: Setting, longitude: i64, second: i64) -> Coded
+    ensures { λ r. ⌜ r ≡ foundCode (setting .arrangement) (found (lineRefusal setting longitude second) (lineCell setting longitude second)) ⌝ }
 {
     let arrangement = setting.arrangement;
     let resolution = setting.resolution;
     let latitude = setting.latitude;
     match latitude {
-        Latitude::Authalic => locate::locate(arrangement, resolution, longitude, second),
+        Latitude::Authalic => locate::coded_fix(arrangement, resolution, longitude, second),
         Latitude::Geodetic(eccentricity) => {
-            geodetic::locate(arrangement, resolution, longitude, second, eccentricity)
+            geodetic::coded_fix(arrangement, resolution, longitude, second, eccentricity)
         }
     }
 }
@@ -96,7 +95,7 @@ pub fn line_code(setting: Setting, line: &[u8]) -> Coded
     let FixLine::Fix(longitude, second) = decimal::fix_in(line) else {
         return no_fix(setting);
     };
-    code::found_code(setting.arrangement, fix_cell(setting, longitude, second)) // `fix_cell` tests the setting
+    coded_fix(setting, longitude, second) // tests the setting too
 }
 
 // A flight recorded in a text: the text's length, and the code of the fix that was taken last, or a number that is no code.

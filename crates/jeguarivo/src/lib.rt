@@ -364,11 +364,8 @@ pub extern "C" fn jgv_fix_code(
 ) -> CodeAnswer
     ensures { λ r. ⌜ r ≡ fixCode n s resolution longitude z ⌝ }
 {
-    let arrangement = Arrangement { north: n, south: s }; // `locate` tests it
-    found_answer(
-        arrangement,
-        locate::locate(arrangement, resolution, longitude, z),
-    )
+    let arrangement = Arrangement { north: n, south: s }; // `coded_fix` tests it
+    coded_answer(locate::coded_fix(arrangement, resolution, longitude, z))
 }
 
 // 6 where the sine or the squared eccentricity is out of range (02 W-203).

@@ -1,2 +1,5 @@
 pub mod End
+pub mod PartLaws
+pub mod Parts
+pub mod Place
 pub mod RangeLaws

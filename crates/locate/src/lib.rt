@@ -1,18 +1,22 @@
-// The cell of a fix (01 "From a fix to a cell"). Computed in unsigned numbers: how far east of -1,800,000,000, and z by its sign and size.
+// The code of a fix's cell (01 "From a fix to a cell"). Computed in unsigned numbers: how far east of -1,800,000,000, and z by its sign and size. Row and
+// column are found as parts of a face, of 2^56, from which their digits are woven; the cell itself is found only where a part leaves a digit open.
 ghost use mathlib.Core.Path.{_≡_};
 ghost use mathlib.Core.Bool.{true, cond};
 ghost use Prim.Native.Nat.{_+_, _-_, _*_, _/_, _%_, _^_, _≤_, _<_};
-ghost use lib.IntN.{negℤ, subℕ};
+ghost use lib.IntN.{negℤ, natAbs, subℕ};
+ghost use Rattle.ternary.specs.Weave.{weave};
 ghost use Rattle.cell.specs.Cell.{IsArrangement, found};
 ghost use Rattle.cell.specs.Neighbour.{turnOf};
-ghost use Rattle.signed.specs.Sign.{withSign};
+ghost use Rattle.code.specs.Code.{codeAt, codeOf, foundCode};
 ghost use Rattle.root.specs.Floor.{axisOf};
-ghost use Rattle.locate.specs.Fix.{quarter, inRange, eastOf, offsetOf, beltCell, capCell, fixCell, fixRefusal};
+ghost use Rattle.locate.specs.Fix.{quarter, inRange, isBelt, offsetOf, beltCell, capCell, fixCell, fixRefusal};
 ghost use Rattle.locate.specs.Fix.{turnedNorth};
 ghost use Rattle.locate.specs.Internal.End.{Stands, turnedEnd};
+ghost use Rattle.locate.specs.Internal.Parts.{placeAt, eastPart};
+ghost use Rattle.locate.specs.Internal.Place.{placeCell};
 use cell::Arrangement;
 use cell::Cell;
-use cell::Found;
+use code::Coded;
 use root::Axis;
 use ternary::FINEST_ROWS;
 
@@ -25,6 +29,17 @@ const FULL_TURN: u64 = 3_600_000_000;
 const STEP: u64 = 278_766_877_506;
 
 const OVER: u64 = 13_985_942;
+
+// 2^56, the whole of which a part is taken.
+const WHOLE: u64 = 72_057_594_037_927_936;
+
+// 2^88 / QUARTER, rounded up.
+const BY_QUARTER: u64 = 343_872_233_134_827_855;
+
+// 2^120 / (4 x 10^18), rounded down, and the room that a part by it has to leave.
+const BY_BELT: u64 = 332_306_998_946_228_968;
+
+const BELT_ROOM: u64 = 14_349_345;
 
 // A point of a cap, in multiples of h / 1,800,000,000.
 struct End {
@@ -46,15 +61,23 @@ fn in_range(longitude: i64, z: i64) -> bool
     false
 }
 
-// 2 x 10^18 - 3z, in the belt.
-fn offset(south: bool, size: u64) -> u64
-    requires { ⌜ 3 * size ≤ 2 * 10 ^ 18 ⌝ }
-    ensures { λ r. ⌜ r ≡ offsetOf (withSign south size) ⌝ }
+// "Belt, 3|z| <= 2 x 10^18".
+fn in_belt(z: i64) -> bool
+    ensures { λ r. ⌜ r ≡ isBelt z ⌝ }
 {
-    if south {
-        return 2_000_000_000_000_000_000 + 3 * size;
+    if signed::at_most(-666_666_666_666_666_666, z) {
+        return signed::at_most(z, 666_666_666_666_666_666);
     }
-    2_000_000_000_000_000_000 - 3 * size
+    false
+}
+
+// 2 x 10^18 - 3z, in the belt. By how far z is above the belt's bottom it takes no sign.
+fn offset(z: i64) -> u64
+    requires { ⌜ isBelt z ≡ true ⌝ }
+    ensures { λ r. ⌜ r ≡ offsetOf z ⌝ }
+{
+    let up = signed::shifted(z, 666_666_666_666_666_666);
+    3_999_999_999_999_999_998 - 3 * up
 }
 
 // The row at resolution 15. By STEP it is found or is one too small: the rest says which.
@@ -185,16 +208,16 @@ fn cap_face(south: bool) -> u64
     if south { 5 } else { 0 }
 }
 
-// "For the end (p, q): column floor(m (1/2 + p)), row floor(m (1/2 - q))", by (10^9 h)^2.
-fn cap(face: u64, resolution: u64, m: u64, height: u64, end: End) -> Cell
+// "For the end (p, q): column floor(m (1/2 + p)), row floor(m (1/2 - q))", by (10^9 h)^2 and its whole root.
+fn cap(face: u64, resolution: u64, m: u64, height: u64, root: u64, end: End) -> Cell
     requires { ⌜ resolution ≤ 15 ⌝ }
     requires { ⌜ m ≡ 3 ^ resolution ⌝ }
     requires { ⌜ height < 10 ^ 18 ⌝ }
+    requires { ⌜ (root * root ≤ height) × (height < (root + 1) * (root + 1)) ⌝ }
     requires { ⌜ end .p .size ≤ quarter ⌝ }
     requires { ⌜ end .q .size ≤ quarter ⌝ }
     ensures { λ r. ⌜ r ≡ capCell face resolution height (axisOf (end .p), axisOf (end .q)) ⌝ }
 {
-    let root = root::whole_root(height);
     let q = root::negated(end.q);
     Cell {
         face,
@@ -204,50 +227,114 @@ fn cap(face: u64, resolution: u64, m: u64, height: u64, end: End) -> Cell
     }
 }
 
-// How far east of -1,800,000,000 a longitude lies: 1,800,000,000 is a full turn, and the same place.
-fn place_of(longitude: i64, z: i64) -> u64
-    requires { ⌜ inRange longitude z ≡ true ⌝ }
-    ensures { λ r. ⌜ r ≡ eastOf longitude ⌝ }
+// The code of a face, a resolution, and how far down and how far right on the face a point lies, in parts: the first digits of the finest path.
+fn part_code(arrangement: Arrangement, face: u64, resolution: u64, row: u64, column: u64) -> u64
+    requires { ⌜ IsArrangement arrangement ⌝ }
+    requires { ⌜ (face ≤ 5) × (resolution ≤ 15) × (row < 2 ^ 56) × (column < 2 ^ 56) ⌝ }
+    ensures { λ r. ⌜ r ≡ codeAt arrangement face resolution (weave resolution (placeAt resolution row) (placeAt resolution column)) ⌝ }
 {
-    let east = signed::shifted(longitude, 1_800_000_000);
-    if east < FULL_TURN {
-        return east;
+    let path = ternary::woven(row, column);
+    if resolution < 15 {
+        let step = ternary::nine_power(15 - resolution);
+        return code::code_at(arrangement, face, resolution, path / step);
     }
-    east - FULL_TURN
+    code::code_at(arrangement, face, 15, path)
 }
 
-// The cell of a fix in range.
-fn cell_of(arrangement: Arrangement, resolution: u64, longitude: i64, z: i64) -> Cell
+// How far east a place lies, in parts of a quarter turn. It is rounded up, by less than any column's edge is away, since an edge itself may lie between two parts.
+fn east_part(east: u64) -> u64
+    requires { ⌜ east < 3600000000 ⌝ }
+    ensures { λ r. ⌜ r ≡ eastPart east ⌝ }
+{
+    wide::high(east * 4_294_967_296, BY_QUARTER) + 1
+}
+
+// The code of a place in the belt.
+fn belt_code(arrangement: Arrangement, resolution: u64, east: u64, offset: u64) -> u64
+    requires { ⌜ IsArrangement arrangement ⌝ }
+    requires { ⌜ resolution ≤ 15 ⌝ }
+    requires { ⌜ east < 3600000000 ⌝ }
+    requires { ⌜ offset < 4 * 10 ^ 18 ⌝ }
+    ensures { λ r. ⌜ r ≡ codeOf arrangement (beltCell resolution east offset) ⌝ }
+{
+    let row = wide::high(offset, BY_BELT);
+    if root::is_firm(row, BELT_ROOM) {
+        let column = east_part(east);
+        let face = 1 + column / WHOLE;
+        return part_code(arrangement, face, resolution, row, column % WHOLE);
+    }
+    let m = ternary::power(resolution);
+    code::code_of(arrangement, belt(resolution, m, east, offset))
+}
+
+// The code of a place in a cap.
+fn cap_code(arrangement: Arrangement, face: u64, resolution: u64, height: u64, end: End) -> u64
+    requires { ⌜ IsArrangement arrangement ⌝ }
+    requires { ⌜ face ≤ 5 ⌝ }
+    requires { ⌜ resolution ≤ 15 ⌝ }
+    requires { ⌜ height < 10 ^ 18 ⌝ }
+    requires { ⌜ end .p .size ≤ quarter ⌝ }
+    requires { ⌜ end .q .size ≤ quarter ⌝ }
+    ensures { λ r. ⌜ r ≡ codeOf arrangement (capCell face resolution height (axisOf (end .p), axisOf (end .q))) ⌝ }
+{
+    let root = root::whole_root(height);
+    let down = root::negated(end.q);
+    let row = root::part(root, down);
+    if root::is_firm(row, root::ROOM) {
+        let column = root::part(root, end.p);
+        if root::is_firm(column, root::ROOM) {
+            return part_code(arrangement, face, resolution, row, column);
+        }
+    }
+    let m = ternary::power(resolution);
+    code::code_of(arrangement, cap(face, resolution, m, height, root, end))
+}
+
+// The code of a place, in the belt or in a cap.
+fn place_code(arrangement: Arrangement, resolution: u64, east: u64, z: i64) -> u64
+    requires { ⌜ IsArrangement arrangement ⌝ }
+    requires { ⌜ resolution ≤ 15 ⌝ }
+    requires { ⌜ east < 3600000000 ⌝ }
+    requires { ⌜ natAbs z ≤ 10 ^ 18 ⌝ }
+    ensures { λ r. ⌜ r ≡ codeOf arrangement (placeCell arrangement resolution east z) ⌝ }
+{
+    if in_belt(z) {
+        return belt_code(arrangement, resolution, east, offset(z));
+    }
+    let size = signed::magnitude(z);
+    let south = signed::is_negative(z);
+    let height = 3 * (1_000_000_000_000_000_000 - size);
+    let end = end_of(arrangement, south, east);
+    cap_code(arrangement, cap_face(south), resolution, height, end)
+}
+
+// The code of a fix in range, by how far east of -1,800,000,000 it lies: 1,800,000,000 is a full turn, and the same place.
+fn code_of(arrangement: Arrangement, resolution: u64, longitude: i64, z: i64) -> u64
     requires { ⌜ IsArrangement arrangement ⌝ }
     requires { ⌜ resolution ≤ 15 ⌝ }
     requires { ⌜ inRange longitude z ≡ true ⌝ }
-    ensures { λ r. ⌜ r ≡ fixCell arrangement resolution longitude z ⌝ }
+    ensures { λ r. ⌜ r ≡ codeOf arrangement (fixCell arrangement resolution longitude z) ⌝ }
 {
-    let m = ternary::power(resolution);
-    let east = place_of(longitude, z);
-    let size = signed::magnitude(z);
-    let south = signed::is_negative(z);
-    if 3 * size <= 2_000_000_000_000_000_000 {
-        return belt(resolution, m, east, offset(south, size));
+    let east = signed::shifted(longitude, 1_800_000_000);
+    if east < FULL_TURN {
+        return place_code(arrangement, resolution, east, z);
     }
-    let height = 3 * (1_000_000_000_000_000_000 - size);
-    let end = end_of(arrangement, south, east);
-    cap(cap_face(south), resolution, m, height, end)
+    place_code(arrangement, resolution, east - FULL_TURN, z)
 }
 
-// The cell of that resolution in which a fix lies, or the refusal.
-pub fn locate(arrangement: Arrangement, resolution: u64, longitude: i64, z: i64) -> Found
-    ensures { λ r. ⌜ r ≡ found (fixRefusal arrangement resolution longitude z) (fixCell arrangement resolution longitude z) ⌝ }
+// The code of the cell of that resolution in which a fix lies, or the refusal.
+pub fn coded_fix(arrangement: Arrangement, resolution: u64, longitude: i64, z: i64) -> Coded
+    ensures { λ r. ⌜ r ≡ foundCode arrangement (found (fixRefusal arrangement resolution longitude z) (fixCell arrangement resolution longitude z)) ⌝ }
 {
     let refusal = arrangement.refusal();
     if refusal != 0 {
-        return Found::Refused(refusal);
+        return Coded::Refused(refusal);
     }
     if resolution > 15 {
-        return Found::Refused(2);
+        return Coded::Refused(2);
     }
     if in_range(longitude, z) {
-        return Found::At(cell_of(arrangement, resolution, longitude, z));
+        return Coded::Code(code_of(arrangement, resolution, longitude, z));
     }
-    Found::Refused(6)
+    Coded::Refused(6)
 }

@@ -1,12 +1,10 @@
--- Newton's iteration for a square root, on plain numbers, and its first guess. Assumes nothing.
+-- Newton's iteration for a square root, on plain numbers. Assumes nothing.
 use mathlib.Core.Path.{_≡_, refl, subst}
 use mathlib.Core.Logic.{⊎-elim}
-use Prim.Native.Nat.{ℕ, zero, suc, _+_, _-_, _*_, _/_, _^_, _≤_, _<_}
-use native.Mathlib.Nat.{le-trans, le-of-eq, le-of-lt, lt-of-lt-of-le, lt-suc-self, zero-lt-suc, le-dest, le-intro, add-comm, add-assoc}
-use native.Mathlib.Nat.{add-left-comm, mul-comm, mul-add, add-mul, mul-le-mul, mul-le-mul-right, div-lt-iff-lt-mul, div-le-of-le-mul, pow-le-pow-right, one-le-pow}
+use Prim.Native.Nat.{ℕ, zero, suc, _+_, _*_, _/_, _≤_, _<_}
+use native.Mathlib.Nat.{le-of-lt, lt-suc-self, zero-lt-suc, le-dest, le-intro, add-comm, add-assoc, add-left-comm, mul-comm, mul-add, add-mul, mul-le-mul-right}
+use native.Mathlib.Nat.{div-lt-iff-lt-mul}
 use native.Mathlib.Omega.{arith}
-use lib.Count.{leadingZeros, leading-length}
-use lib.Pow.{pow-add}
 use Rattle.logic.specs.Laws.Order.{lt-or}
 
 -- ---- a step
@@ -44,36 +42,3 @@ square-pos n (suc r) h = zero-lt-suc r
 -- the new guess, from one whose square is above n, is smaller: n / r is below r
 pub newton-below : (n r : ℕ) → n < r * r → (r + n / r) / 2 < r
 newton-below n r h = let q : n / r < r = div-lt-iff-lt-mul (square-pos n r h) .1 h in omega arith
-
--- ---- the first guess
-
--- 2^s, for s half of t's length in bits, rounded up, is above the root
-pub half-length : (radicand : ℕ) → radicand < 10 ^ 18 → ((65 - leadingZeros 64 radicand) / 2 ≤ 30) ×
-    (radicand < 2 ^ ((65 - leadingZeros 64 radicand) / 2) * 2 ^ ((65 - leadingZeros 64 radicand) / 2))
-half-length radicand h =
-    let l = leading-length 64 radicand (omega arith) in
-    let m : ℕ = l .0 in
-    let z : leadingZeros 64 radicand + m ≡ 64 = l .1 in
-    let s : ℕ = (65 - leadingZeros 64 radicand) / 2 in
-    let short : m ≤ 60 = ⊎-elim (λ k. absurd (let p : 2 ^ 61 ≤ 2 ^ m = pow-le-pow-right (zero-lt-suc 1) k in let q : 2 ^ m ≤ 2 * radicand + 1 = l .3 in omega arith)) (λ k. k) (lt-or 60 m) in
-    let twice : m ≤ s + s = omega arith in
-    let p : 2 ^ m ≤ 2 ^ (s + s) = pow-le-pow-right (zero-lt-suc 1) twice in
-    (omega arith, lt-of-lt-of-le (l .2) (le-trans p (le-of-eq (pow-add 2 s s))))
-
--- what keeps the parabola within a word: with h = 2^s and x = radicand / h, h is small, x is below h, and x x / h is at most x
-pub record Sizes (radicand s : ℕ) : Type 0 where
-  pub side : 2 ^ s ≤ 1073741824
-  pub along : radicand / 2 ^ s < 2 ^ s
-  pub squared : radicand / 2 ^ s * (radicand / 2 ^ s) ≤ 1152921504606846976
-  pub folded : radicand / 2 ^ s * (radicand / 2 ^ s) / 2 ^ s ≤ radicand / 2 ^ s
-
-pub sizes : (radicand s : ℕ) → s ≤ 30 → radicand < 2 ^ s * 2 ^ s → Sizes radicand s
-sizes radicand s hs ht =
-    let h : 2 ^ s ≤ 2 ^ 30 = pow-le-pow-right (zero-lt-suc 1) hs in
-    let x : radicand / 2 ^ s < 2 ^ s = div-lt-iff-lt-mul (one-le-pow s 2 (zero-lt-suc 1)) .1 ht in
-    record {
-      side = h;
-      along = x;
-      squared = mul-le-mul {n₂ = 1073741824} {m₂ = 1073741824} (omega arith) (omega arith);
-      folded = div-le-of-le-mul (2 ^ s) (mul-le-mul-right (radicand / 2 ^ s) (le-of-lt x));
-    }

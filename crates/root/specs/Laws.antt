@@ -1,3 +1,4 @@
 pub mod Floor
+pub mod Part
 pub mod Plain
 pub mod Square

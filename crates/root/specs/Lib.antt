@@ -2,3 +2,4 @@ pub mod Compared
 pub mod Floor
 pub mod Internal
 pub mod Laws
+pub mod Part

@@ -4,9 +4,12 @@ ghost use Prim.Native.Nat.{_+_, _*_, _^_, _≤_, _<_};
 ghost use lib.IntN.{negℤ};
 ghost use Rattle.wide.specs.Value.{three};
 ghost use Rattle.root.specs.Floor.{square, plusAt, minusAt, atMost, rootFloor, axisOf};
+ghost use Rattle.root.specs.Part.{firm, partOf};
 ghost use Rattle.root.specs.Internal.Bracket.{lowPart};
 use ternary::FINEST_ROWS;
 use wide::Three;
+
+mod guess;
 
 // A signed whole number: the part of the root that a floor adds or takes away.
 pub struct Axis {
@@ -27,34 +30,26 @@ pub fn negated(x: Axis) -> Axis
 
 // ---- the whole root
 
-// Half of t's length in bits, rounded up.
-fn half_length(radicand: u64) -> u64
-    requires { ⌜ radicand < 10 ^ 18 ⌝ }
-    ensures { λ r. ⌜ (r ≤ 30) × (radicand < 2 ^ r * 2 ^ r) ⌝ }
-{
-    (65 - u64::leading_zeros(radicand) as u64) / 2
-}
-
-// A number near the root: with h = 2^s and x = radicand / h it is h (0.26 + 1.05 (x/h) - 0.31 (x/h)^2), for a large radicand at most one part in 190 off. No proof
-// leans on that: it spares steps.
+// A number near the root: the radicand is moved up to 63 or 64 bits, and the root is looked up by the first eight of these and then taken along a line. For a
+// large radicand it is at most one part in 250,000 off. No proof leans on that: it spares steps.
 fn near_root(radicand: u64) -> u64
-    requires { ⌜ radicand < 10 ^ 18 ⌝ }
-    ensures { λ r. ⌜ (2 ≤ r) × (r ≤ 2 ^ 31) ⌝ }
+    ensures { λ r. ⌜ (1 ≤ r) × (r ≤ 2 ^ 33) ⌝ }
 {
-    let s = half_length(radicand);
-    let h = 1 << s;
-    let x = radicand >> s;
-    (266 * h + 1075 * x - 322 * (x * x >> s)) / 1024 + 2
+    let s = u64::leading_zeros(radicand) as u64 / 2 % 32;
+    let moved = radicand << (2 * s);
+    let found = guess::root_and_rise(moved / 72_057_594_037_927_936);
+    let along = moved / 16_777_216 % 4_294_967_296;
+    let rise = found / 4_294_967_296 * along / 4_294_967_296;
+    ((found % 4_294_967_296 + rise) >> s) + 1
 }
 
-// Two of Newton's steps from there, each of which ends at or above the root. After them a large t's root is less than 1 off.
+// One of Newton's steps from there, which ends at or above the root, and for a large t less than 1 above it.
 fn first_root(radicand: u64) -> u64
     requires { ⌜ radicand < 10 ^ 18 ⌝ }
     ensures { λ r. ⌜ (radicand < (r + 1) * (r + 1)) × (r ≤ 1000000000) ⌝ }
 {
-    let a = near_root(radicand);
-    let b = (a + radicand / a) / 2;
-    let r = (b + radicand / b) / 2;
+    let near = near_root(radicand);
+    let r = (near + radicand / near) / 2;
     if r < 1_000_000_000 {
         return r;
     }
@@ -211,4 +206,28 @@ pub fn floor(k: u64, m: u64, radicand: u64, root: u64, p: Axis) -> u64
         return w * m / FINEST_ROWS;
     }
     w
+}
+
+// ---- parts of 2^56, for weaving: a part is good where its digits are certain, and that is almost everywhere
+
+// Whether the first fifteen ternary digits of a part are those of somewhat more too. One product of the upper 40 bits tells.
+pub fn is_firm(part: u64, room: u64) -> bool
+    requires { ⌜ (part < 2 ^ 56) × (room ≤ 2 ^ 40) ⌝ }
+    ensures { λ r. ⌜ r ≡ firm part room ⌝ }
+{
+    part / 65_536 * FINEST_ROWS % 1_099_511_627_776 + room < 1_099_511_627_776
+}
+
+// The room that the upper end takes.
+pub const ROOM: u64 = 7_902_744_606;
+
+// 2^120 / UNITS, rounded down.
+const BY_UNITS: u64 = 738_459_997_658_286_596;
+
+// The lower end as a part. Where it is firm by ROOM, its digits are the finest floor's.
+pub fn part(root: u64, p: Axis) -> u64
+    requires { ⌜ (root < 1000000000) × (p .size ≤ 900000000) ⌝ }
+    ensures { λ r. ⌜ (r ≡ partOf (p .minus) (p .size) root) × (r < 2 ^ 56) ⌝ }
+{
+    wide::high(low_end(root, p), BY_UNITS)
 }

@@ -1,10 +1,8 @@
 -- `flight::line_code` meets its contract: each way is one case of the line's reading. Assumes nothing.
 use mathlib.Core.Path.{sym, ap, ap₂, _∙_}
 use Rattle.signed.specs.Laws.Sign.{back-result}
-use Rattle.code.specs.Code.{foundCode}
-use Rattle.code.specs.Laws.Code.{found-coded, found-placed}
+use Rattle.code.specs.Laws.Code.{found-coded}
 use Rattle.flight.specs.Flight.{fixCoded, ofLine, lineCode}
-use Rattle.flight.specs.Laws.Code.{line-allowed}
 use borrow.Author.Needs.{needs}
 use Rattle.flight.proofs.line_code.Statement.{statement}
 use Rattle.flight.proofs.line_code.Tie as tie
@@ -27,21 +25,18 @@ returns c =
     let f = c .before .before .before in
     c .no-fix .ensures ∙ ap (ofLine (f .before .before .args .setting)) (sym (c .before .enum-told .given .1) ∙ f .fix-in .ensures)
 
-fix-cell-requires : tie.Need-fix-cell-requires
-fix-cell-requires c κs = search needs
-
-found-code-requires : tie.Need-found-code-requires
-found-code-requires c κs = rw (c .fix-cell .ensures) (found-placed _ _ (line-allowed _ _ _))
+coded-fix-requires : tie.Need-coded-fix-requires
+coded-fix-requires c κs = search needs
 
 returns-2 : tie.Need-returns-2
 unfolding lineCode ofLine fixCoded
 returns-2 c =
-    let k = c .before .before in
+    let k = c .before in
     let x = k .before in
     let f = x .before .before in
     let a = f .before .before .args in
     let g = x .longitude .given in
-    c .found-code .ensures ∙ ap (foundCode (a .setting .arrangement)) (c .before .fix-cell .ensures) ∙ found-coded _ _ _
+    c .coded-fix .ensures ∙ found-coded _ _ _
     ∙ ap₂ (fixCoded (a .setting)) (back-result (g .0 .0) (k .known-told .given .0 .1)) (back-result (g .0 .1 .0) (k .known-told .given .1 .0 .1))
     ∙ ap (ofLine (a .setting)) (sym (g .1) ∙ f .fix-in .ensures)
 
@@ -54,6 +49,5 @@ line-code-spec =
     enum-told
     no-fix-requires
     returns
-    fix-cell-requires
-    found-code-requires
+    coded-fix-requires
     returns-2)

@@ -8,9 +8,6 @@ use Rattle.locate.specs.Fix.{capCell}
 use Rattle.locate.proofs.cap.Statement.{statement}
 use Rattle.locate.proofs.cap.Tie as tie
 
-whole-root-requires : tie.Need-whole-root-requires
-whole-root-requires c κs = search needs
-
 negated-requires : tie.Need-negated-requires
 negated-requires c κs = search needs
 
@@ -24,9 +21,9 @@ returns : tie.Need-returns
 unfolding capCell
 returns c =
     let f = c .before in
-    let a = f .before .before .before .args in
+    let a = f .before .before .args in
     let row = f .floor .ensures .0 ∙ ap (λ (x : ℤ). rootFloor (3 ^ a .resolution) (a .height) x) (f .before .negated .ensures .0) in
     λ i. record { face = a .face; resolution = a .resolution; row = row i; column = c .floor2 .ensures .0 i }
 
 pub cap-spec : {M : Type 1} → statement M
-cap-spec = tie.close (tie.spec whole-root-requires negated-requires floor-requires floor-requires-2 returns)
+cap-spec = tie.close (tie.spec negated-requires floor-requires floor-requires-2 returns)

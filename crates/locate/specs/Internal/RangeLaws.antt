@@ -1,8 +1,11 @@
 -- What the range of a fix says of its numbers. Assumes nothing.
 use mathlib.Core.Path.{_≡_, refl, sym, ap, _∙_}
-use mathlib.Core.Bool.{true, false, _&&_}
+use mathlib.Core.Bool.{Bool, true, false, _&&_}
 use Prim.Native.Nat.{ℕ, zero, suc, _+_, _-_, _*_, _^_, _≤_, _<_}
+use native.Mathlib.Decide.{decLe}
+use native.Mathlib.Nat.{lt-of-not-le}
 use native.Mathlib.Omega.{arith}
+use lib.Dec.{leb}
 use lib.IntN.{ℤ, pos, negsuc, negℤ, natAbs, negℤ-negℤ, _+ℤ_}
 use lib.Signed.{leZ}
 use borrow.Author.Tests.{leb-true, leb-false, le-leb, lt-leb}
@@ -38,6 +41,18 @@ module _ (L z : ℤ) (r : inRange L z ≡ true) where
       let t = and-right (leZ (negℤ (pos 1800000000)) L && leZ L (pos 1800000000)) _ r in
       size-between z (10 ^ 18) (and-left _ _ t) (and-right (leZ (negℤ (pos (10 ^ 18))) z) _ t)
 
+-- two tests that say the same
+same-test : (a b c d : ℕ) → (a ≤ b → c ≤ d) → (c ≤ d → a ≤ b) → leb a b ≡ leb c d
+same-test a b c d f g = go (decLe a b)
+  where
+    go : Dec (a ≤ b) → leb a b ≡ leb c d
+    go (yes h) = le-leb a b h ∙ sym (le-leb c d (f h))
+    go (no n) = lt-leb a b (lt-of-not-le n) ∙ sym (lt-leb c d (lt-of-not-le (λ h. n (g h))))
+
+and-true : (b : Bool) → (b && true) ≡ b
+and-true true = refl
+and-true false = refl
+
 -- ---- the belt: 2 x 10^18 - 3z, by z's sign and size
 
 pub in-belt : (z : ℤ) → isBelt z ≡ true → 3 * natAbs z ≤ 2 * 10 ^ 18
@@ -56,6 +71,28 @@ offset-south (suc y) = ap (λ (x : ℤ). natAbs (pos 2000000000000000000 +ℤ x)
 pub offset-north : (y : ℕ) → 3 * y ≤ 2 * 10 ^ 18 → 2 * 10 ^ 18 - 3 * y ≡ offsetOf (withSign false y)
 unfolding offsetOf
 offset-north y h = ap natAbs (sym (minus-plain (2 * 10 ^ 18) (pos (3 * y)) refl ∙ sub-at (2 * 10 ^ 18) (3 * y) h))
+
+-- the belt's bottom and top
+pub belt-ends : (z : ℤ) → (leZ (negℤ (pos 666666666666666666)) z && leZ z (pos 666666666666666666)) ≡ isBelt z
+unfolding isBelt
+belt-ends (pos a) = same-test a 666666666666666666 (3 * a) (2 * 10 ^ 18) (omega arith) (omega arith)
+belt-ends (negsuc a) = and-true (leb a 666666666666666665) ∙ same-test a 666666666666666665 (3 * suc a) (2 * 10 ^ 18) (omega arith) (omega arith)
+
+pub above-bottom : (z : ℤ) → isBelt z ≡ true → leZ (negℤ (pos 666666666666666666)) z ≡ true
+above-bottom z t = and-left _ _ (belt-ends z ∙ t)
+
+-- 2 x 10^18 - 3z, by how far z is above the bottom
+pub offset-up : (z : ℤ) → isBelt z ≡ true → (3 * natAbs (z +ℤ pos 666666666666666666) ≤ 3999999999999999998) ×
+    (3999999999999999998 - 3 * natAbs (z +ℤ pos 666666666666666666) ≡ offsetOf z)
+offset-up (pos a) t =
+    let h = in-belt (pos a) t in
+    let e : 3999999999999999998 - 3 * (a + 666666666666666666) ≡ 2 * 10 ^ 18 - 3 * a = omega arith in
+    (omega arith, e ∙ offset-north a h)
+offset-up (negsuc a) t =
+    let h = in-belt (negsuc a) t in
+    let s : natAbs (negsuc a +ℤ pos 666666666666666666) ≡ 666666666666666666 - suc a = ap natAbs (sub-at 666666666666666666 (suc a) (omega arith)) in
+    let e : 3999999999999999998 - 3 * natAbs (negsuc a +ℤ pos 666666666666666666) ≡ 2 * 10 ^ 18 + 3 * suc a = omega arith in
+    (omega arith, e ∙ offset-south (suc a))
 
 -- ---- the caps: (10^9 h)^2 is below 10^18
 

@@ -85,7 +85,7 @@ south-point s east = south-within (turnOf (east / quarter) s) (startSouth (east 
 
 -- ---- the answer is a cell
 
-belt-is-cell : (k east offset : ℕ) → k ≤ 15 → east < 3600000000 → offset < 4 * 10 ^ 18 → IsCell (beltCell k east offset)
+pub belt-is-cell : (k east offset : ℕ) → k ≤ 15 → east < 3600000000 → offset < 4 * 10 ^ 18 → IsCell (beltCell k east offset)
 unfolding beltCell
 belt-is-cell k east offset h l o =
     record {
@@ -95,7 +95,7 @@ belt-is-cell k east offset h l o =
       columned = rw mul-comm (part-lt (3 ^ k) (east % quarter) quarter (omega arith) (power-pos k));
     }
 
-cap-is-cell : (face k t : ℕ) (x : CapPoint) → face ≤ 5 → k ≤ 15 → t < 10 ^ 18 → Spanned quarter x → IsCell (capCell face k t x)
+pub cap-is-cell : (face k t : ℕ) (x : CapPoint) → face ≤ 5 → k ≤ 15 → t < 10 ^ 18 → Spanned quarter x → IsCell (capCell face k t x)
 unfolding capCell
 cap-is-cell face k t x f h l w =
     record {

@@ -8,7 +8,7 @@ use borrow.Author.Needs.{needs}
 use Rattle.root.specs.Floor.{atMost, rootFloor, axisOf}
 use Rattle.root.specs.Internal.Bracket.{lowPart}
 use Rattle.root.specs.Laws.Floor.{floor-below}
-use Rattle.root.proofs.Between.{Given, low, root-fits, low-fits, low-lt, size-fits, roomy, upper, lower}
+use Rattle.root.specs.Internal.Between.{Given, low, root-fits, low-fits, low-lt, size-fits, roomy, upper, lower}
 use Rattle.root.proofs.finest.Statement.{statement}
 use Rattle.root.proofs.finest.Tie as tie
 

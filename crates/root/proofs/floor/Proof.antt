@@ -1,24 +1,16 @@
 -- `root::floor` meets its contract: the resolutions agree. Assumes nothing.
-use mathlib.Core.Path.{_≡_, sym, ap, ap₂, _∙_, subst}
-use Prim.Native.Nat.{ℕ, _+_, _-_, _*_, _/_, _^_, _≤_, _<_}
-use native.Mathlib.Nat.{le-of-lt, mul-le-mul, mul-div-mul-right}
+use mathlib.Core.Path.{_≡_, ap₂, _∙_, subst}
+use Prim.Native.Nat.{ℕ, _*_, _/_, _^_, _≤_, _<_}
+use native.Mathlib.Nat.{le-of-lt, mul-le-mul}
 use native.Mathlib.Omega.{arith}
 use borrow.Author.Needs.{needs}
-use lib.IntN.{ℤ, natAbs}
-use Rattle.ternary.specs.Laws.Powers.{power-le, power-pos, power-add}
+use lib.IntN.{natAbs}
+use Rattle.ternary.specs.Laws.Powers.{power-le, power-pos}
 use Rattle.root.specs.Floor.{rootFloor, axisOf}
-use Rattle.root.specs.Laws.Floor.{floor-below, floor-part, axis-size}
+use Rattle.root.specs.Laws.Floor.{floor-below, axis-size}
+use Rattle.root.specs.Laws.Part.{floor-coarser}
 use Rattle.root.proofs.floor.Statement.{statement}
 use Rattle.root.proofs.floor.Tie as tie
-
--- the first digits of the floor at resolution 15
-coarser : (k radicand : ℕ) (p : ℤ) → k ≤ 15 → natAbs p ≤ 900000000 → radicand < 10 ^ 18 → rootFloor 14348907 radicand p * 3 ^ k / 14348907 ≡ rootFloor (3 ^ k) radicand p
-coarser k radicand p h hp ht =
-    let up : ℕ = 3 ^ (15 - k) in
-    let f : 15 - k + k ≡ 15 = omega arith in
-    let e : 14348907 ≡ up * 3 ^ k = ap (λ (x : ℕ). 3 ^ x) (sym f) ∙ power-add (15 - k) k in
-    ap (λ (x : ℕ). rootFloor x radicand p * 3 ^ k / x) e ∙ mul-div-mul-right (rootFloor (up * 3 ^ k) radicand p) up (power-pos k) ∙ floor-part up (3 ^ k) radicand p
-    (power-pos (15 - k)) (power-pos k) hp ht
 
 finest-requires : tie.Need-finest-requires
 finest-requires c κs = search needs
@@ -37,7 +29,7 @@ returns c =
     let radicand = s .args .radicand in
     let p = axisOf (s .args .p) in
     let hp : natAbs p ≤ 900000000 = rw (axis-size (s .args .p)) (s .pre .3) in
-    let e = ap₂ (λ (w m : ℕ). w * m / 14348907) (f .finest .ensures .0) (s .pre .1) ∙ coarser (s .args .k) radicand p (s .pre .0) hp (s .pre .2) in
+    let e = ap₂ (λ (w m : ℕ). w * m / 14348907) (f .finest .ensures .0) (s .pre .1) ∙ floor-coarser (s .args .k) radicand p (s .pre .0) hp (s .pre .2) in
     (e, rw e (floor-below (3 ^ s .args .k) radicand p (power-pos (s .args .k)) hp (s .pre .2)))
 
 returns-2 : tie.Need-returns-2

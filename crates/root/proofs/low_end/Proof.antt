@@ -1,7 +1,7 @@
 -- `root::low_end` meets its contract. Assumes nothing.
 use Prim.Native.Nat.{_+_, _*_, _≤_}
 use native.Mathlib.Omega.{arith}
-use Rattle.root.proofs.Between.{part-small, one-more}
+use Rattle.root.specs.Internal.Between.{part-small, one-more}
 use Rattle.root.proofs.low_end.Statement.{statement}
 use Rattle.root.proofs.low_end.Tie as tie
 

@@ -1,62 +1,68 @@
 -- `root::near_root` meets its contract: every number on the way stays within a word. Assumes nothing.
+use Prim.Native.Nat.{ℕ, _+_, _*_, _/_, _%_, _^_, _≤_, _<_}
+use native.Mathlib.Nat.{div-le-self, mul-le-mul}
 use native.Mathlib.Omega.{arith}
+use lib.Count.{leadingZeros, leading-le}
 use borrow.Author.Needs.{needs}
-use Rattle.root.proofs.Newton.{Sizes, sizes}
 use Rattle.root.proofs.near_root.Statement.{statement}
 use Rattle.root.proofs.near_root.Tie as tie
 
-known : (c : tie.After-half-length) → Sizes (c .before .args .radicand) (c .half-length .result)
-known c = sizes (c .before .args .radicand) (c .half-length .result) (c .half-length .ensures .0) (c .half-length .ensures .1)
+module _ (c : tie.After-root-and-rise) where
+  abbrev s : ℕ
+  s = leadingZeros 64 (c .before .args .radicand) / 2 % 32
 
-half-length-requires : tie.Need-half-length-requires
-half-length-requires c κs = search needs
+  abbrev along : ℕ
+  along = c .before .args .radicand * 2 ^ (2 * s) % 18446744073709551616 / 16777216 % 4294967296
 
-shl-h : tie.Need-shl-h
-shl-h c = search needs
+  abbrev found : ℕ
+  found = c .root-and-rise .result
 
-shr-x : tie.Need-shr-x
-shr-x c = search needs
+  rise-small : found / 4294967296 * along ≤ 16777216 * 4294967296
+  rise-small = let h = c .root-and-rise .ensures in mul-le-mul {n₂ = 16777216} {m₂ = 4294967296} (omega arith) (omega arith)
 
-mul-result : tie.Need-mul-result
-mul-result c = omega (arith, known c)
+  moved-back : (found % 4294967296 + found / 4294967296 * along / 4294967296) / 2 ^ s ≤ 4311744512
+  moved-back =
+      let h = rise-small in
+      let l = div-le-self (found % 4294967296 + found / 4294967296 * along / 4294967296) (2 ^ s) in
+      omega arith
 
-mul-result-2 : tie.Need-mul-result-2
-mul-result-2 c = omega (arith, known c)
+cast-s : tie.Need-cast-s
+cast-s c = omega (arith, leading-le 64 (c .args .radicand))
+
+mul-moved : tie.Need-mul-moved
+mul-moved c = search needs
+
+shl-moved : tie.Need-shl-moved
+shl-moved c = search needs
+
+root-and-rise-requires : tie.Need-root-and-rise-requires
+root-and-rise-requires c κs = search needs
+
+mul-rise : tie.Need-mul-rise
+mul-rise c = omega (arith, rise-small c)
 
 add-result : tie.Need-add-result
-add-result c = omega (arith, known c)
-
-mul-result-3 : tie.Need-mul-result-3
-mul-result-3 c = omega (arith, known c)
+add-result c = omega (arith, rise-small c)
 
 shr-result : tie.Need-shr-result
 shr-result c = search needs
 
-mul-result-4 : tie.Need-mul-result-4
-mul-result-4 c = omega (arith, known c)
-
-sub-result : tie.Need-sub-result
-sub-result c = omega (arith, known c)
-
 add-result-2 : tie.Need-add-result-2
-add-result-2 c = omega (arith, known c)
+add-result-2 c = omega (arith, moved-back c)
 
 returns : tie.Need-returns
-returns c = omega (arith, known c)
+returns c = omega (arith, moved-back c)
 
 pub near-root-spec : {M : Type 1} → statement M
 near-root-spec =
     tie.close
     (tie.spec
-    half-length-requires
-    shl-h
-    shr-x
-    mul-result
-    mul-result-2
+    cast-s
+    mul-moved
+    shl-moved
+    root-and-rise-requires
+    mul-rise
     add-result
-    mul-result-3
     shr-result
-    mul-result-4
-    sub-result
     add-result-2
     returns)

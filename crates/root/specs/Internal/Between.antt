@@ -85,7 +85,7 @@ apart b m g root hm hg hr =
     let e : m * highPart b g root ≡ m * lowPart b g root + m * g = ap (λ (x : ℕ). m * x) (ends-apart b g root hg hr) ∙ mul-add m (lowPart b g root) g in
     omega (arith, product-small m g hm hg)
 
-low-small : (b : Bool) (g root : ℕ) → g ≤ 900000000 → root < 1000000000 → lowPart b g root < 1800000000000000000
+pub low-small : (b : Bool) (g root : ℕ) → g ≤ 900000000 → root < 1000000000 → lowPart b g root < 1800000000000000000
 low-small false g root hg hr =
     let h : g * root ≤ 900000000 * 999999999 = mul-le-mul {n₂ = 900000000} {m₂ = 999999999} hg (omega arith) in omega arith
 low-small true g root hg hr = omega arith
