@@ -428,32 +428,7 @@ fn rescue_in(
     give(proper, &marks[..text.len() - 7], out, list)
 }
 
-// The rescue of a looser text of at most 1,024 bytes. The memory of a call is cleared each time, so short texts have little of it.
-fn rescue_small(text: &[u8], arrangement: Arrangement, out: &mut [u8], list: &mut [u64]) -> Rescued
-    requires { ⌜ (looseRefusal (now text) ≡ 0) × (arrangement ≡ looseArrangement (now text)) × (length (now text) ≤ 1024) ⌝ }
-    ensures { λ r. ⌜ RescueIs (now (text .entry)) (now (out .entry)) (now (out .exit)) (now (list .entry)) (now (list .exit)) r ⌝ }
-{
-    let mut codes = [0u64; 1024];
-    let mut spare = [0u64; 1024];
-    let mut made = [0u8; 1024];
-    let mut marks = [0u8; 1024];
-    let mut named = [0u8; 1024];
-    let mut stood = [0u8; 1024];
-    rescue_in(
-        text,
-        arrangement,
-        &mut codes,
-        &mut spare,
-        &mut made,
-        &mut marks,
-        &mut named,
-        &mut stood,
-        out,
-        list,
-    )
-}
-
-// The rescue of a looser text of at most 4,096 bytes.
+// The rescue of a looser text of at most 4,096 bytes. The memory of a call is cleared each time, so short texts have little of it.
 fn rescue_short(text: &[u8], arrangement: Arrangement, out: &mut [u8], list: &mut [u64]) -> Rescued
     requires { ⌜ (looseRefusal (now text) ≡ 0) × (arrangement ≡ looseArrangement (now text)) × (length (now text) ≤ 4096) ⌝ }
     ensures { λ r. ⌜ RescueIs (now (text .entry)) (now (out .entry)) (now (out .exit)) (now (list .entry)) (now (list .exit)) r ⌝ }
@@ -464,31 +439,6 @@ fn rescue_short(text: &[u8], arrangement: Arrangement, out: &mut [u8], list: &mu
     let mut marks = [0u8; 4096];
     let mut named = [0u8; 4096];
     let mut stood = [0u8; 4096];
-    rescue_in(
-        text,
-        arrangement,
-        &mut codes,
-        &mut spare,
-        &mut made,
-        &mut marks,
-        &mut named,
-        &mut stood,
-        out,
-        list,
-    )
-}
-
-// The rescue of a looser text of at most 16,384 bytes.
-fn rescue_middle(text: &[u8], arrangement: Arrangement, out: &mut [u8], list: &mut [u64]) -> Rescued
-    requires { ⌜ (looseRefusal (now text) ≡ 0) × (arrangement ≡ looseArrangement (now text)) × (length (now text) ≤ 16384) ⌝ }
-    ensures { λ r. ⌜ RescueIs (now (text .entry)) (now (out .entry)) (now (out .exit)) (now (list .entry)) (now (list .exit)) r ⌝ }
-{
-    let mut codes = [0u64; 16384];
-    let mut spare = [0u64; 16384];
-    let mut made = [0u8; 16384];
-    let mut marks = [0u8; 16384];
-    let mut named = [0u8; 16384];
-    let mut stood = [0u8; 16384];
     rescue_in(
         text,
         arrangement,
@@ -536,14 +486,8 @@ fn rescue_loose(text: &[u8], arrangement: Arrangement, out: &mut [u8], list: &mu
     if is_proper(text) {
         return give_same(text, out);
     }
-    if text.len() <= 1024 {
-        return rescue_small(text, arrangement, out, list);
-    }
     if text.len() <= 4096 {
         return rescue_short(text, arrangement, out, list);
-    }
-    if text.len() <= 16384 {
-        return rescue_middle(text, arrangement, out, list);
     }
     rescue_long(text, arrangement, out, list)
 }
