@@ -19,10 +19,12 @@ use Rattle.reading.specs.Laws.Rising.{ahead-before}
 use Rattle.reading.specs.Laws.Named.{named-cell, name-named, prefix-inside}
 use Rattle.logic.specs.Laws.Order.{lt-or}
 use Rattle.writing.specs.declared.Measure.{Measure}
-use Rattle.writing.specs.Internal.Measure.{nextCell, cellStart, StartAtPlace, NodeAt, ListAt, NodeTakes, ListTakes, NodeDepth, ListDepth, NodeMeasured, ListMeasured}
+use Rattle.writing.specs.Internal.Measure.{nextCell, cellStart, StartAtPlace, NodeAt, ListAt, NodeTakes, ListTakes}
+use Rattle.writing.specs.Internal.Measure.{NodeDepth, ListDepth, NodeMeasured, ListMeasured}
 use Rattle.writing.specs.Write.{allCodes}
 use Rattle.writing.specs.Internal.Depth.{greater, depthAbove}
-use Rattle.writing.specs.Internal.MeasureLaws.{code-at, names-at, end-named, node-finest, node-same, node-list, node-nine, node-held, list-none, list-node, list-rest, list-in, all-later, list-skip, list-out}
+use Rattle.writing.specs.Internal.MeasureLaws.{code-at, names-at, end-named, node-finest, node-same, node-list, node-nine, node-held}
+use Rattle.writing.specs.Internal.MeasureLaws.{list-none, list-node, list-rest, list-in, all-later, list-skip, list-out}
 use Rattle.writing.proofs.DepthLaws.{greater-none, greater-zero, greater-most, greater-assoc, whole-depth, held-depth, above-most, none-depth, in-depth, out-depth}
 
 -- ---- a node
@@ -79,7 +81,8 @@ module _ {codes : List ℕ} {at : ℕ} {w : List ℕ} {start size k : ℕ} (s : 
       let v = code-is-cell (getD codes at 0) (code-at codes at (s .coded) h) in
       let i = prefix-inside (cellNamed w) (nextCell codes at) (named-cell w (s .named)) v (rw (name-named w (s .named)) (s .inside)) in
       let j = inside-within (cellNamed w) (nextCell codes at) (named-cell w (s .named)) v i in
-      (omega (arith, j .from, s .starts), omega (arith, j .to, size-pos (nextCell codes at), s .starts, s .sized, end-named w (getD codes at 0) k (s .named) (code-at codes at (s .coded) h) (s .depth)))
+      let e = end-named w (getD codes at 0) k (s .named) (code-at codes at (s .coded) h) (s .depth) in
+      (omega (arith, j .from, s .starts), omega (arith, j .to, size-pos (nextCell codes at), s .starts, s .sized, e))
 
 module _ {codes : List ℕ} {at : ℕ} (base : ℕ) {start size : ℕ} {r : Measure} (h : at < length codes) (z : 9 ≤ size) (n : sizeOf (nextCell codes at) ≡ size → ⊥)
     (b : start ≡ cellStart base size (startOf (nextCell codes at))) (m : ListMeasured codes at 9 start (size / 9) r) where
