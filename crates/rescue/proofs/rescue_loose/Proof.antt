@@ -15,7 +15,9 @@ same-length c = search needs
 
 returns : tie.Need-returns
 returns c =
-    let s = c .before .before .before .before .before .before .before .before .before in c .before .before .give-same .ensures .is (s .args .list .now) (s .pre .0) (c .before .before .before .before .before .is-proper .ensures (c .before .before .before .before .if1 .taken))
+    let f = c .before .before .before .before in
+    let s = f .before .before .before .before .before in
+    c .before .before .give-same .ensures .is (s .args .list .now) (s .pre .0) (f .before .is-proper .ensures (f .if1 .taken))
 
 rescue-small-requires : tie.Need-rescue-small-requires
 rescue-small-requires c κs = search needs
