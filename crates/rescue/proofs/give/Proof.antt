@@ -36,7 +36,9 @@ copy-requires c κs = search needs
 
 write-requires : tie.Need-write-requires
 write-requires c κs =
-    (c .before .before .before .before .before .before .before .before .before .before .before .before .pre, flat-room _ _ _ (c .before .before .before .before .before .before .before .count .ensures .0) (omega (arith, c .before .before .before .before .before .if2 .left)))
+    let f = c .before .before .before .before .before in
+    let n = f .before .before in
+    (n .before .before .before .before .before .pre, flat-room _ _ _ (n .count .ensures .0) (omega (arith, f .if2 .left)))
 
 same-length : tie.Need-same-length
 same-length c = search needs
@@ -46,7 +48,10 @@ same-length-2 c = search needs
 
 returns-3 : tie.Need-returns-3
 returns-3 c =
-    gives-both (c .before .before .before .before .before .before .before .before .before .before .count .ensures .0) (omega (arith, c .before .before .before .before .before .before .before .before .before .if1 .left)) (omega (arith, c .before .before .before .before .before .before .before .before .if2 .left)) (c .before .before .before .before .before .before .copy .ensures) (c .before .before .write .ensures)
+    let p = c .before .before .before .before .before .before in
+    let f = p .before .before in
+    let n = f .before .before in
+    gives-both (n .count .ensures .0) (omega (arith, f .before .if1 .left)) (omega (arith, f .if2 .left)) (p .copy .ensures) (c .before .before .write .ensures)
 
 pub give-spec : {M : Type 1} → statement M
 give-spec =

@@ -83,7 +83,10 @@ first-kind-requires : tie.Need-first-kind-requires Inv-loop μ-loop
 first-kind-requires c κs = let l = c .before .before .before .before .before .before .before .before .before .before .loop .inv in (l .0, l .5 .named-long, c .before .before .place-next .ensures)
 
 fourth-kind-requires : tie.Need-fourth-kind-requires Inv-loop μ-loop
-fourth-kind-requires c κs = let l = c .before .before .before .before .before .before .before .before .before .before .before .before .before .before .loop .inv in (l .1, l .5 .stood-long, c .before .before .before .before .before .place-in .ensures)
+fourth-kind-requires c κs =
+    let p = c .before .before .before .before .before in
+    let l = p .before .before .before .before .before .before .before .before .before .loop .inv in
+    (l .1, l .5 .stood-long, p .place-in .ensures)
 
 late-requires : tie.Need-late-requires Inv-loop μ-loop
 late-requires c κs = search needs

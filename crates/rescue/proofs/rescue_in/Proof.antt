@@ -72,21 +72,31 @@ find-requires c κs =
 
 sub-give : tie.Need-sub-give
 sub-give c =
-    let s = c .before .before .before .before .before .before .before .before .before .before .before .before .before .before .before .before .before .before .before .before .before .before .before .before .before .before .before .before .before .before .before .before .before .before .before in
+    let f = c .before .before .before .before .before .before .before .before in
+    let m = f .before .before .before .before .before .before .before .before in
+    let s = m .before .before .before .before .before .before .before .before .before .before .before .before .before .before .before .before .before .before .before in
     let t : List ℕ = s .args .text .now in
     omega (arith, loose-long t (loose-own t (s .pre .0 .0)))
 
 slice-reshare-prefix-give : tie.Need-slice-reshare-prefix-give
 slice-reshare-prefix-give c =
-    let s = c .before .before .before .before .before .before .before .before .before .before .before .before .before .before .before .before .before .before .before .before .before .before .before .before .before .before .before .before .before .before .before .before .before .before .before in omega (arith, s .pre .1 .1 .0 .0)
+    let f = c .before .before .before .before .before .before .before .before in
+    let m = f .before .before .before .before .before .before .before .before in
+    let s = m .before .before .before .before .before .before .before .before .before .before .before .before .before .before .before .before .before .before .before in
+    omega (arith, s .pre .1 .1 .0 .0)
 
 slice-aggregate-give : tie.Need-slice-aggregate-give
 slice-aggregate-give c =
-    let s = c .before .before .before .before .before .before .before .before .before .before .before .before .before .before .before .before .before .before .before .before .before .before .before .before .before .before .before .before .before .before .before .before .before .before .before .before in sym (length-take-le _ _ (omega (arith, s .pre .1 .1 .0 .0)))
+    let f = c .before .before .before .before .before .before .before .before .before in
+    let m = f .before .before .before .before .before .before .before .before in
+    let s = m .before .before .before .before .before .before .before .before .before .before .before .before .before .before .before .before .before .before .before in
+    sym (length-take-le _ _ (omega (arith, s .pre .1 .1 .0 .0)))
 
 give-requires : tie.Need-give-requires
 give-requires c κs =
-    let s = c .before .before .before .before .before .before .before .before .before .before .before .before .before .before .before .before .before .before .before .before .before .before .before .before .before .before .before .before .before .before .before .before .before .before .before .before .before .before in
+    let f = c .before .before .before .before .before .before .before .before .before .before .before in
+    let m = f .before .before .before .before .before .before .before .before in
+    let s = m .before .before .before .before .before .before .before .before .before .before .before .before .before .before .before .before .before .before .before in
     let t : List ℕ = s .args .text .now in
     take-room (length t - 7) _ 65536 (omega (arith, loose-short t (s .pre .0 .0)))
 
@@ -116,7 +126,8 @@ same-length-8 c = search needs
 
 returns : tie.Need-returns
 returns c =
-    let m = c .before .before .before .before .before .before .before .before .before .before .before .before .before .before .before .before .before .before .before .before .before .before .before .before in
+    let h = c .before .before .before .before .before .before .before .before .before .before .before .before .before .before .before .before in
+    let m = h .before .before .before .before .before .before .before .before in
     let l = m .before .before .before .before .before .before .before in
     let o : List ℕ = l .put-largest .last .1 .1 .0 in
     let e = l .put-largest .ensures in
@@ -124,7 +135,7 @@ returns c =
     let t : List ℕ = s .args .text .now in
     let r = s .pre .0 .0 in
     let f = ap (λ (x : ℕ). take x o) (e .0) ∙ e .1 in
-    c .before .before .before .before .give .ensures .is t r (m .make .ensures .1 ∙ proper-text t (loose-own t r) (s .pre .0 .1) f) (c .before .before .before .before .before .before .before .before .before .before .before .before .before .before .before .before .find .ensures)
+    c .before .before .before .before .give .ensures .is t r (m .make .ensures .1 ∙ proper-text t (loose-own t r) (s .pre .0 .1) f) (h .find .ensures)
 
 pub rescue-in-spec : {M : Type 1} → statement M
 rescue-in-spec =

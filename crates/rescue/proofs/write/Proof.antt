@@ -42,7 +42,9 @@ shared-slice-read-put-kinds c = search needs
 
 put-kinds-requires : tie.Need-put-kinds-requires Inv-loop μ-loop
 put-kinds-requires c κs =
-    let l = c .before .before .before .before .before .loop in left-room (c .before .before .before .before .before .before .before .before .args .marks .now) (l .i) (l .inv .3) (c .before .before .before .before .loop-test .taken)
+    let a = c .before .before .before .before .before in
+    let l = a .loop in
+    left-room (a .before .before .before .args .marks .now) (l .i) (l .inv .3) (c .before .before .before .before .loop-test .taken)
 
 add-i-2 : tie.Need-add-i-2 Inv-loop μ-loop
 add-i-2 c = search needs
