@@ -1,4 +1,5 @@
 // HEALPix C++: the nested pixel of order 24, whose pixels are about as small as the grid's finest cells.
+// phi may be below 0 too, as receivers send longitudes: `zphi2pix` then calls fmod.
 #include <cstddef>
 #include <cstdint>
 #include <healpix_cxx/healpix_base.h>

@@ -53,7 +53,7 @@ pub fn run(plan: Plan, random: &mut Random) -> Vec<Row> {
 
 fn sides(points: &Points, goals: bool) -> Vec<Side<'_>> {
     let goal = |ratio: f64| goals.then_some(ratio);
-    let mut sides = pair::<FixCode>(goal(1.1), jgv_fix_code, fix_code, |entry, _| {
+    let mut sides = pair::<FixCode>(goal(0.45), jgv_fix_code, fix_code, |entry, _| {
         points.fixes.iter().fold(0, |sum, &(longitude, z)| {
             entry(0, 0, 15, longitude, z).fold(sum)
         })
@@ -82,10 +82,18 @@ fn others<'a>(points: &'a Points, goal: impl Fn(f64) -> Option<f64>, sides: &mut
             shims::bench_healpix(points.z.as_ptr(), points.phi.as_ptr(), count)
         }),
     );
+    #[cfg(healpix)]
+    add(
+        "HEALPix `zphi2pix`, longitudes from -180 to 180",
+        0.6,
+        Box::new(move |_| unsafe {
+            shims::bench_healpix(points.z.as_ptr(), points.longitude.as_ptr(), count)
+        }),
+    );
     #[cfg(proj)]
     add(
         "PROJ `rhealpix`",
-        0.7,
+        0.3,
         Box::new(move |_| unsafe {
             shims::bench_proj(points.longitude.as_ptr(), points.latitude.as_ptr(), count)
         }),
@@ -93,7 +101,7 @@ fn others<'a>(points: &'a Points, goal: impl Fn(f64) -> Option<f64>, sides: &mut
     #[cfg(s2)]
     add(
         "S2 leaf cell",
-        0.4,
+        0.2,
         Box::new(move |_| unsafe {
             shims::bench_s2(points.longitude.as_ptr(), points.latitude.as_ptr(), count)
         }),

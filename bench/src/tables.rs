@@ -33,7 +33,7 @@ fn print_row(row: &Row) {
     let ratio = median(&row.ratios);
     let least = row.ratios.iter().copied().fold(f64::MAX, f64::min);
     let greatest = row.ratios.iter().copied().fold(0.0, f64::max);
-    let goal = row.goal.map_or(String::new(), |goal| format!("{goal}"));
+    let goal = row.goal.map_or(String::new(), |goal| format!("{goal:?}"));
     let met = row.goal.map_or(String::new(), |goal| said(ratio, goal));
     println!(
         "| {} | {} | {:.1} | {:.1} | {ratio:.2} | {least:.2} to {greatest:.2} | {goal} | {met} |",
