@@ -272,22 +272,22 @@ text-all f codes held room text text-as.None p w = absurd w
 
 -- the text of the names read, by what was read
 pub names-written :
-    (f : Form) (most room : ℕ) (codes text : List ℕ) (n : ℕ) {q : NamesRead} (r : Text) → IsArrangement (f .arrangement) → AllTaken (f .arrangement) most codes q → q ≡ read-as.Count n →
-    TextWritten f (take n codes) room text r → NamesText f most q room text r
-names-written f most room codes text n r g h e w =
-    let t = subst (AllTaken (f .arrangement) most codes) e h in
-    subst (λ (x : NamesRead). NamesText f most x room text r) (sym e)
-    (t .0, take n codes, t .1, text-all f (t .0) (take n codes) room text r (names-held (f .arrangement) g most (t .0) (take n codes) (t .1)) w)
+    (f : Form) (room : ℕ) (codes text : List ℕ) (n : ℕ) {q : NamesRead} (r : Text) → IsArrangement (f .arrangement) → AllTaken (f .arrangement) (length codes) codes q →
+    q ≡ read-as.Count n → TextWritten f (take n codes) room text r → NamesText f codes q room text r
+names-written f room codes text n r g h e w =
+    let t = subst (AllTaken (f .arrangement) (length codes) codes) e h in
+    subst (λ (x : NamesRead). NamesText f codes x room text r) (sym e)
+    (t .0, t .1, text-all f (t .0) (take n codes) room text r (names-held (f .arrangement) g (length codes) (t .0) (take n codes) (t .1)) w)
 
-module _ (f : Form) (most room : ℕ) (text : List ℕ) {q : NamesRead} where
-  pub none-stopped : (m : ℕ) → q ≡ read-as.Stopped m → NamesText f most q room text text-as.None
-  none-stopped m e = subst (λ (x : NamesRead). NamesText f most x room text text-as.None) (sym e) refl
+module _ (f : Form) (room : ℕ) (codes text : List ℕ) {q : NamesRead} where
+  pub none-stopped : (m : ℕ) → q ≡ read-as.Stopped m → NamesText f codes q room text text-as.None
+  none-stopped m e = subst (λ (x : NamesRead). NamesText f codes x room text text-as.None) (sym e) refl
 
-  pub none-failed : q ≡ read-as.Failed → NamesText f most q room text text-as.None
-  none-failed e = subst (λ (x : NamesRead). NamesText f most x room text text-as.None) (sym e) refl
+  pub none-failed : q ≡ read-as.Failed → NamesText f codes q room text text-as.None
+  none-failed e = subst (λ (x : NamesRead). NamesText f codes x room text text-as.None) (sym e) refl
 
 -- a text that stands there has its room
-pub names-text-length : (f : Form) (most : ℕ) (q : NamesRead) (room : ℕ) (text : List ℕ) (n : ℕ) {r : Text} → NamesText f most q room text r → r ≡ Length n → n ≤ length text
-names-text-length f most (read-as.Count m) room text n h e = (subst (NamesText f most (read-as.Count m) room text) e h) .3 .1
-names-text-length f most (read-as.Stopped m) room text n h e = let z : Length n ≡ text-as.None = sym e ∙ h in let k : _≡_ {A = ℕ} 0 1 = cc in absurd (omega arith)
-names-text-length f most read-as.Failed room text n h e = let z : Length n ≡ text-as.None = sym e ∙ h in let k : _≡_ {A = ℕ} 0 1 = cc in absurd (omega arith)
+pub names-text-length : (f : Form) (codes : List ℕ) (q : NamesRead) (room : ℕ) (text : List ℕ) (n : ℕ) {r : Text} → NamesText f codes q room text r → r ≡ Length n → n ≤ length text
+names-text-length f codes (read-as.Count m) room text n h e = (subst (NamesText f codes (read-as.Count m) room text) e h) .2 .1
+names-text-length f codes (read-as.Stopped m) room text n h e = let z : Length n ≡ text-as.None = sym e ∙ h in let k : _≡_ {A = ℕ} 0 1 = cc in absurd (omega arith)
+names-text-length f codes read-as.Failed room text n h e = let z : Length n ≡ text-as.None = sym e ∙ h in let k : _≡_ {A = ℕ} 0 1 = cc in absurd (omega arith)

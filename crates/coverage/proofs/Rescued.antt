@@ -18,6 +18,7 @@ use Rattle.rescue.specs.declared.Rescued.{Rescued}
 use Rattle.rescue.specs.declared.Rescued.the-variants.{Done, Refused}
 use Rattle.rescue.specs.Rescue.{flat, changesOf, rescueRefusal, told, RescueIs}
 use Rattle.rescue.specs.Laws.Flat.{flat-length}
+use Rattle.rescue.specs.Laws.Room.{never-short}
 use Rattle.coverage.specs.declared.RescueRooms.{RescueRooms}
 use Rattle.coverage.specs.Rescued.{RescueLeft}
 
@@ -31,7 +32,7 @@ rooms t a b z =
     let o = allowed 7 _ (both (looseRefusal t) _ z .1) in
     (ltb-false _ _ (or-left (ltb a (length (properOf t))) _ o), ltb-false _ _ (or-right (ltb a (length (properOf t))) _ o))
 
-pub rescued-done :
+rescued-done :
     {t out out′ list list′ : List ℕ} {r : Rescued} {m n : ℕ} → RescueIs t out out′ list list′ r → r ≡ Done m n →
     RescueLeft (rescueRefusal t (length out) (length list)) t out′ list′ (record { end = m; numbers = n * 2; refusal = 0; place = 0 })
 unfolding told given
@@ -58,7 +59,7 @@ rescued-done {t} {out} {out′} {list} {list′} {r} {m} {n} h e =
         }
     go (suc q) f d x y = let k : _≡_ {A = ℕ} 0 1 = cc in absurd (omega arith)
 
-pub rescued-refused :
+rescued-refused :
     {t out out′ list list′ : List ℕ} {r : Rescued} {q p : ℕ} → RescueIs t out out′ list list′ r → r ≡ Refused q p →
     RescueLeft (rescueRefusal t (length out) (length list)) t out′ list′ (record { end = 0; numbers = 0; refusal = q; place = p })
 unfolding told given
@@ -70,6 +71,16 @@ rescued-refused {t} {out} {out′} {list} {list′} {r} {q} {p} h e = go (rescue
         let i : q ≡ suc x = cc in
         let j : p ≡ placeWith (suc x) t = cc in
         record { text = refl; changed = refl; refused = i; placed = j; text-fits = omega arith; list-fits = omega arith }
+
+-- in rooms that are enough for any text
+module _ {t out out′ list list′ : List ℕ} {r : Rescued} (a : 65536 ≤ length out) (b : 262144 ≤ length list) (h : RescueIs t out out′ list list′ r) where
+  pub room-done : {m n : ℕ} → r ≡ Done m n → RescueLeft (looseRefusal t) t out′ list′ (record { end = m; numbers = n * 2; refusal = 0; place = 0 })
+  room-done {m} {n} e =
+      subst (λ (x : ℕ). RescueLeft x t out′ list′ (record { end = m; numbers = n * 2; refusal = 0; place = 0 })) (never-short t (length out) (length list) a b) (rescued-done h e)
+
+  pub room-refused : {q p : ℕ} → r ≡ Refused q p → RescueLeft (looseRefusal t) t out′ list′ (record { end = 0; numbers = 0; refusal = q; place = p })
+  room-refused {q} {p} e =
+      subst (λ (x : ℕ). RescueLeft x t out′ list′ (record { end = 0; numbers = 0; refusal = q; place = p })) (never-short t (length out) (length list) a b) (rescued-refused h e)
 
 -- what it left, by the refusal that it tells
 pub left-so : {q : ℕ} {t out list : List ℕ} {r : RescueRooms} → RescueLeft q t out list r → RescueLeft (r .refusal) t out list r

@@ -44,10 +44,10 @@ TextWritten f codes room text (Length n) = (take n text ≡ textOf (asksFor (f .
 TextWritten f codes room text (Refused r) = (writeRefusal (f .version) (f .depth) (f .arrangement) codes room ≡ r) × (r ≡ 0 → ⊥)
 TextWritten f codes room text None = ⊥
 
--- `coverage write`: where names were read, the text of all names on the lines of some bytes, in the arrangement that they were read in, whatever is held
--- of them; or their list is refused. Where a line stopped the reading, or the input failed, there is no text
-abbrev pub NamesText : Form → (most : ℕ) → NamesRead → (room : ℕ) (text : List ℕ) → Text → Type 0
-NamesText f most (read-as.Count n) room text r =
-    (codes : List ℕ) × (held : List ℕ) × OfBytes (withName (f .arrangement) most) (read [] []) (read codes held) × TextWritten f codes room text r
-NamesText f most (read-as.Stopped q) room text r = r ≡ None
-NamesText f most read-as.Failed room text r = r ≡ None
+-- `coverage write`: where names were read, the text of all names on the lines of some bytes, of which the first n of the lent codes are held, in the arrangement
+-- that they were read in; or their list is refused. Where a line stopped the reading, or the input failed, there is no text
+abbrev pub NamesText : Form → (codes : List ℕ) → NamesRead → (room : ℕ) (text : List ℕ) → Text → Type 0
+NamesText f codes (read-as.Count n) room text r =
+    (all : List ℕ) × OfBytes (withName (f .arrangement) (length codes)) (read [] []) (read all (take n codes)) × TextWritten f all room text r
+NamesText f codes (read-as.Stopped q) room text r = r ≡ None
+NamesText f codes read-as.Failed room text r = r ≡ None

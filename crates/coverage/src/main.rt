@@ -7,7 +7,9 @@ ghost use Rattle.cell.specs.Cell.{IsArrangement};
 ghost use Rattle.reader.specs.Check.{checkedOf};
 ghost use Rattle.listing.specs.List.{listingRefusal};
 ghost use Rattle.proper.specs.Proper.{properOf};
-ghost use Rattle.rescue.specs.Rescue.{changesOf, rescueRefusal};
+ghost use Rattle.console.specs.Input.{Fits};
+ghost use Rattle.loose.specs.Look.{looseRefusal};
+ghost use Rattle.rescue.specs.Rescue.{changesOf};
 ghost use Rattle.console.specs.Room.{startFor};
 ghost use Rattle.report.specs.Put.{Put};
 ghost use Rattle.report.specs.Lines.{checkLine, askedLine};
@@ -236,7 +238,8 @@ fn take_name(arrangement: Arrangement, line: &[u8], codes: &mut [u64], count: us
     }
 }
 
-// All lines of the input, up to the first that stops it. A loop has to end, and nothing says that an input does.
+// All lines of the input, up to the first that stops it. With room for so many codes 13 is right where there is none left, whatever would follow. A loop has to end,
+// and nothing says that an input does.
 fn take_all(
     arrangement: Arrangement,
     bytes: &mut [u8],
@@ -245,6 +248,7 @@ fn take_all(
 ) -> NamesRead
     requires { ⌜ IsArrangement arrangement ⌝ }
     requires { ⌜ 18 ≤ length (now room) ⌝ }
+    requires { ⌜ 65650 ≤ length (now codes) ⌝ }
     ensures { λ r. ⌜ AllTaken arrangement (length (now (codes .entry))) (now (codes .exit)) r ⌝ }
 {
     let mut from: usize = 0;
@@ -308,7 +312,7 @@ fn put_text(form: Form, codes: &[u64], count: usize, text: &mut [u8]) -> Text
 fn names_text(form: Form, read: NamesRead, codes: &[u64], text: &mut [u8]) -> Text
     requires { ⌜ IsArrangement (form .arrangement) ⌝ }
     requires { ⌜ AllTaken (form .arrangement) (length (now codes)) (now codes) read ⌝ }
-    ensures { λ r. ⌜ NamesText form (length (now (codes .entry))) read (length (now (text .entry))) (now (text .exit)) r ⌝ }
+    ensures { λ r. ⌜ NamesText form (now (codes .entry)) read (length (now (text .entry))) (now (text .exit)) r ⌝ }
 {
     match read {
         NamesRead::Count(count) => put_text(form, codes, count, text),
@@ -551,9 +555,11 @@ fn say_unrescued(refusal: u64, place: u64) {
     console::say_text(b"coverage", refusal, place);
 }
 
-// rescue: the proper text in front of one room, what was changed in front of the other.
+// rescue: the proper text in front of one room, what was changed in front of the other. Both rooms are enough for any text.
 fn rescue_text(text: &[u8], out: &mut [u8], list: &mut [u64]) -> RescueRooms
-    ensures { λ r. ⌜ RescueLeft (rescueRefusal (now (text .entry)) (length (now (out .entry))) (length (now (list .entry)))) (now (text .entry)) (now (out .exit)) (now (list .exit)) r ⌝ }
+    requires { ⌜ 65536 ≤ length (now out) ⌝ }
+    requires { ⌜ 262144 ≤ length (now list) ⌝ }
+    ensures { λ r. ⌜ RescueLeft (looseRefusal (now (text .entry))) (now (text .entry)) (now (out .exit)) (now (list .exit)) r ⌝ }
 {
     match rescue::rescue(text, out, list) {
         Rescued::Done { length, changes } => RescueRooms {
@@ -624,10 +630,18 @@ fn answer(command: Command, text: &[u8]) {
     }
 }
 
+// The file that is named, into a room that is longer than any text: of a longer file there is a byte more than a text has.
+fn load_text(path: &mut [u8], text: &mut [u8]) -> BytesRead
+    requires { ⌜ 65537 ≤ length (now text) ⌝ }
+    ensures { λ r. ⌜ Fits (now (text .exit)) r ⌝ }
+{
+    console::load(b"coverage", 2, path, text)
+}
+
 fn answer_file(command: Command) {
     let mut path = io::buffer();
     let mut text = [0u8; 65537];
-    let BytesRead::Count(count) = console::load(b"coverage", 2, &mut path, &mut text) else {
+    let BytesRead::Count(count) = load_text(&mut path, &mut text) else {
         return;
     };
     answer(command, &text[..count]);

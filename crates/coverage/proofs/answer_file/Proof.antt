@@ -2,6 +2,7 @@
 use mathlib.Core.Path.{sym}
 use lib.Seq.{length-take-le}
 use Rattle.console.specs.Laws.Input.{count-fits}
+use native.Mathlib.Omega.{arith}
 use borrow.Author.Needs.{needs}
 use Rattle.coverage.proofs.answer_file.Statement.{statement}
 use Rattle.coverage.proofs.answer_file.Tie as tie
@@ -9,17 +10,14 @@ use Rattle.coverage.proofs.answer_file.Tie as tie
 buffer-requires : tie.Need-buffer-requires
 buffer-requires c κs = search needs
 
-slice-aggregate-load : tie.Need-slice-aggregate-load
-slice-aggregate-load c = search needs
+slice-aggregate-load-text : tie.Need-slice-aggregate-load-text
+slice-aggregate-load-text c = search needs
 
-slice-aggregate-load-2 : tie.Need-slice-aggregate-load-2
-slice-aggregate-load-2 c = search needs
+slice-aggregate-load-text-2 : tie.Need-slice-aggregate-load-text-2
+slice-aggregate-load-text-2 c = search needs
 
-slice-aggregate-load-3 : tie.Need-slice-aggregate-load-3
-slice-aggregate-load-3 c = search needs
-
-load-requires : tie.Need-load-requires
-load-requires c κs = search needs
+load-text-requires : tie.Need-load-text-requires
+load-text-requires c κs = omega arith
 
 enum-known-count : tie.Need-enum-known-count
 enum-known-count c = search needs
@@ -31,10 +29,10 @@ returns : tie.Need-returns
 returns c = search needs
 
 array-share-prefix-text : tie.Need-array-share-prefix-text
-array-share-prefix-text c = count-fits _ _ (c .before .before .before .before .before .load .ensures) (c .before .count .given .1)
+array-share-prefix-text c = count-fits _ _ (c .before .before .before .before .before .load-text .ensures) (c .before .count .given .1)
 
 slice-aggregate-answer : tie.Need-slice-aggregate-answer
-slice-aggregate-answer c = sym (length-take-le _ _ (count-fits _ _ (c .before .before .before .before .before .before .load .ensures) (c .before .before .count .given .1)))
+slice-aggregate-answer c = sym (length-take-le _ _ (count-fits _ _ (c .before .before .before .before .before .before .load-text .ensures) (c .before .before .count .given .1)))
 
 answer-requires : tie.Need-answer-requires
 answer-requires c κs = search needs
@@ -47,10 +45,9 @@ answer-file-spec =
     tie.close
     (tie.spec
     buffer-requires
-    slice-aggregate-load
-    slice-aggregate-load-2
-    slice-aggregate-load-3
-    load-requires
+    slice-aggregate-load-text
+    slice-aggregate-load-text-2
+    load-text-requires
     enum-known-count
     enum-told
     returns

@@ -26,13 +26,13 @@ returns c =
     let a = s .args in
     let p = c .before .before .put-text in
     let e = c .before .before .before .before .before .read .given .1 in
-    names-written (a .form) (length (a .codes .now)) (length (a .text .now)) (a .codes .now) (p .last .1 .1 .1 .0) _ (p .result) (s .pre .0) (s .pre .1) e (p .ensures)
+    names-written (a .form) (length (a .text .now)) (a .codes .now) (p .last .1 .1 .1 .0) _ (p .result) (s .pre .0) (s .pre .1) e (p .ensures)
 
 returns-2 : tie.Need-returns-2
-returns-2 c = let a = c .before .before .before .before .args in none-stopped (a .form) (length (a .codes .now)) (length (a .text .now)) (a .text .now) _ (c .enum-told .given .1)
+returns-2 c = let a = c .before .before .before .before .args in none-stopped (a .form) (length (a .text .now)) (a .codes .now) (a .text .now) _ (c .enum-told .given .1)
 
 returns-3 : tie.Need-returns-3
-returns-3 c = let a = c .before .before .before .before .args in none-failed (a .form) (length (a .codes .now)) (length (a .text .now)) (a .text .now) (c .enum-told2 .given .1)
+returns-3 c = let a = c .before .before .before .before .args in none-failed (a .form) (length (a .text .now)) (a .codes .now) (a .text .now) (c .enum-told2 .given .1)
 
 pub names-text-spec : {M : Type 1} → statement M
 names-text-spec =

@@ -1,5 +1,6 @@
 -- `rescue_file` shows what rescuing left. Assumes nothing.
 use Rattle.coverage.proofs.Rescued.{left-so}
+use native.Mathlib.Omega.{arith}
 use borrow.Author.Needs.{needs}
 use Rattle.coverage.proofs.rescue_file.Statement.{statement}
 use Rattle.coverage.proofs.rescue_file.Tie as tie
@@ -11,7 +12,7 @@ slice-aggregate-rescue-text-2 : tie.Need-slice-aggregate-rescue-text-2
 slice-aggregate-rescue-text-2 c = search needs
 
 rescue-text-requires : tie.Need-rescue-text-requires
-rescue-text-requires c κs = search needs
+rescue-text-requires c κs = (omega arith, omega arith)
 
 slice-aggregate-show-rescued : tie.Need-slice-aggregate-show-rescued
 slice-aggregate-show-rescued c = search needs

@@ -45,7 +45,7 @@ print-first-requires c κs =
     let b = n .before .before .before .before .before .before in
     let t = b .take-all in
     let f = b .before .before .before .before .args .form in
-    names-text-length f (length (t .last .1 .1 .1 .0)) (t .result) (length (t .last .1 .0)) (w .last .1 .1 .1 .0) _ (w .ensures) (c .before .before .length .given .1)
+    names-text-length f (t .last .1 .1 .1 .0) (t .result) (length (t .last .1 .0)) (w .last .1 .1 .1 .0) _ (w .ensures) (c .before .before .length .given .1)
 
 enum-known-refusal : tie.Need-enum-known-refusal
 enum-known-refusal c = search needs

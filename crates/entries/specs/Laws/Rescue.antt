@@ -42,6 +42,7 @@ use Rattle.proper.specs.Laws.Proper.{rescued-reads, rescued-ground, rescued-few
 use Rattle.proper.specs.Laws.Unchanged.{exactly, unchanged}
 use Rattle.rescue.specs.Rescue.{flat, changesOf, rescueRefusal, told}
 use Rattle.rescue.specs.Laws.Flat.{flat-length, flat-at}
+use Rattle.rescue.specs.Laws.Room.{room-enough}
 use Rattle.entries.specs.declared.RescueAnswer.{RescueAnswer}
 use Rattle.entries.specs.Order.{order, numbers, inOrder, FirstOf, Applies}
 use Rattle.entries.specs.Rescue.{rescueNumbers, rescueTests}
@@ -142,30 +143,9 @@ module _ (t out list : List ℕ) where
       go zero h = absurd (h refl)
       go (suc q) h = (refl, refl, refl, refl)
 
-  rooms : (a b : Bool) → a ≡ false → b ≡ false → refuse (a || b) 8 ≡ 0
-  rooms true b e f = clash e
-  rooms false true e f = clash f
-  rooms false false e f = refl
-
   -- "The proper text is never longer than the given one", and there are at most two changes for each byte: so much room is enough
   pub rescue-room : looseRefusal t ≡ 0 → length t ≤ length out → 4 * length t ≤ length list → rescueAnswer .refusal ≡ 0
-  unfolding rescueRefusal changesOf
-  rescue-room z a b =
-      let own : IsLoose t = loose-own t z in
-      let ns : Nodes = looseNodes (drop 7 t) in
-      let f : length (properOf t) ≤ length out = omega (arith, short-enough t own) in
-      let g : length (flat (changesOf t)) ≤ length list =
-      omega (
-        arith,
-        flat-length (changesOf t),
-        changes-few ns,
-        ap length (own .all),
-        length-append (heading Full (looseNorth t) (looseSouth t)) (render Faces ns),
-      ) in
-      rescue-refusal
-      ∙ passes _ z
-      ∙ rooms (ltb (length out) (length (properOf t))) (ltb (length list) (length (flat (changesOf t)))) (le-ltb (length out) (length (properOf t)) f)
-      (le-ltb (length list) (length (flat (changesOf t))) g)
+  rescue-room z a b = rescue-refusal ∙ room-enough t (length out) (length list) z a b
 
   -- ---- where nothing is refused
 
