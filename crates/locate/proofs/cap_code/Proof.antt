@@ -57,7 +57,9 @@ returns c =
     let t = sym (f .is-firm .ensures) ∙ d .before .if1 .taken in
     let u = sym (c .before .before .is-firm2 .ensures) ∙ c .before .if2 .taken in
     let e = floor-place k (a .height) (r .whole-root .result) q (s .pre .1 .1 .0) (s .pre .1 .1 .1 .0) small (r .whole-root .ensures .0) (r .whole-root .ensures .1) (f .before .part .ensures .0) t in
-    let g = floor-place k (a .height) (r .whole-root .result) p (s .pre .1 .1 .0) (s .pre .1 .1 .1 .0) (s .pre .1 .1 .1 .1 .0) (r .whole-root .ensures .0) (r .whole-root .ensures .1) (d .part2 .ensures .0) u in
+    let g =
+    floor-place k (a .height) (r .whole-root .result) p (s .pre .1 .1 .0) (s .pre .1 .1 .1 .0) (s .pre .1 .1 .1 .1 .0) (r .whole-root .ensures .0) (r .whole-root .ensures .1)
+    (d .part2 .ensures .0) u in
     c .part-code .ensures
     ∙ cap-parts (a .arrangement) (a .face) k (a .height) (axisOf (a .end .p), axisOf (a .end .q)) (f .before .part .result) (d .part2 .result)
     (e ∙ ap (λ (x : ℤ). rootFloor (3 ^ k) (a .height) x) (n .negated .ensures .0)) g
@@ -72,8 +74,10 @@ code-of-requires : tie.Need-code-of-requires
 code-of-requires c κs =
     let s = c .before .before .before .before .before .before .before in
     let a = s .args in
-    let w : Spanned quarter (axisOf (a .end .p), axisOf (a .end .q)) = record { first = rw (axis-size (a .end .p)) (s .pre .1 .1 .1 .1 .0); second = rw (axis-size (a .end .q)) (s .pre .1 .1 .1 .1 .1) } in
-    (s .pre .0, subst IsCell (sym (c .cap .ensures)) (cap-is-cell (a .face) (a .resolution) (a .height) (axisOf (a .end .p), axisOf (a .end .q)) (s .pre .1 .0) (s .pre .1 .1 .0) (s .pre .1 .1 .1 .0) w))
+    let w : Spanned quarter (axisOf (a .end .p), axisOf (a .end .q)) =
+    record { first = rw (axis-size (a .end .p)) (s .pre .1 .1 .1 .1 .0); second = rw (axis-size (a .end .q)) (s .pre .1 .1 .1 .1 .1) } in
+    let v = cap-is-cell (a .face) (a .resolution) (a .height) (axisOf (a .end .p), axisOf (a .end .q)) (s .pre .1 .0) (s .pre .1 .1 .0) (s .pre .1 .1 .1 .0) w in
+    (s .pre .0, subst IsCell (sym (c .cap .ensures)) v)
 
 returns-2 : tie.Need-returns-2
 returns-2 c = c .code-of .ensures ∙ ap (codeOf (c .before .before .before .before .before .before .before .before .args .arrangement)) (c .before .cap .ensures)

@@ -2,7 +2,8 @@
 use mathlib.Core.Path.{_≡_, sym, ap, _∙_}
 use mathlib.Core.Bool.{Bool, true}
 use Prim.Native.Nat.{ℕ, _+_, _-_, _*_, _/_, _%_, _^_, _≤_, _<_}
-use native.Mathlib.Nat.{le-refl, mul-add, mul-one, mul-assoc, mul-comm, mul-right-comm, mul-le-mul-left, mul-le-mul-right, mul-lt-mul-of-pos-left, mul-lt-mul-of-pos-right, le-of-mul-le-mul-right, lt-of-mul-lt-mul-right, mul-div-mul-right}
+use native.Mathlib.Nat.{le-refl, mul-add, mul-one, mul-assoc, mul-comm, mul-right-comm, mul-le-mul-left, mul-le-mul-right, mul-div-mul-right}
+use native.Mathlib.Nat.{mul-lt-mul-of-pos-left, mul-lt-mul-of-pos-right, le-of-mul-le-mul-right, lt-of-mul-lt-mul-right}
 use native.Mathlib.Omega.{arith}
 use lib.Dec.{lit<, lit≤}
 use lib.IntN.{ℤ, natAbs}
@@ -129,5 +130,7 @@ module _ (radicand root : ℕ) (p : Axis) (height : radicand < 10 ^ 18) (size : 
       let e : 14348907 * (x + p .size) ≡ 14348907 * x + 14348907 * p .size = mul-add 14348907 x (p .size) in
       roomy given w (14348907 * x - w * 1800000000000000000) (omega arith) (omega arith)
 
-  pub part-floor : (k : ℕ) → k ≤ 15 → firm (partOf (p .minus) (p .size) root) 7902744606 ≡ true → partOf (p .minus) (p .size) root * 3 ^ 15 / 2 ^ 56 * 3 ^ k / 3 ^ 15 ≡ rootFloor (3 ^ k) radicand (axisOf p)
+  pub part-floor :
+      (k : ℕ) → k ≤ 15 → firm (partOf (p .minus) (p .size) root) 7902744606 ≡ true →
+      partOf (p .minus) (p .size) root * 3 ^ 15 / 2 ^ 56 * 3 ^ k / 3 ^ 15 ≡ rootFloor (3 ^ k) radicand (axisOf p)
   part-floor k h t = ap (λ (w : ℕ). w * 3 ^ k / 3 ^ 15) (part-finest t) ∙ floor-coarser k radicand (axisOf p) h (size-fits given) height
