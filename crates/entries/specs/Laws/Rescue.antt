@@ -38,7 +38,7 @@ use Rattle.proper.specs.Laws.Given.{at}
 use Rattle.proper.specs.Laws.Told.{NamedEarlier, InLarger, FirstFor, Beside, told-1, told-2, told-4}
 use Rattle.proper.specs.Laws.Text.{short-enough}
 use Rattle.proper.specs.Laws.Order.{InOrder, changes-order}
-use Rattle.proper.specs.Laws.Proper.{rescued-reads, rescued-ground, rescued-fewest, rescued-short}
+use Rattle.proper.specs.Laws.Proper.{rescued-reads, rescued-ground, rescued-fewest, rescued-short, proper-heading}
 use Rattle.proper.specs.Laws.Unchanged.{exactly, unchanged}
 use Rattle.rescue.specs.Rescue.{flat, changesOf, rescueRefusal, told}
 use Rattle.rescue.specs.Laws.Flat.{flat-length, flat-at}
@@ -234,6 +234,10 @@ module _ (t out list : List ℕ) where
     reads : ReadsAs Full (looseNorth t) (looseSouth t) (properOf t) (answer nodes)
     unfolding properOf
     reads = rescued-reads nodes (own .loose) (looseNorth t) (looseSouth t) (own .north) (own .south)
+
+    -- the heading is the given one: n and s stay
+    pub rescue-heading : take 7 (take (rescueAnswer .length) textMemory) ≡ take 7 t
+    rescue-heading = ap (take 7) text-rescued ∙ proper-heading t own
 
     -- "The proper text is never longer than the given one": a room as long is enough
     pub rescue-short : rescueAnswer .length ≤ length t
