@@ -1,3 +1,4 @@
+pub mod Changes
 pub mod History
 pub mod Names
 pub mod Part

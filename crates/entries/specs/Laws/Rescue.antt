@@ -37,8 +37,8 @@ use Rattle.proper.specs.Laws.Few.{changes-few}
 use Rattle.proper.specs.Laws.Given.{at}
 use Rattle.proper.specs.Laws.Told.{NamedEarlier, InLarger, FirstFor, Beside, told-1, told-2, told-4}
 use Rattle.proper.specs.Laws.Text.{short-enough}
-use Rattle.proper.specs.Laws.Order.{InOrder, changes-order}
-use Rattle.proper.specs.Laws.Proper.{rescued-reads, rescued-ground, rescued-fewest, rescued-short}
+use Rattle.proper.specs.Laws.Order.{InOrder, changes-order, kinds-are}
+use Rattle.proper.specs.Laws.Proper.{rescued-reads, rescued-ground, rescued-fewest, rescued-short, proper-heading}
 use Rattle.proper.specs.Laws.Unchanged.{exactly, unchanged}
 use Rattle.rescue.specs.Rescue.{flat, changesOf, rescueRefusal, told}
 use Rattle.rescue.specs.Laws.Flat.{flat-length, flat-at}
@@ -215,6 +215,10 @@ module _ (t out list : List ℕ) where
     unfolding properOf
     reads = rescued-reads nodes (own .loose) (looseNorth t) (looseSouth t) (own .north) (own .south)
 
+    -- the heading is the given one: n and s stay
+    pub rescue-heading : take 7 (take (rescueAnswer .length) textMemory) ≡ take 7 t
+    rescue-heading = ap (take 7) text-rescued ∙ proper-heading t own
+
     -- "The proper text is never longer than the given one": a room as long is enough
     pub rescue-short : rescueAnswer .length ≤ length t
     unfolding properOf
@@ -270,6 +274,11 @@ module _ (t out list : List ℕ) where
         (x : Item) × Mem x letters × (x .name ≡ q) × Mem (at (x .place) 4) (changesOf t)
     unfolding changesOf
     rescue-each-4 = each-4 nodes (own .loose)
+
+    -- there is no other kind
+    pub rescue-kinds : (x : Change) → Mem x (changesOf t) → (1 ≤ x .kind) × (x .kind ≤ 4)
+    unfolding changesOf
+    rescue-kinds = kinds-are nodes
 
     no-length : (l : List Change) → length l ≡ 0 → l ≡ []
     no-length [] h = refl

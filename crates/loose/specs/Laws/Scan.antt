@@ -110,12 +110,12 @@ abbrev plug : Around → Nodes → Nodes
 plug top ns = ns
 plug (into ms c o) ns = plug o (join ms (listed c ns end))
 
-loose-join : (l : Level) (d : ℕ) (a b : Nodes) → Loose l d a → Loose l d b → Loose l d (join a b)
+pub loose-join : (l : Level) (d : ℕ) (a b : Nodes) → Loose l d a → Loose l d b → Loose l d (join a b)
 loose-join l d end b g h = h
 loose-join l d (whole c a) b g h = (g .0, loose-join l d a b (g .1) h)
 loose-join l d (listed c is a) b g h = (g .0, g .1, g .2, loose-join l d a b (g .3) h)
 
-loose-split : (l : Level) (d : ℕ) (a b : Nodes) → Loose l d (join a b) → Loose l d a × Loose l d b
+pub loose-split : (l : Level) (d : ℕ) (a b : Nodes) → Loose l d (join a b) → Loose l d a × Loose l d b
 loose-split l d end b g = (tt, g)
 loose-split l d (whole c a) b g = let k = loose-split l d a b (g .1) in ((g .0, k .0), k .1)
 loose-split l d (listed c is a) b g = let k = loose-split l d a b (g .3) in ((g .0, g .1, g .2, k .0), k .1)

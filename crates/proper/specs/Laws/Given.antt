@@ -66,6 +66,14 @@ pub nine-changes : (answer nine-text ≡ whole 1 (listed 2 (whole 0 end) end)) �
 unfolding built answer changes same larger any has tails anyEnds nodeOf side
 nine-changes = (refl, refl)
 
+-- `O()O(012345678)`: the first letter that stands for `O` has an empty list
+abbrev pub void-text : Nodes
+void-text = listed 1 end (listed 1 nine-digits end)
+
+pub void-changes : (answer void-text ≡ whole 1 end) × (changes void-text ≡ at 7 4 ∷ at 8 3 ∷ at 10 2 ∷ [])
+unfolding built answer changes same larger any has tails anyEnds nodeOf side
+void-changes = (refl, refl)
+
 -- `O(0(012345678)12345678)`: `O` is whole in the answer, and the `0` inside it is not
 abbrev pub inner-text : Nodes
 inner-text = listed 1 (listed 0 nine-digits (whole 1 (whole 2 (whole 3 (whole 4 (whole 5 (whole 6 (whole 7 (whole 8 end))))))))) end

@@ -194,3 +194,40 @@ module _ (cells : List Name) (all : List Item) where
 pub changes-order : (ns : Nodes) → InOrder (changes ns)
 unfolding changes
 changes-order ns = from-order (names (answer ns)) (items 7 [] 0 ns) (items 7 [] 0 ns) [] (items-spaced ns 7 [] 0)
+
+-- ---- there are four kinds
+
+abbrev IsKind : Change → Type 0
+IsKind x = (1 ≤ x .kind) × (x .kind ≤ 4)
+
+when-kind : (t : Bool) (p k : ℕ) (x : Change) → 1 ≤ k → k ≤ 4 → Mem x (when t (record { place = p; kind = k })) → IsKind x
+when-kind t p k x a b m = let h : k ≡ x .kind = ap (λ (y : Change). y .kind) (when-mem t _ x m .1) in (omega arith, omega arith)
+
+four-kinds :
+    (a b c d : Bool) (p q : ℕ) (x : Change) →
+    Mem x
+    (when a (record { place = p; kind = 1 }) ++
+    (when b (record { place = p; kind = 2 }) ++ (when c (record { place = p; kind = 4 }) ++ when d (record { place = q; kind = 3 })))) →
+    IsKind x
+four-kinds a b c d p q x m =
+    ⊎-elim (λ h. when-kind a p 1 x (omega arith) (omega arith) h)
+    (λ i.
+    ⊎-elim (λ h. when-kind b p 2 x (omega arith) (omega arith) h)
+    (λ j.
+    ⊎-elim (λ h. when-kind c p 4 x (omega arith) (omega arith) h) (λ h. when-kind d q 3 x (omega arith) (omega arith) h)
+    (mem-or x (when c (record { place = p; kind = 4 })) (when d (record { place = q; kind = 3 })) j))
+    (mem-or x (when b (record { place = p; kind = 2 })) (when c (record { place = p; kind = 4 }) ++ when d (record { place = q; kind = 3 })) i))
+    (mem-or x (when a (record { place = p; kind = 1 }))
+    (when b (record { place = p; kind = 2 }) ++ (when c (record { place = p; kind = 4 }) ++ when d (record { place = q; kind = 3 }))) m)
+
+from-kinds : (cells : List Name) (all es earlier : List Item) (x : Change) → Mem x (changesFrom cells all earlier es) → IsKind x
+unfolding changesFrom
+from-kinds cells all [] earlier x m = absurd m
+from-kinds cells all (e ∷ es) earlier x m =
+    ⊎-elim (λ h. four-kinds (kind-1 all earlier e) (kind-2 e) (kind-4 cells all earlier e) (kind-3 e) (e .place) (e .place + 1) x h)
+    (λ h. from-kinds cells all es (e ∷ earlier) x h)
+    (mem-or x (changesAt cells all earlier e) (changesFrom cells all (e ∷ earlier) es) m)
+
+pub kinds-are : (ns : Nodes) (x : Change) → Mem x (changes ns) → (1 ≤ x .kind) × (x .kind ≤ 4)
+unfolding changes
+kinds-are ns x m = from-kinds (names (answer ns)) (items 7 [] 0 ns) (items 7 [] 0 ns) [] x m

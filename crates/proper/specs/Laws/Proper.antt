@@ -3,7 +3,7 @@ use mathlib.Core.Path.{_≡_, refl, sym, ap, _∙_}
 use mathlib.Core.List.{List, _++_, map}
 use Prim.Native.Nat.{ℕ, _≤_}
 use native.Mathlib.Omega.{arith}
-use lib.ListN.{length, length-append}
+use lib.ListN.{length, take, length-append}
 use Rattle.cell.specs.declared.Cell.{Cell}
 use Rattle.reading.specs.declared.Level.the-variants.{Faces}
 use Rattle.reading.specs.declared.Profile.the-variants.{Full}
@@ -17,8 +17,9 @@ use Rattle.reading.specs.Laws.Built.{built-good}
 use Rattle.reading.specs.Laws.Written.{written-ground}
 use Rattle.reading.specs.Laws.FewestOf.{written-fewest}
 use Rattle.loose.specs.LooseText.{LooseAs}
+use Rattle.loose.specs.Look.{IsLoose}
 use Rattle.loose.specs.Laws.Names.{names-loose, loose-cells, loose-names}
-use Rattle.proper.specs.Proper.{answer, rescued}
+use Rattle.proper.specs.Proper.{answer, rescued, properOf}
 use Rattle.proper.specs.Internal.Length.{no-longer}
 
 module _ (ns : Nodes) (g : Loose Faces 15 ns) where
@@ -55,3 +56,8 @@ rescued-short {n} {s} {t} {ns} r =
       length-append (heading Full n s) (render Faces ns),
       length-append (heading Full n s) (render Faces (answer ns)),
     )
+
+-- the heading is the given one: n and s stay
+pub proper-heading : (t : List ℕ) → IsLoose t → take 7 (properOf t) ≡ take 7 t
+unfolding properOf rescued
+proper-heading t r = sym (ap (take 7) (r .all))
