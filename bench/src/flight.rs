@@ -1,4 +1,5 @@
-//! `record` on a flight of 100,000 fixes, as whole processes: the proved program beside bench/src/bin/record.rs.
+//! `record` on a flight of 100,000 fixes, as whole processes: the proved program beside bench/src/bin/record.rs, and, where the text holds the whole
+//! flight, beside bench/src/bin/record_set.rs.
 
 use crate::inputs::{flight, Random};
 use crate::measure::{compare, Plan, Row, Side, Work};
@@ -28,16 +29,24 @@ fn record(plan: Plan, random: &mut Random, resolution: u64) -> Vec<Row> {
     std::fs::write(&input, flight(random, count)).expect("the flight's file");
     let length = same_text(proved.as_ref(), &plain, &input, resolution);
     eprintln!("bench: record: {count} fixes at resolution {resolution}, {length} bytes of text");
-    let side = |name, program: &Path| {
+    let side = |name, program: &Path, goal| {
         let (program, input) = (program.to_path_buf(), input.clone());
         Side {
             name,
             same: true,
-            goal: Some(1.2),
+            goal: Some(goal),
             pass: Box::new(move |_| text(&program, &input, resolution).len() as u64),
         }
     };
-    let sides = vec![side("library", proved.as_ref()), side("plain Rust", &plain)];
+    let mut sides = vec![
+        side("library", proved.as_ref(), 1.2),
+        side("plain Rust", &plain, 1.2),
+    ];
+    if resolution == 9 {
+        let set = plain.with_file_name("record_set");
+        same_text(proved.as_ref(), &set, &input, resolution);
+        sides.push(side("plain Rust, BTreeSet", &set, 1.5));
+    }
     let name = format!("record at resolution {resolution}, a fix");
     let plan = Plan {
         rounds: plan.rounds.min(3),

@@ -7,7 +7,7 @@ mod plain;
 
 use plain::adding::add_to;
 use plain::coverage::LONGEST;
-use plain::fixes::fix_code;
+use plain::lines::code;
 use plain::writing::{write, FULL};
 use std::io::{BufRead, Write};
 
@@ -40,19 +40,4 @@ fn main() {
     std::io::stdout()
         .write_all(&text[..length])
         .expect("standard output");
-}
-
-/// The code of the cell of a line's fix, or the refusal.
-fn code(n: u64, s: u64, resolution: u64, line: &[u8]) -> Result<u64, u64> {
-    let (longitude, z) = fix(line).ok_or(6_u64)?;
-    match fix_code(n, s, resolution, longitude, z) {
-        jeguarivo::Code { refusal: 0, code } => Ok(code),
-        refused => Err(refused.refusal),
-    }
-}
-
-/// Two whole numbers in decimal with one space between.
-fn fix(line: &[u8]) -> Option<(i64, i64)> {
-    let (longitude, z) = std::str::from_utf8(line).ok()?.split_once(' ')?;
-    Some((longitude.parse().ok()?, z.parse().ok()?))
 }

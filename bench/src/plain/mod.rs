@@ -7,6 +7,7 @@ pub mod codes;
 pub mod comparing;
 pub mod coverage;
 pub mod fixes;
+pub mod lines;
 pub mod neighbour;
 pub mod plotter;
 pub mod rescue;

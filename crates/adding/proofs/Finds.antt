@@ -1,6 +1,6 @@
 -- The edit of nodes, by what stands at the cell's place. Assumes nothing.
 use mathlib.Core.Path.{_≡_, refl, sym, ap, ap₂, _∙_, subst}
-use mathlib.Core.Logic.{⊎-elim}
+use mathlib.Core.Logic.{inl, ⊎-elim}
 use mathlib.Core.Bool.{Bool, true, false, cond}
 use mathlib.Core.List.{List, [], _∷_, _++_}
 use Prim.Native.Nat.{ℕ, zero, suc, _+_, _-_, _≤_, _<_}
@@ -25,12 +25,14 @@ use Rattle.adding.specs.declared.Skipped.{Skipped}
 use Rattle.adding.specs.Internal.Grow.{by, grow}
 use Rattle.adding.specs.Internal.Edit.{nameBytes, run, toWhole, toPut, over, size, editOf}
 use Rattle.adding.specs.Internal.EditLaws.{Says, says}
+use Rattle.adding.specs.Near.{Leads}
 use Rattle.adding.specs.Internal.Find.{runIn, wholeAs, putAs, overAs, EndsIn, Stands, EditIs, Lands, From, SkipIs}
+use Rattle.adding.proofs.Skips.{On}
 use Rattle.adding.proofs.Bytes.{inside, byte, stop-byte, whole-here, list-here, listed-here, node-size, list-in, list-past, size-fits, run-nodes}
 
 -- ---- the choice at x, and behind it
 
-at-x {ℓ} : {A : Type ℓ} (x : ℕ) (u v w : A) → by x x u v w ≡ v
+pub at-x {ℓ} : {A : Type ℓ} (x : ℕ) (u v w : A) → by x x u v w ≡ v
 at-x x u v w = ap₂ (λ (a b : Bool). cond a u (cond b v w)) (le-ltb x x (omega arith)) (eq-eqb x x refl)
 
 behind-x {ℓ} : {A : Type ℓ} {c x : ℕ} (u v w : A) → x < c → by c x u v w ≡ w
@@ -126,17 +128,18 @@ pub record Holds {t name : List ℕ} {at k : ℕ} (v : Stands t name at k) (i w 
   pub left : drop i t ≡ render (v .level) (listed (v .number) list nodes) ++ v .rest
   pub good : Good (v .level) (v .depth) lo (listed (v .number) list nodes)
   pub same : editOf at k 0 (v .number) (v .digits) (v .nodes) ≡ editOf i k w (v .number) (v .digits) (listed (v .number) list nodes)
+  pub on : (p : Name) (to : ℕ) (is : Nodes) → Leads (i + 2) p list to is → Leads at (v .number ∷ p) (v .nodes) to is
 
 pub holds :
     {t name : List ℕ} {at k i w : ℕ} (v : Stands t name at k) (d : Lands v i w) → getD t i 0 ≡ getD name k 0 → wholeAt (drop i t) ≡ false → Holds v i w
-holds {t} {name} {at} {k} {i} {w} v d h f = go (d .nodes) (d .left) (d .good) (d .same)
+holds {t} {name} {at} {k} {i} {w} v d h f = go (d .nodes) (d .left) (d .good) (d .same) (λ p to is h. d .on p to is h)
   where
     go :
         (ns : Nodes) → drop i t ≡ render (v .level) ns ++ v .rest → Good (v .level) (v .depth) (d .lo) ns →
-        editOf at k 0 (v .number) (v .digits) (v .nodes) ≡ editOf i k w (v .number) (v .digits) ns → Holds v i w
-    go end l g m = absurd (shut v d h (stop-byte t i (v .rest) (v .stop) l (here v d h)))
-    go (whole c ns) l g m = clash (sym (whole-here t i (v .level) c (g .1) ns (v .rest) (v .stop) l) ∙ f)
-    go (listed c is ns) l g m =
+        editOf at k 0 (v .number) (v .digits) (v .nodes) ≡ editOf i k w (v .number) (v .digits) ns → On v i ns → Holds v i w
+    go end l g m o = absurd (shut v d h (stop-byte t i (v .rest) (v .stop) l (here v d h)))
+    go (whole c ns) l g m o = clash (sym (whole-here t i (v .level) c (g .1) ns (v .rest) (v .stop) l) ∙ f)
+    go (listed c is ns) l g m o =
         let e : c ≡ v .number = omega (arith, byte t i l, h, name-byte v) in
         record {
           lo = d .lo;
@@ -145,6 +148,7 @@ holds {t} {name} {at} {k} {i} {w} v d h f = go (d .nodes) (d .left) (d .good) (d
           left = subst (λ (x : ℕ). drop i t ≡ render (v .level) (listed x is ns) ++ v .rest) e l;
           good = subst (λ (x : ℕ). Good (v .level) (v .depth) (d .lo) (listed x is ns)) e g;
           same = subst (λ (x : ℕ). editOf at k 0 (v .number) (v .digits) (v .nodes) ≡ editOf i k w (v .number) (v .digits) (listed x is ns)) e m;
+          on = λ p to js z. o p to js (inl (e, z));
         }
 
 -- ---- the edit of its list

@@ -28,9 +28,8 @@ use Rattle.adding.specs.Add.{textWith, keepsWith, sizeRefusal, withRefus
 use Rattle.adding.specs.Laws.Add.{with-text, with-heading}
 use Rattle.adding.specs.Internal.Become.{Becomes}
 use Rattle.adding.specs.Internal.Edit.{edited, EditFits}
-use Rattle.adding.specs.Internal.Find.{Stands, EditIs}
 use Rattle.adding.specs.Internal.Fit.{breaks}
-use Rattle.adding.specs.Internal.WithLaws.{cellDigits, cellBytes, textEdit, name-bytes, stands, found-edit, edited-with, edit-fits, keeps-edit}
+use Rattle.adding.specs.Internal.WithLaws.{cellDigits, cellBytes, textEdit, name-bytes, edited-with, edit-fits, keeps-edit}
 
 -- ---- the name
 
@@ -83,6 +82,28 @@ module _ (code : ℕ) (v : isCode code ≡ true) (before : List ℕ) (h : length
               ∙ ap (λ (x : List ℕ). getD x 0 0) t;
         }
 
+-- the same for any code that has a name: the first bytes are the name's
+pub name-front :
+    (code : ℕ) (before : List ℕ) → length before ≡ 16 → {r : Named} {after : List ℕ} {n : ℕ} → r ≡ named (codeNameRefusal code (length before)) (length (nameOf (cellOf code))) →
+    after ≡ given (codeNameRefusal code (length before)) (nameIn code before) before → r ≡ Letters n → (n ≤ 16) × (n ≤ length after) × (take n after ≡ nameOf (cellOf code))
+unfolding codeNameRefusal nameIn given named
+name-front code before h {r} {after} {n} e f q = go (codeNameRefusal code (length before)) refl e f
+  where
+    m : List ℕ
+    m = nameOf (cellOf code)
+
+    go :
+        (z : ℕ) → codeNameRefusal code (length before) ≡ z → r ≡ named z (length m) → after ≡ given z (nameIn code before) before →
+        (n ≤ 16) × (n ≤ length after) × (take n after ≡ m)
+    go zero k a b =
+        let l : n ≡ length m = cc in
+        let s : length m ≤ length before = ltb-false (length before) (length m) (allowed 7 _ (both _ _ k .1)) in (
+          omega arith,
+          omega (arith, ap length b, length-append m (drop (length m) before)),
+          ap₂ take l b ∙ take-at m (drop (length m) before) (length m) refl,
+        )
+    go (suc z) k a b = let y : _≡_ {A = ℕ} 0 1 = cc in absurd (omega arith)
+
 -- ---- it is held again
 
 size-fits : (n room : ℕ) → sizeRefusal n room ≡ 0 → (n ≤ 65536) × (n ≤ room)
@@ -115,30 +136,23 @@ module _ {p : Profile} {bytes : List ℕ} {end : ℕ} (h : Holding p bytes end) 
   abbrev c : Cell
   c = cellOf code
 
-  start : bodyStart t ≡ headingLength p
+  pub start : bodyStart t ≡ headingLength p
   start = ap headingLength (h .profiled)
 
-  pub add-stands : {body : ℕ} → body ≡ headingLength p → Stands t name body 0
-  add-stands {body} b = subst (λ (x : ℕ). Stands t name x 0) (start ∙ sym b) (stands t (h .text) c (code-is-cell code v) name n)
-
-  module _ {body : ℕ} (b : body ≡ headingLength p) {e : Edit} (i : EditIs t name body 0 e) where
-    is-edit : e ≡ textEdit t (h .text) c (code-is-cell code v)
-    is-edit =
-        found-edit t (h .text) c (code-is-cell code v) name n (subst (λ (x : ℕ). EditIs t name x 0 e) (b ∙ sym start) i)
-
+  module _ {e : Edit} (i : e ≡ textEdit t (h .text) c (code-is-cell code v)) where
     pub add-fits : EditFits end (length name) e
     add-fits =
         let f = edit-fits t (h .text) c (code-is-cell code v) in
         subst (λ (x : ℕ). EditFits x (length name) e) (length-take-le end bytes (h .fits))
         (subst (λ (x : List ℕ). EditFits (length t) (length x) e) (sym n)
-        (subst (λ (x : Edit). EditFits (length t) (length (cellBytes c)) x) (sym is-edit) f))
+        (subst (λ (x : Edit). EditFits (length t) (length (cellBytes c)) x) (sym i) f))
 
     -- whether it breaks the profile
     keeps-is : {face digits : ℕ} {r : Bool} → face ≡ c .face → digits ≡ c .resolution → r ≡ breaks p face digits e → keepsWith t c ≡ not r
     keeps-is {face} {digits} {r} f d q =
         keeps-edit t (h .text) c (code-is-cell code v)
         ∙ ap not
-        (sym (q ∙ ap₂ (λ (w : ℕ) (z : ℕ). breaks p w z e) f d ∙ ap₂ (λ (w : Profile) (z : Edit). breaks w (c .face) (c .resolution) z) (sym (h .profiled)) is-edit))
+        (sym (q ∙ ap₂ (λ (w : ℕ) (z : ℕ). breaks p w z e) f d ∙ ap₂ (λ (w : Profile) (z : Edit). breaks w (c .face) (c .resolution) z) (sym (h .profiled)) i))
 
     module _ {face digits : ℕ} {r : Bool} (f : face ≡ c .face) (d : digits ≡ c .resolution) (q : r ≡ breaks p face digits e) where
       pub add-breaks : {a : Added} → r ≡ true → a ≡ Refused 15 0 → Gains t c bytes bytes a × Holding p bytes (lengthAfter a end)
@@ -160,7 +174,7 @@ module _ {p : Profile} {bytes : List ℕ} {end : ℕ} (h : Holding p bytes end) 
           let k : keepsWith t c ≡ true = keeps-is f d q ∙ ap not y in
           let w : withRefusal t c (length bytes) ≡ sizeRefusal (length (textWith t c)) (length bytes) = passes _ (ap (λ (u : Bool). refuse (not u) 15) k) in
           let u : edited name t e ≡ textWith t c =
-          ap₂ (λ (x : List ℕ) (y : Edit). edited x t y) n is-edit ∙ edited-with t (h .text) c (code-is-cell code v) in
+          ap₂ (λ (x : List ℕ) (y : Edit). edited x t y) n i ∙ edited-with t (h .text) c (code-is-cell code v) in
           let b : Becomes (textWith t c) bytes after a = subst (λ (x : List ℕ). Becomes x bytes after a) u g in (
             record {
               answer = b .answer ∙ sym (ap (λ (u : ℕ). resized u (length (textWith t c))) w);

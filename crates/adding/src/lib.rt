@@ -2,17 +2,20 @@
 ghost use mathlib.Core.Path.{_≡_};
 ghost use mathlib.Core.Bool.{true};
 ghost use mathlib.Core.List.{_++_};
-ghost use Prim.Native.Nat.{_+_, _-_, _≤_, _<_};
+ghost use Prim.Native.Nat.{ℕ, _+_, _-_, _≤_, _<_};
 ghost use lib.Dec.{eqb};
 ghost use lib.ListN.{length, take, drop, getD};
 ghost use lib.Seq.{sets, paste};
 ghost use Rattle.code.specs.Code.{isCode, cellOf};
+ghost use Rattle.name.specs.Name.{nameOf};
 ghost use Rattle.adding.specs.declared.Edit.the-variants.{Put as PutAt};
 ghost use Rattle.adding.specs.declared.Added.the-variants.{Refused as RefusedWith};
 ghost use Rattle.adding.specs.Add.{textWith, addRefusal, placed, added, lengthAfter, Holding, Gains};
 ghost use Rattle.adding.specs.Internal.Become.{Becomes};
 ghost use Rattle.adding.specs.Internal.Edit.{nested, edited, EditFits};
+ghost use Rattle.adding.specs.Near.{Near};
 ghost use Rattle.adding.specs.Internal.Find.{runIn, wholeAs, putAs, EndsIn, overAs, SkipIs, Stands, EditIs};
+ghost use Rattle.adding.specs.Internal.Find.{Way, ReachIs, StartIs, isFull, NearEdit};
 ghost use Rattle.adding.specs.Internal.Fit.{breaks as breaksIt};
 use cell::Arrangement;
 use name::Named;
@@ -239,19 +242,131 @@ fn breaks(profile: Profile, face: u8, digits: u64, edit: Edit) -> bool
     let level = reading::level_of(profile);
     let room = reading::room_below(level, face, reading::depth_of(profile));
     match edit {
-        Edit::Covered => false,
+        Edit::Covered => false, // nothing is put in
         Edit::Put(_, _) => room < digits,
         Edit::Cut(_, _) => room < digits,
         Edit::Full(_) => room < digits,
     }
 }
 
+// A list of the text, by where it begins and how many letters and digits of a name lead to it; 0 is the text's faces.
+pub struct Reached {
+    pub place: usize,
+    pub depth: usize,
+}
+
+// Whether the first `depth` letters and digits of a name are those of a code's name: never said where they are not.
+fn same_way(name: &[u8], depth: usize, code: u64) -> bool
+    requires { ⌜ depth ≤ length (now name) ⌝ }
+    ensures { λ r. ⌜ (r ≡ true → take depth (now (name .entry)) ≡ take depth (nameOf (cellOf code))) ⌝ }
+{
+    let mut last = [0u8; 16];
+    let Named::Length(letters) = name::code_name(code, &mut last) else {
+        return false;
+    };
+    if depth > letters as usize {
+        return false;
+    }
+    check::same(&name[..depth], &last[..depth])
+}
+
+// Where to begin: at the faces, or where the last name led to if this one leads there too.
+fn start_near(body: usize, name: &[u8], near: &[u64]) -> Reached
+    requires { ⌜ length (now near) ≡ 3 ⌝ }
+    ensures { λ r. ⌜ StartIs body (now (name .entry)) (now (near .entry)) r ⌝ }
+{
+    let depth = near[1] as usize;
+    if depth < name.len() {
+        if same_way(name, depth, near[2]) {
+            let place = near[0] as usize;
+            return Reached { place, depth };
+        }
+    }
+    Reached {
+        place: body,
+        depth: 0,
+    }
+}
+
+// Goes down the name's way from a list to the deepest one that is there, but stays above the lists of its last two digits: a flight's next cell most
+// often lies in that one too.
+fn reach(text: &[u8], from: usize, name: &[u8], first: usize) -> Reached
+    requires { ⌜ (length (now text) ≤ 65536) × (length (now name) ≤ 16) × (first < length (now name)) × ((body : ℕ) × Way (now text) (now name) body from first) ⌝ }
+    ensures { λ r. ⌜ ReachIs (now (text .entry)) (now (name .entry)) from first r ⌝ }
+{
+    let mut at = from;
+    let mut k = first;
+    while k + 2 < name.len() {
+        let byte = name[k];
+        let skipped = skip(text, at, byte);
+        let i = skipped.place;
+        if !stands_at(text, i, byte) {
+            return Reached {
+                place: at,
+                depth: k,
+            };
+        }
+        if walk::whole_at(text, i) {
+            return Reached {
+                place: at,
+                depth: k,
+            };
+        }
+        at = i + 2;
+        k += 1;
+    }
+    Reached {
+        place: at,
+        depth: k,
+    }
+}
+
+// Whether an edit makes all nine nodes of its list whole.
+fn is_full(edit: Edit) -> bool
+    ensures { λ r. ⌜ r ≡ isFull edit ⌝ }
+{
+    match edit {
+        Edit::Covered => false,
+        Edit::Put(_, _) => false,
+        Edit::Cut(_, _) => false,
+        Edit::Full(_) => true,
+    }
+}
+
+// What makes the text cover the cell, looked for in a list on its way; the list is kept in mind. Where all nine of the list are whole then, the lists
+// above it change too, and all is looked for from the faces on.
+fn edit_near(
+    text: &[u8],
+    body: usize,
+    name: &[u8],
+    list: Reached,
+    code: u64,
+    near: &mut [u64],
+) -> Edit
+    requires { ⌜ (length (now text) ≤ 65536) × (list .depth < length (now name)) × (length (now near) ≡ 3) × Way (now text) (now name) body (list .place) (list .depth) ⌝ }
+    ensures { λ r. ⌜ NearEdit (now (text .entry)) (now (name .entry)) body (list .place) (list .depth) code (now (near .exit)) r ⌝ }
+{
+    let place = list.place;
+    let depth = list.depth;
+    let edit = edit_at(text, place, name, depth);
+    near[2] = code;
+    if is_full(edit) {
+        near[0] = body as u64;
+        near[1] = 0;
+        return edit_at(text, body, name, 0);
+    }
+    near[0] = place as u64;
+    near[1] = depth as u64;
+    edit
+}
+
 // Adds the cell of a code to the text that the first `end` bytes are, which is accepted and is so again: 15 where it would break its profile, 13 or
-// 8 where it would be too long.
-pub fn add_to(profile: Profile, text: &mut [u8], end: usize, code: u64) -> Added
-    requires { ⌜ Holding profile (now text) end × (isCode code ≡ true) ⌝ }
+// 8 where it would be too long. It is looked for near the one that was looked for last.
+pub fn add_near(profile: Profile, text: &mut [u8], end: usize, code: u64, near: &mut [u64]) -> Added
+    requires { ⌜ Holding profile (now text) end × (isCode code ≡ true) × Near (take end (now text)) (now near) ⌝ }
     ensures { λ r. ⌜ Gains (take end (now (text .entry))) (cellOf code) (now (text .entry)) (now (text .exit)) r ⌝ }
     ensures { λ r. ⌜ Holding profile (now (text .exit)) (lengthAfter r end) ⌝ }
+    ensures { λ r. ⌜ Near (take (lengthAfter r end) (now (text .exit))) (now (near .exit)) ⌝ }
 {
     let mut name = [0u8; 16];
     let Named::Length(letters) = name::code_name(code, &mut name) else {
@@ -259,11 +374,24 @@ pub fn add_to(profile: Profile, text: &mut [u8], end: usize, code: u64) -> Added
     };
     let count = letters as usize;
     let body = reading::heading_length(profile);
-    let edit = edit_at(&text[..end], body, &name[..count], 0);
+    let from = start_near(body, &name[..count], near);
+    let list = reach(&text[..end], from.place, &name[..count], from.depth);
+    let edit = edit_near(&text[..end], body, &name[..count], list, code, near);
     if breaks(profile, name[0] - b'N', letters - 1, edit) {
         return refused(15);
     }
     change(text, end, &name[..count], edit)
+}
+
+// The same with nothing in mind: from the faces on.
+pub fn add_to(profile: Profile, text: &mut [u8], end: usize, code: u64) -> Added
+    requires { ⌜ Holding profile (now text) end × (isCode code ≡ true) ⌝ }
+    ensures { λ r. ⌜ Gains (take end (now (text .entry))) (cellOf code) (now (text .entry)) (now (text .exit)) r ⌝ }
+    ensures { λ r. ⌜ Holding profile (now (text .exit)) (lengthAfter r end) ⌝ }
+{
+    let mut near = [0u64; 3];
+    near[0] = reading::heading_length(profile) as u64;
+    add_near(profile, text, end, code, &mut near)
 }
 
 // Adds the cell of a code to the text that the first `end` of any bytes are said to be: 4; 13 and 8 for their number; 10, 9 and 14 as in asking; 15,

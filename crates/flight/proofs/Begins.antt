@@ -1,5 +1,5 @@
 -- The text of no cell. Assumes nothing.
-use mathlib.Core.Path.{_≡_, refl, sym, ap, ap₂, _∙_}
+use mathlib.Core.Path.{_≡_, refl, sym, ap, ap₂, _∙_, subst}
 use mathlib.Core.Bool.{Bool, true, false}
 use mathlib.Core.List.{List, [], _∷_, _++_}
 use Prim.Native.Nat.{ℕ, zero, suc, _≤_}
@@ -16,8 +16,8 @@ use Rattle.cell.specs.Cell.{IsArrangement, arrangementRefusal}
 use Rattle.cell.specs.Laws.Cell.{arrangement-is}
 use Rattle.code.specs.Code.{isCode, isCellCode}
 use Rattle.reading.specs.declared.Profile.the-variants.{Full}
-use Rattle.reading.specs.Text.{ReadsAs}
-use Rattle.reading.specs.TextReading.{isText, profileOf}
+use Rattle.reading.specs.Text.{ReadsAs, headingLength}
+use Rattle.reading.specs.TextReading.{isText, profileOf, bodyStart}
 use Rattle.reading.specs.Written.{built, side, nodesFor, writtenText, fitting, keeps}
 use Rattle.reading.specs.Laws.TextReading.{read-text, read-profile}
 use Rattle.reading.specs.Laws.Written.{written-reads}
@@ -25,6 +25,8 @@ use Rattle.writing.specs.declared.Written.{Written}
 use Rattle.writing.specs.declared.Written.the-variants as written-as
 use Rattle.writing.specs.Write.{allCodes, allOf, ordered, codesRefusal, isVersion, textOf, fitRefusal, writeRefusal, textIn, written}
 use Rattle.adding.specs.Add.{textWith, Holding}
+use Rattle.adding.specs.Near.{Near}
+use Rattle.adding.specs.Laws.Near.{near-faces}
 use Rattle.flight.specs.declared.Recording.{Recording}
 use Rattle.flight.specs.Recording.{Records}
 
@@ -88,3 +90,10 @@ module _ (a : Arrangement) (v : IsArrangement a) where
                 };
             last = λ z. clash (sym z ∙ no-code);
           }
+
+      pub begin-near : {near : List ℕ} → near ≡ n ∷ 0 ∷ 0 ∷ [] → Near (take n after) near
+      begin-near {near} q =
+          let p = put in
+          let i : n ≡ length none = cc in
+          let b : bodyStart (take n after) ≡ n = ap (λ (x : List ℕ). headingLength (profileOf x)) begin-text ∙ ap headingLength (read-profile reads) ∙ sym (i ∙ seven) in
+          subst (Near (take n after)) (sym (q ∙ ap (λ (x : ℕ). x ∷ 0 ∷ 0 ∷ []) (sym b))) (near-faces (take n after) 0)

@@ -9,6 +9,7 @@ ghost use Rattle.code.specs.Code.{isCode, foundCode};
 ghost use Rattle.code.specs.declared.Coded.the-variants.{Code as CodeIs};
 ghost use Rattle.reading.specs.declared.Profile.the-variants.{Full};
 ghost use Rattle.reading.specs.Written.{writtenText};
+ghost use Rattle.adding.specs.Near.{Near};
 ghost use Rattle.flight.specs.Setting.{latitudeRefusal, settingRefusal};
 ghost use Rattle.flight.specs.Flight.{lineRefusal, lineCell, noFix, lineCode};
 ghost use Rattle.flight.specs.Recording.{taken, takenText, Records, recordingAfter};
@@ -110,11 +111,12 @@ pub enum Taken {
     Refused(u64),
 }
 
-// The text of no cell, in front of the room.
-pub fn begin(arrangement: Arrangement, text: &mut [u8]) -> Recording
-    requires { ⌜ IsArrangement arrangement × (65536 ≤ length (now text)) ⌝ }
+// The text of no cell, in front of the room. The three numbers keep in mind where the last fix's cell was looked for (`adding::add_near`).
+pub fn begin(arrangement: Arrangement, text: &mut [u8], near: &mut [u64]) -> Recording
+    requires { ⌜ IsArrangement arrangement × (65536 ≤ length (now text)) × (length (now near) ≡ 3) ⌝ }
     ensures { λ r. ⌜ take (r .length) (now (text .exit)) ≡ writtenText Full (arrangement .north) (arrangement .south) [] ⌝ }
     ensures { λ r. ⌜ Records (now (text .exit)) r × (length (now (text .exit)) ≡ length (now (text .entry))) ⌝ }
+    ensures { λ r. ⌜ Near (take (r .length) (now (text .exit))) (now (near .exit)) ⌝ }
 {
     let none = [0u64; 1];
     let Written::Length(length) = writing::write(1, 15, arrangement, &none[..0], text) else {
@@ -123,6 +125,9 @@ pub fn begin(arrangement: Arrangement, text: &mut [u8]) -> Recording
             last: u64::MAX,
         };
     };
+    near[2] = 0;
+    near[0] = length; // there are no faces yet
+    near[1] = 0;
     Recording {
         length: length as usize,
         last: u64::MAX, // no fix yet
@@ -130,30 +135,38 @@ pub fn begin(arrangement: Arrangement, text: &mut [u8]) -> Recording
 }
 
 // Takes the cell of a code into the text: 13 where it would be too long, or 8 for its room. The cell of the last fix is in it already.
-fn take_code(text: &mut [u8], recording: Recording, code: u64) -> Taken
-    requires { ⌜ Records (now text) recording × (isCode code ≡ true) ⌝ }
+fn take_code(text: &mut [u8], recording: Recording, code: u64, near: &mut [u64]) -> Taken
+    requires { ⌜ Records (now text) recording × (isCode code ≡ true) × Near (take (recording .length) (now text)) (now near) ⌝ }
     ensures { λ r. ⌜ r ≡ taken (CodeIs code) (length (now (text .entry))) (take (recording .length) (now (text .entry))) ⌝ }
     ensures { λ r. ⌜ now (text .exit) ≡ takenText (CodeIs code) (now (text .entry)) (take (recording .length) (now (text .entry))) ⌝ }
     ensures { λ r. ⌜ Records (now (text .exit)) (recordingAfter r recording) ⌝ }
+    ensures { λ r. ⌜ Near (take (recordingAfter r recording .length) (now (text .exit))) (now (near .exit)) ⌝ }
 {
     if code == recording.last {
         return Taken::Fix(recording);
     }
-    match adding::add_to(Profile::Full, text, recording.length, code) {
+    match adding::add_near(Profile::Full, text, recording.length, code, near) {
         Added::Length(length) => Taken::Fix(Recording { length, last: code }),
         Added::Refused { refusal, place: _ } => Taken::Refused(refusal),
     }
 }
 
 // Takes the cell of a line's fix into the text: the refusals of `line_code`, and 13 where the text would be too long, or 8 for its room.
-pub fn take_line(setting: Setting, line: &[u8], text: &mut [u8], recording: Recording) -> Taken
-    requires { ⌜ Records (now text) recording ⌝ }
+pub fn take_line(
+    setting: Setting,
+    line: &[u8],
+    text: &mut [u8],
+    recording: Recording,
+    near: &mut [u64],
+) -> Taken
+    requires { ⌜ Records (now text) recording × Near (take (recording .length) (now text)) (now near) ⌝ }
     ensures { λ r. ⌜ r ≡ taken (lineCode setting (now (line .entry))) (length (now (text .entry))) (take (recording .length) (now (text .entry))) ⌝ }
     ensures { λ r. ⌜ now (text .exit) ≡ takenText (lineCode setting (now (line .entry))) (now (text .entry)) (take (recording .length) (now (text .entry))) ⌝ }
     ensures { λ r. ⌜ Records (now (text .exit)) (recordingAfter r recording) ⌝ }
+    ensures { λ r. ⌜ Near (take (recordingAfter r recording .length) (now (text .exit))) (now (near .exit)) ⌝ }
 {
     match line_code(setting, line) {
-        Coded::Code(code) => take_code(text, recording, code),
+        Coded::Code(code) => take_code(text, recording, code, near),
         Coded::Refused(refusal) => Taken::Refused(refusal),
     }
 }

@@ -7,6 +7,7 @@ ghost use mathlib.Core.Bool.{false};
 ghost use Prim.Native.Nat.{_+_, _≤_, _<_};
 ghost use lib.ListN.{length, take};
 ghost use Rattle.lines.specs.Fold.{OfBytes};
+ghost use Rattle.adding.specs.Near.{Near};
 ghost use Rattle.flight.specs.Setting.{settingRefusal};
 ghost use Rattle.flight.specs.Flight.{lineCode};
 ghost use Rattle.flight.specs.Recording.{taken, Records, withLine, started};
@@ -40,12 +41,13 @@ enum File {
 }
 
 // The flight before its first line.
-fn begin(setting: Setting, text: &mut [u8]) -> Flight
-    requires { ⌜ (settingRefusal setting ≡ 0) × (65536 ≤ length (now text)) ⌝ }
+fn begin(setting: Setting, text: &mut [u8], near: &mut [u64]) -> Flight
+    requires { ⌜ (settingRefusal setting ≡ 0) × (65536 ≤ length (now text)) × (length (now near) ≡ 3) ⌝ }
     ensures { λ r. ⌜ flownOf (now (text .exit)) r ≡ started setting ⌝ }
     ensures { λ r. ⌜ Records (now (text .exit)) (r .recording) × (length (now (text .exit)) ≡ length (now (text .entry))) × (r .changed ≡ false) ⌝ }
+    ensures { λ r. ⌜ Near (take (r .recording .length) (now (text .exit))) (now (near .exit)) ⌝ }
 {
-    let recording = flight::begin(setting.arrangement, text);
+    let recording = flight::begin(setting.arrangement, text, near);
     Flight {
         recording,
         fixes: 0,
@@ -129,15 +131,16 @@ fn record_line(
     number: u64,
     text: &mut [u8],
     flight: Flight,
+    near: &mut [u64],
     waits: &mut [u64],
 ) -> Flight
-    requires { ⌜ Records (now text) (flight .recording) × (number ≡ lineCount flight + 1) ⌝ }
+    requires { ⌜ Records (now text) (flight .recording) × (number ≡ lineCount flight + 1) × Near (take (flight .recording .length) (now text)) (now near) ⌝ }
     ensures { λ r. ⌜ flownOf (now (text .exit)) r ≡ withLine setting (length (now (text .entry))) (flownOf (now (text .entry)) flight) (now (line .entry)) ⌝ }
-    ensures { λ r. ⌜ Records (now (text .exit)) (r .recording) ⌝ }
+    ensures { λ r. ⌜ Records (now (text .exit)) (r .recording) × Near (take (r .recording .length) (now (text .exit))) (now (near .exit)) ⌝ }
     ensures { λ r. ⌜ Noted (now (text .entry)) flight (now (text .exit)) r ⌝ }
     ensures { λ _. ⌜ now (waits .exit) ≡ waitsAfter number (taken (lineCode setting (now (line .entry))) (length (now (text .entry))) (take (flight .recording .length) (now (text .entry)))) (now (waits .entry)) ⌝ }
 {
-    match flight::take_line(setting, line, text, flight.recording) {
+    match flight::take_line(setting, line, text, flight.recording, near) {
         Taken::Fix(recording) => with_fix(flight, recording),
         Taken::Refused(refusal) => {
             say_refused(number, refusal, waits);
@@ -189,9 +192,10 @@ fn record_all(
     room: &mut [u8],
     text: &mut [u8],
     first: Flight,
+    near: &mut [u64],
     waits: &mut [u64],
 ) -> Flight
-    requires { ⌜ (43 ≤ length (now room)) × Records (now text) (first .recording) × (flownOf (now text) first ≡ started setting) × (length (now path) ≤ 4096) ⌝ }
+    requires { ⌜ (43 ≤ length (now room)) × Records (now text) (first .recording) × (flownOf (now text) first ≡ started setting) × (length (now path) ≤ 4096) × Near (take (first .recording .length) (now text)) (now near) ⌝ }
     ensures { λ r. ⌜ OfBytes (withLine setting (length (now (text .entry)))) (started setting) (flownOf (now (text .exit)) r) ⌝ }
     ensures { λ r. ⌜ Records (now (text .exit)) (r .recording) ⌝ }
 {
@@ -207,13 +211,21 @@ fn record_all(
                 from: next,
                 end: stop,
             } => {
-                let with_line = record_line(setting, &room[..length], number, text, flight, waits);
+                let with_line = record_line(
+                    setting,
+                    &room[..length],
+                    number,
+                    text,
+                    flight,
+                    near,
+                    waits,
+                );
                 flight = checkpoint(path, text, number, with_line);
                 from = next;
                 end = stop;
             }
             LineRead::Last { length } => {
-                return record_line(setting, &room[..length], number, text, flight, waits);
+                return record_line(setting, &room[..length], number, text, flight, near, waits);
             }
             LineRead::End => return flight,
             LineRead::Failed => return flight,
@@ -327,7 +339,8 @@ fn record_flight(setting: Setting, path: &[u8], waits: &mut [u64])
     let mut bytes = [0u8; 4096];
     let mut room = [0u8; 64];
     let mut text = [0u8; 65536];
-    let first = begin(setting, &mut text);
+    let mut near = [0u64; 3];
+    let first = begin(setting, &mut text, &mut near);
     let flight = record_all(
         setting,
         path,
@@ -335,6 +348,7 @@ fn record_flight(setting: Setting, path: &[u8], waits: &mut [u64])
         &mut room,
         &mut text,
         first,
+        &mut near,
         waits,
     );
     keep_text(path, &text, flight);

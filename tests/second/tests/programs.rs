@@ -282,6 +282,48 @@ fn survey(random: &mut Random, setting: [u64; 3], count: u64) -> Vec<u8> {
     input
 }
 
+/// A flight that wanders over few cells, by at most one in a step: lists fill up, become whole and merge
+/// while the next cell lies in them, beside them or in the list above. Now and then it goes elsewhere.
+fn wander(random: &mut Random, setting: [u64; 3], count: u64) -> Vec<u8> {
+    let [n, s, resolution] = setting;
+    let rows = 3_i64.pow(resolution as u32);
+    let (wide, high) = (900_000_000 / rows, 1_333_333_333_333_333_333 / rows);
+    let mut middle = random.fix(Kind::Random, n, s, resolution);
+    let (mut east, mut up) = (0, 0);
+    let far = random.pick(&[2, 4, 9]);
+    let mut input = Vec::new();
+    for _ in 0..count {
+        let longitude = (middle.0 + east).clamp(-1_800_000_000, 1_800_000_000);
+        let z = (middle.1 + up).clamp(-1_000_000_000_000_000_000, 1_000_000_000_000_000_000);
+        input.extend(format!("{longitude} {z}\n").into_bytes());
+        let mut step = |size: i64| random.below(2 * size as u64 + 1) as i64 - size;
+        east = (east + step(wide)).clamp(-far * wide, far * wide);
+        up = (up + step(high)).clamp(-far * high, far * high);
+        if random.chance(60) {
+            middle = random.fix(Kind::Random, n, s, resolution);
+        }
+    }
+    input
+}
+
+/// What is kept in mind of the last cell changes nothing: flights from cell to cell.
+#[test]
+fn record_near() {
+    let mut random = Random::for_test("record near");
+    let mut runs = Vec::new();
+    for nth in 0..150 {
+        let setting = [nth % 4, nth / 4 % 4, 1 + nth % 15];
+        let input = wander(&mut random, setting, 1500);
+        runs.push(Run {
+            setting,
+            eccentricity: None,
+            input,
+        });
+    }
+    let [all, ..] = record_all("record, from cell to cell", runs);
+    assert!(all > 200_000);
+}
+
 /// Flights that fill their text: after that a fix is refused with 13 where its cell doesn't fit, and
 /// taken where it lies in ground that is there, or still fits.
 #[test]

@@ -1,20 +1,25 @@
 -- How the edit is found in the bytes of a text: what the code's parts hand back. Assumes nothing.
 use mathlib.Core.Path.{_≡_}
-use mathlib.Core.Bool.{cond}
+use mathlib.Core.Logic.{_⊎_}
+use mathlib.Core.Bool.{Bool, true, false, cond}
 use mathlib.Core.List.{List, [], _∷_, _++_}
 use Prim.Native.Nat.{ℕ, suc, _+_, _≤_, _<_}
 use lib.Dec.{eqb, ltb}
-use lib.ListN.{length, drop}
+use lib.ListN.{length, take, drop, getD}
 use Rattle.ternary.specs.Digits.{Below}
 use Rattle.reading.specs.declared.Level.{Level}
 use Rattle.reading.specs.Reading.{Nodes, end, whole, listed, first, many, wholes, render, Good}
 use Rattle.reading.specs.Laws.Parse.{Stop}
 use Rattle.reading.specs.Prefix.{Name}
+use Rattle.code.specs.Code.{cellOf}
+use Rattle.name.specs.Name.{nameOf}
 use Rattle.walk.specs.Walk.{wholeAt}
 use Rattle.adding.specs.declared.Edit.{Edit}
 use Rattle.adding.specs.declared.Edit.the-variants.{Covered, Put, Cut, Full}
 use Rattle.adding.specs.declared.Skipped.{Skipped}
+use Rattle.adding.specs.declared.Reached.{Reached}
 use Rattle.adding.specs.Internal.Edit.{nameBytes, editOf}
+use Rattle.adding.specs.Near.{Leads}
 
 -- the letters or digits of whole nodes that stand first
 unfoldable pub runIn : List ℕ → ℕ
@@ -65,7 +70,7 @@ pub record Stands (t name : List ℕ) (at k : ℕ) : Type 0 where
 pub record EditIs (t name : List ℕ) (at k : ℕ) (r : Edit) : Type 0 where
   pub is : (v : Stands t name at k) → r ≡ editOf at k 0 (v .number) (v .digits) (v .nodes)
 
--- the nodes from i on are the last of them, w whole ones stand before these, and the edit is that of these
+-- the nodes from i on are the last of them, w whole ones stand before these, the edit is that of these, and they lead where all of them lead
 pub record Lands {t name : List ℕ} {at k : ℕ} (v : Stands t name at k) (i w : ℕ) : Type 0 where
   pub lo : ℕ
   pub nodes : Nodes
@@ -74,6 +79,7 @@ pub record Lands {t name : List ℕ} {at k : ℕ} (v : Stands t name at k) (i w 
   pub good : Good (v .level) (v .depth) lo nodes
   pub low : lo ≤ v .number
   pub same : editOf at k 0 (v .number) (v .digits) (v .nodes) ≡ editOf i k w (v .number) (v .digits) nodes
+  pub on : (p : Name) (to : ℕ) (is : Nodes) → Leads i (v .number ∷ p) nodes to is → Leads at (v .number ∷ p) (v .nodes) to is
 
 -- none of the nodes is before x
 abbrev pub From : ℕ → Nodes → Type 0
@@ -85,3 +91,48 @@ From x (listed c is ns) = x ≤ c
 pub record SkipIs (t : List ℕ) (at byte : ℕ) (r : Skipped) : Type 0 where
   pub few : r .wholes ≤ length t
   pub is : {name : List ℕ} {k : ℕ} (v : Stands t name at k) → byte ≡ first (v .level) + v .number → (s : Lands v (r .place) (r .wholes)) × From (v .number) (s .nodes)
+
+-- ---- a list that the first numbers of a name lead to
+
+-- some of them, at least one, in a text whose nodes begin at `body`
+pub record Deep {t name : List ℕ} {body : ℕ} (v : Stands t name body 0) (at k : ℕ) : Type 0 where
+  pub front : Name
+  pub number : ℕ
+  pub digits : Name
+  pub split : v .digits ≡ front ++ (number ∷ digits)
+  pub deep : k ≡ suc (length front)
+  pub list : Nodes
+  pub leads : Leads body (v .number ∷ front) (v .nodes) at list
+
+-- or none of them: the nodes themselves
+abbrev pub Led : {t name : List ℕ} {body : ℕ} (v : Stands t name body 0) (at k : ℕ) → Type 0
+Led {body = body} v at k = ((k ≡ 0) × (at ≡ body)) ⊎ Deep v at k
+
+-- there are such nodes
+pub record Way (t name : List ℕ) (body at k : ℕ) : Type 0 where
+  pub stands : Stands t name body 0
+  pub led : Led stands at k
+
+-- further down the same way
+pub record ReachIs (t name : List ℕ) (at k : ℕ) (r : Reached) : Type 0 where
+  pub short : r .depth < length name
+  pub led : {body : ℕ} (v : Stands t name body 0) → Led v at k → Led v (r .place) (r .depth)
+
+-- an edit that makes all nine nodes of its list whole
+abbrev pub isFull : Edit → Bool
+isFull Covered = false
+isFull (Put a k) = false
+isFull (Cut a b) = false
+isFull (Full e) = true
+
+-- where to begin: at the nodes themselves, or where the last name led, whose first bytes are this name's too
+abbrev pub StartIs : (body : ℕ) (name near : List ℕ) → Reached → Type 0
+StartIs body name near r =
+    (r ≡ record { place = body; depth = 0 })
+    ⊎ ((r ≡ record { place = getD near 0 0; depth = getD near 1 0 }) × (getD near 1 0 < length name)
+    × (take (getD near 1 0) name ≡ take (getD near 1 0) (nameOf (cellOf (getD near 2 0)))))
+
+-- the edit of the text, and what is kept of the way to it
+pub record NearEdit (t name : List ℕ) (body at k code : ℕ) (near : List ℕ) (r : Edit) : Type 0 where
+  pub is : (v : Stands t name body 0) → Led v at k → r ≡ editOf body 0 0 (v .number) (v .digits) (v .nodes)
+  pub kept : (near ≡ body ∷ 0 ∷ code ∷ []) ⊎ ((near ≡ at ∷ k ∷ code ∷ []) × (isFull r ≡ false) × EditIs t name at k r)

@@ -37,7 +37,7 @@ use Rattle.adding.specs.Internal.Grow.{grow}
 use Rattle.adding.specs.Internal.GrowLaws.{grow-good, own-grow, in-grow, grow-in}
 use Rattle.adding.specs.Internal.Edit.{nameBytes, editOf, edited, EditFits}
 use Rattle.adding.specs.Internal.EditLaws.{Says, says, says-edited, says-fits}
-use Rattle.adding.specs.Internal.Find.{Stands, EditIs}
+use Rattle.adding.specs.Internal.Find.{Stands}
 use Rattle.adding.specs.Internal.Fit.{breaks}
 use Rattle.adding.specs.Internal.FitLaws.{fits-with}
 
@@ -72,7 +72,7 @@ abbrev pub cellBytes : Cell → List ℕ
 cellBytes c = nameBytes Faces (c .face ∷ cellDigits c)
 
 module _ (t : List ℕ) (e : isText t ≡ true) (c : Cell) (v : IsCell c) where
-  named : IsName 6 15 (c .face ∷ cellDigits c)
+  pub named : IsName 6 15 (c .face ∷ cellDigits c)
   unfolding numbersOf
   named = cell-is-named c v
 
@@ -103,7 +103,7 @@ module _ (t : List ℕ) (e : isText t ≡ true) (c : Cell) (v : IsCell c) where
   abbrev pub textEdit : Edit
   textEdit = editOf (bodyStart t) 0 0 (c .face) (cellDigits c) (nodesOf t)
 
-  few : (ns : Nodes) → Good Faces 15 0 ns → 0 + wholes ns ≡ 9 → ⊥
+  pub few : (ns : Nodes) → Good Faces 15 0 ns → 0 + wholes ns ≡ 9 → ⊥
   few ns g q = omega (arith, wholes-most ns Faces 15 0 g (omega arith))
 
   grown-good : Good Faces 15 0 grown
@@ -146,7 +146,7 @@ module _ (t : List ℕ) (e : isText t ≡ true) (c : Cell) (v : IsCell c) where
 
   -- ---- nodes and a cell's name, as finding the edit takes them
 
-  stands-text : (bytes : List ℕ) → bytes ≡ cellBytes c → Stands t bytes (bodyStart t) 0
+  unfoldable pub stands-text : (bytes : List ℕ) → bytes ≡ cellBytes c → Stands t bytes (bodyStart t) 0
   stands-text bytes q =
       record {
         level = Faces;
@@ -164,14 +164,6 @@ module _ (t : List ℕ) (e : isText t ≡ true) (c : Cell) (v : IsCell c) where
         small = named .0;
         below = named .2;
       }
-
-  pub stands : (bytes : List ℕ) → bytes ≡ cellBytes c → Stands t bytes (bodyStart t) 0
-  stands bytes q = stands-text bytes q
-
-  -- the edit that is found
-  pub found-edit : (bytes : List ℕ) → bytes ≡ cellBytes c → {r : Edit} → EditIs t bytes (bodyStart t) 0 r → r ≡ textEdit
-  unfolding stands-text
-  found-edit bytes q f = f .is (stands-text bytes q)
 
 digit-bytes : (ds : List ℕ) → nameBytes Digits ds ≡ digitBytes ds
 digit-bytes [] = refl

@@ -16,8 +16,8 @@ enum-known-code : tie.Need-enum-known-code
 enum-known-code c = search needs
 
 take-code-requires : tie.Need-take-code-requires
-take-code-requires c κs = let s = c .before .before .before .before .before .before .before in
-    (s .pre, line-is-code _ _ _ (sym (c .before .before .before .before .line-code .ensures) ∙ c .before .before .code .given .1))
+take-code-requires c κs = let s = c .before .before .before .before .before .before .before .before .before in
+    (s .pre .0, line-is-code _ _ _ (sym (c .before .before .before .before .before .line-code .ensures) ∙ c .before .before .before .code .given .1), s .pre .1)
 
 enum-known-refusal : tie.Need-enum-known-refusal
 enum-known-refusal c = search needs
@@ -25,18 +25,27 @@ enum-known-refusal c = search needs
 same-length : tie.Need-same-length
 same-length c = search needs
 
+same-length-2 : tie.Need-same-length-2
+same-length-2 c = search needs
+
 returns : tie.Need-returns
 returns c =
-    let a = c .before .before .before .before .before .before .before .before .before .before .args in
-    let d = c .before .before .take-code in
+    let a = c .before .before .before .before .before .before .before .before .before .before .before .before .before .before .args in
+    let d = c .before .before .before .before .take-code in
+    let e = d .ensures in
+    let k = c .before .before .before .before .before .before .before .before in
+    let t =
     subst (λ (x : Coded). Takes x (a .text .now) (a .recording) (d .result) (d .last .0))
-    (sym (c .before .before .before .before .before .code .given .1) ∙ c .before .before .before .before .before .before .before .line-code .ensures) (d .ensures)
+    (sym (k .code .given .1) ∙ k .before .before .line-code .ensures) (e .0, (e .1 .0, e .1 .1 .0)) in
+    (t .0, (t .1 .0, (t .1 .1, e .1 .1 .1)))
 
 returns-2 : tie.Need-returns-2
 returns-2 c =
-    let s = c .before .before .before .before .before .before in
+    let s = c .before .before .before .before .before .before .before in
+    let t =
     subst (λ (x : Coded). Takes x (s .args .text .now) (s .args .recording) (Refused (c .before .refusal .given .0 .0)) (s .args .text .now))
-    (sym (c .before .refusal .given .1) ∙ c .before .before .before .line-code .ensures) (takes-none _ (s .args .text .now) (s .args .recording) (s .pre))
+    (sym (c .before .refusal .given .1) ∙ c .before .before .before .line-code .ensures) (takes-none _ (s .args .text .now) (s .args .recording) (s .pre .0)) in
+    (t .0, (t .1 .0, (t .1 .1, s .pre .1)))
 
 pub take-line-spec : {M : Type 1} → statement M
 take-line-spec =
@@ -47,5 +56,6 @@ take-line-spec =
     take-code-requires
     enum-known-refusal
     same-length
+    same-length-2
     returns
     returns-2)

@@ -7,6 +7,9 @@ use Rattle.record.proofs.record_flight.Tie as tie
 slice-aggregate-begin : tie.Need-slice-aggregate-begin
 slice-aggregate-begin c = search needs
 
+slice-aggregate-begin-2 : tie.Need-slice-aggregate-begin-2
+slice-aggregate-begin-2 c = search needs
+
 begin-requires : tie.Need-begin-requires
 begin-requires c κs = search needs
 
@@ -19,8 +22,11 @@ slice-aggregate-record-all-2 c = search needs
 slice-aggregate-record-all-3 : tie.Need-slice-aggregate-record-all-3
 slice-aggregate-record-all-3 c = search needs
 
+slice-aggregate-record-all-4 : tie.Need-slice-aggregate-record-all-4
+slice-aggregate-record-all-4 c = search needs
+
 record-all-requires : tie.Need-record-all-requires
-record-all-requires c κs = let b = c .before .before .before .before .before .begin in (omega arith, b .ensures .1 .0, b .ensures .0, search needs)
+record-all-requires c κs = let b = c .before .before .before .before .before .before .before .begin in (omega arith, b .ensures .1 .0 .0, b .ensures .0, search needs, b .ensures .1 .1)
 
 slice-aggregate-keep-text : tie.Need-slice-aggregate-keep-text
 slice-aggregate-keep-text c = search needs
@@ -51,10 +57,12 @@ record-flight-spec =
     tie.close
     (tie.spec
     slice-aggregate-begin
+    slice-aggregate-begin-2
     begin-requires
     slice-aggregate-record-all
     slice-aggregate-record-all-2
     slice-aggregate-record-all-3
+    slice-aggregate-record-all-4
     record-all-requires
     slice-aggregate-keep-text
     keep-text-requires

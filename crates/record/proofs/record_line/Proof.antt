@@ -1,5 +1,8 @@
 -- `record_line` meets its contract: a fix that was taken, or a refused line. Assumes nothing.
 use mathlib.Core.Path.{sym, ap, _∙_, subst}
+use lib.ListN.{take}
+use Rattle.adding.specs.Near.{Near}
+use Rattle.flight.specs.declared.Recording.{Recording}
 use Rattle.flight.specs.declared.Taken.{Taken}
 use Rattle.flight.specs.Recording.{Records, recordingAfter}
 use Rattle.record.specs.Recorded.{waitsAfter}
@@ -10,7 +13,7 @@ use Rattle.record.proofs.record_line.Statement.{statement}
 use Rattle.record.proofs.record_line.Tie as tie
 
 take-line-requires : tie.Need-take-line-requires
-take-line-requires c κs = search needs
+take-line-requires c κs = let s = c .before .before .before .before .before .before in (s .pre .0, s .pre .2)
 
 enum-known-recording : tie.Need-enum-known-recording
 enum-known-recording c = search needs
@@ -30,40 +33,54 @@ with-refused-requires c κs = search needs
 same-length : tie.Need-same-length
 same-length c = search needs
 
+same-length-2 : tie.Need-same-length-2
+same-length-2 c = search needs
+
 returns : tie.Need-returns
 returns c =
-    let a = c .before .before .before .before .before .before .before .before .before .before .before .args in
-    let t = c .before .before .before .before .before .before .take-line in
+    let s = c .before .before .before .before .before .before .before .before .before .before .before .before .before .before .before in
+    let a = s .args in
+    let t = c .before .before .before .before .before .before .before .before .take-line in
     let e = c .before .before .recording .given .1 in
     let d = c .with-fix .ensures in (
       fix-recorded (a .setting) (a .line .now) (a .text .now) (t .last .1 .1 .0) (a .flight) (c .with-fix .result) _ (sym e ∙ t .ensures .0) (t .ensures .1 .0) d,
       (
-        subst (Records (t .last .1 .1 .0)) (sym (d .0)) (subst (λ (x : Taken). Records (t .last .1 .1 .0) (recordingAfter x (a .flight .recording))) e (t .ensures .1 .1)),
         (
-          fix-noted (a .setting) (a .line .now) (a .text .now) (t .last .1 .1 .0) (a .flight) (c .with-fix .result) _
-              (c .before .before .before .before .before .before .before .before .before .before .before .pre .0)
+          subst (Records (t .last .1 .1 .0)) (sym (d .0)) (subst (λ (x : Taken). Records (t .last .1 .1 .0) (recordingAfter x (a .flight .recording))) e (t .ensures .1 .1 .0)),
+          subst (λ (m : Recording). Near (take (m .length) (t .last .1 .1 .0)) (t .last .1 .1 .1 .1 .0)) (sym (d .0))
+              (subst (λ (x : Taken). Near (take (recordingAfter x (a .flight .recording) .length) (t .last .1 .1 .0)) (t .last .1 .1 .1 .1 .0)) e (t .ensures .1 .1 .1)),
+        ),
+        (
+          fix-noted (a .setting) (a .line .now) (a .text .now) (t .last .1 .1 .0) (a .flight) (c .with-fix .result) _ (s .pre .0)
               (sym e ∙ t .ensures .0) (t .ensures .1 .0) d,
           ap (λ (x : Taken). waitsAfter (a .number) x (a .waits .now)) (sym e ∙ t .ensures .0),
         ),
       ),
     )
 
-same-length-2 : tie.Need-same-length-2
-same-length-2 c = search needs
-
 same-length-3 : tie.Need-same-length-3
 same-length-3 c = search needs
 
+same-length-4 : tie.Need-same-length-4
+same-length-4 c = search needs
+
+same-length-5 : tie.Need-same-length-5
+same-length-5 c = search needs
+
 returns-2 : tie.Need-returns-2
 returns-2 c =
-    let a = c .before .before .before .before .before .before .before .before .before .before .before .before .before .before .before .args in
-    let t = c .before .before .before .before .before .before .before .before .before .before .take-line in
+    let a = c .before .before .before .before .before .before .before .before .before .before .before .before .before .before .before .before .before .before .before .args in
+    let t = c .before .before .before .before .before .before .before .before .before .before .before .before .take-line in
     let e = c .before .before .before .before .before .before .refusal .given .1 in
     let w = c .before .before .before .say-refused .ensures in
     let d = c .with-refused .ensures in (
       refused-recorded (a .setting) (a .line .now) (a .text .now) (t .last .1 .1 .0) (a .flight) (c .with-refused .result) _ (sym e ∙ t .ensures .0) (t .ensures .1 .0) d,
       (
-        subst (Records (t .last .1 .1 .0)) (sym (d .0)) (subst (λ (x : Taken). Records (t .last .1 .1 .0) (recordingAfter x (a .flight .recording))) e (t .ensures .1 .1)),
+        (
+          subst (Records (t .last .1 .1 .0)) (sym (d .0)) (subst (λ (x : Taken). Records (t .last .1 .1 .0) (recordingAfter x (a .flight .recording))) e (t .ensures .1 .1 .0)),
+          subst (λ (m : Recording). Near (take (m .length) (t .last .1 .1 .0)) (t .last .1 .1 .1 .1 .0)) (sym (d .0))
+              (subst (λ (x : Taken). Near (take (recordingAfter x (a .flight .recording) .length) (t .last .1 .1 .0)) (t .last .1 .1 .1 .1 .0)) e (t .ensures .1 .1 .1)),
+        ),
         (
           refused-noted (a .setting) (a .line .now) (a .text .now) (t .last .1 .1 .0) (a .flight) (c .with-refused .result) _ (sym e ∙ t .ensures .0) (t .ensures .1 .0) d,
           w ∙ ap (λ (x : Taken). waitsAfter (a .number) x (a .waits .now)) (sym e ∙ t .ensures .0),
@@ -82,7 +99,9 @@ record-line-spec =
     say-refused-requires
     with-refused-requires
     same-length
-    returns
     same-length-2
+    returns
     same-length-3
+    same-length-4
+    same-length-5
     returns-2)
