@@ -1,36 +1,66 @@
--- What taking a code apart answers, and a path of sixteen digits. Assumes nothing.
+-- What taking a code apart answers, and what is woven. Assumes nothing.
 use mathlib.Core.Path.{_≡_, refl, sym, ap, ap₂, _∙_}
 use mathlib.Core.Bool.{Bool, true, false, _&&_}
-use Prim.Native.Nat.{ℕ, _+_, _-_, _*_, _/_, _%_, _^_, _≤_, _<_}
-use native.Mathlib.Nat.{div-add-mod', dvd-mul-right, mod-mod-of-dvd}
+use Prim.Native.Nat.{ℕ, suc, _+_, _-_, _*_, _/_, _%_, _^_, _≤_, _<_}
+use native.Mathlib.Nat.{div-add-mod', dvd-mul-right, mod-mod-of-dvd, mul-assoc, mul-comm, mul-left-comm, mul-le-mul-right, suc-mul}
 use native.Mathlib.Omega.{arith}
 use lib.Dec.{eqb, ltb}
 use borrow.Author.Tests.{lt-ltb, le-ltb, eq-eqb, ne-eqb, eqb-true, eqb-false}
-use Rattle.ternary.specs.Laws.Powers.{power-le, nine-le, nine-split}
+use Rattle.ternary.specs.Laws.Powers.{power-add, power-le, power-pos, nine-le, nine-split}
 use Rattle.ternary.specs.Weave.{weave, rowIn, columnIn}
-use Rattle.ternary.specs.Laws.Weave.{weave-more, row-more, column-more}
+use Rattle.ternary.specs.Laws.Weave.{weave-shift, cell-part, row-more, column-more}
 use Rattle.cell.specs.declared.Cell.{Cell}
 use Rattle.cell.specs.declared.Arrangement.{Arrangement}
 use Rattle.cell.specs.Cell.{IsCell, IsArrangement}
 use Rattle.code.specs.declared.Split.the-variants as split-as
-use Rattle.code.specs.Code.{cellSplit, arrangementOf, isOf, isCellCode, cellCodeRefusal, pathIn, cellCode, codeAt, codeOf}
+use Rattle.code.specs.Code.{cellSplit, arrangementOf, isOf, isCellCode, cellCodeRefusal, pathIn, cellCode, cellCodeAt, codeAt, codeOf}
 use Rattle.code.specs.Laws.Code.{path-weave, path-in-small, cell-code-passes, cell-code-stops}
 
 -- a face has a whole number of cells of each size, so the face need not be taken off
 pub rest-cut : (n j : ℕ) → j ≤ 15 → n % 9 ^ 15 % 9 ^ j ≡ n % 9 ^ j
 rest-cut n j h = ap (λ (x : ℕ). n % x % 9 ^ j) (sym (nine-split j h)) ∙ mod-mod-of-dvd (9 ^ j) n (dvd-mul-right (9 ^ j) (9 ^ (15 - j)))
 
--- ---- sixteen digits, of which the first are zeros
+-- ---- a row or a column as the first part of its finest ones
 
-sixteen : (k : ℕ) → k ≤ 15 → 16 ≡ k + (16 - k)
-sixteen k h = omega arith
+module _ (k i : ℕ) (fine : k ≤ 15) (h : i < 3 ^ k) where
+  abbrev step : ℕ
+  step = 3 ^ (15 - k)
 
-module _ (k i j : ℕ) (fine : k ≤ 15) (hi : i < 3 ^ k) (hj : j < 3 ^ k) where
-  pub both-below : (i < 14348907) × (j < 14348907)
-  both-below = let p : 3 ^ k ≤ 14348907 = power-le {i = k} {j = 15} fine in (omega (arith, hi), omega (arith, hj))
+  three-split : 3 ^ k * step ≡ 14348907
+  three-split = let e : k + (15 - k) ≡ 15 = omega arith in sym (power-add k (15 - k)) ∙ ap (λ (x : ℕ). 3 ^ x) e
 
-  pub path-sixteen : weave 16 i j ≡ weave k i j
-  path-sixteen = ap (λ (x : ℕ). weave x i j) (sixteen k fine) ∙ weave-more k (16 - k) i j hi hj
+  finest-below : i * step < 14348907
+  finest-below =
+      let m : suc i * step ≤ 3 ^ k * step = mul-le-mul-right step h in
+      let p = power-pos (15 - k) in
+      let e = three-split in
+      let f = suc-mul i step in
+      omega arith
+
+  first-part : i * (5021817623 * step) ≡ i * step * 5021817623
+  first-part = simp (mul-assoc, mul-comm, mul-left-comm)
+
+  pub part-below : i * (5021817623 * step) < 72057594037927936
+  part-below = let e = first-part in let b = cell-part (i * step) finest-below .0 in omega arith
+
+  pub part-is : i * (5021817623 * step) * 14348907 / 72057594037927936 ≡ i * step
+  part-is = ap (λ (x : ℕ). x * 14348907 / 72057594037927936) first-part ∙ cell-part (i * step) finest-below .1
+
+pub cell-fits : (k : ℕ) → k ≤ 15 → 5021817623 * 3 ^ (15 - k) < 144115188075855872
+cell-fits k h = let e : 15 - k ≤ 15 = omega arith in let p : 3 ^ (15 - k) ≤ 14348907 = power-le e in omega arith
+
+-- the code by the finest path
+pub ended :
+    (a : Arrangement) (face k i j row column : ℕ) → k ≤ 15 → row * 14348907 / 72057594037927936 ≡ i * 3 ^ (15 - k) →
+    column * 14348907 / 72057594037927936 ≡ j * 3 ^ (15 - k) →
+    weave 15 (row * 14348907 / 72057594037927936) (column * 14348907 / 72057594037927936) * 256 + (face * 52708129816230144 + (16 * k + (4 * a .north + a .south)))
+    ≡ codeAt a face k (weave k i j)
+unfolding codeAt cellCodeAt
+ended a face k i j row column h u v =
+    let e : 15 ≡ k + (15 - k) = omega arith in
+    let w : weave 15 (row * 14348907 / 72057594037927936) (column * 14348907 / 72057594037927936) ≡ weave k i j * 9 ^ (15 - k) =
+    ap₂ (weave 15) u v ∙ ap (λ (n : ℕ). weave n (i * 3 ^ (15 - k)) (j * 3 ^ (15 - k))) e ∙ weave-shift k (15 - k) i j in
+    omega arith
 
 -- a cell's numbers, and its code by them
 pub cell-numbers : {c : Cell} → IsCell c → (c .face ≤ 5) × (c .resolution ≤ 15) × (c .row < 3 ^ c .resolution) × (c .column < 3 ^ c .resolution)

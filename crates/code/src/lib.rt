@@ -1,7 +1,7 @@
 // Codes: a cell and the arrangement that it is of. How a code is made is known here only.
 ghost use mathlib.Core.Path.{_≡_};
 ghost use mathlib.Core.Bool.{true};
-ghost use Prim.Native.Nat.{_+_, _-_, _*_, _^_, _≤_, _<_};
+ghost use Prim.Native.Nat.{_+_, _-_, _*_, _/_, _^_, _≤_, _<_};
 ghost use Rattle.logic.specs.Refusal.{_otherwise_};
 ghost use Rattle.ternary.specs.Weave.{weave};
 ghost use Rattle.cell.specs.Cell.{IsCell, IsArrangement, cellRefusal, arrangementRefusal, found};
@@ -59,14 +59,34 @@ pub fn code_at(arrangement: Arrangement, face: u64, resolution: u64, path: u64) 
     with_arrangement(arrangement, cell_code_at(face, resolution, path))
 }
 
-// The code of a face, a resolution, a row and a column: four numbers stay in registers, where a cell is lent in memory.
+// What stands behind the finest path in a code: the resolution and the arrangement.
+pub fn ending(arrangement: Arrangement, resolution: u64) -> u64
+    requires { ⌜ IsArrangement arrangement ⌝ }
+    requires { ⌜ resolution ≤ 15 ⌝ }
+    ensures { λ r. ⌜ (r ≡ 16 * resolution + (4 * arrangement .north + arrangement .south)) × (r < 256) ⌝ }
+{
+    16 * resolution + (4 * arrangement.north + arrangement.south)
+}
+
+// The code of a face and of how far down and how far right on it a place lies, in parts of 2^56, with that ending. All weaving is done here, since the compiler
+// puts it in line only where it has one caller. Four numbers stay in registers.
+pub fn code_by(ending: u64, face: u64, row: u64, column: u64) -> u64
+    requires { ⌜ (ending < 256) × (face ≤ 5) × (row < 2 ^ 56) × (column < 2 ^ 56) ⌝ }
+    ensures { λ r. ⌜ r ≡ weave 15 (row * 3 ^ 15 / 2 ^ 56) (column * 3 ^ 15 / 2 ^ 56) * 256 + (face * (9 ^ 15 * 256) + ending) ⌝ }
+{
+    let path = ternary::woven(row, column);
+    path * 256 + (face * (FACE_SIZE * 256) + ending)
+}
+
+// The code of a face, a resolution, a row and a column, each as the first part of its finest ones.
 pub fn code_in(arrangement: Arrangement, face: u64, resolution: u64, row: u64, column: u64) -> u64
     requires { ⌜ IsArrangement arrangement ⌝ }
     requires { ⌜ (face ≤ 5) × (resolution ≤ 15) × (row < 3 ^ resolution) × (column < 3 ^ resolution) ⌝ }
     ensures { λ r. ⌜ r ≡ codeAt arrangement face resolution (weave resolution row column) ⌝ }
 {
-    let path = ternary::path(row, column);
-    code_at(arrangement, face, resolution, path)
+    let cell = ternary::CELL * ternary::power(15 - resolution);
+    let ending = ending(arrangement, resolution);
+    code_by(ending, face, row * cell, column * cell)
 }
 
 // The code of a cell.

@@ -24,6 +24,11 @@ unfolding codeAnswer coded
 code-refused {r = zero} code e h = absurd (h refl)
 code-refused {r = suc r} code e h = ap (λ (x : ℕ). codeAnswer x code) e
 
+-- a code, and zero before it
+pub code-given : {r x code : ℕ} → r ≡ 0 → x ≡ code → record { refusal = 0; code = x } ≡ codeAnswer r code
+unfolding codeAnswer coded
+code-given e h = ap₂ codeAnswer (sym e) h
+
 -- the code of a found cell
 pub found-code : (a : Arrangement) (r : ℕ) (c : Cell) → codedAnswer (foundCode a (found r c)) ≡ codeAnswer r (codeOf a c)
 unfolding codeAnswer

@@ -364,8 +364,21 @@ pub extern "C" fn jgv_fix_code(
 ) -> CodeAnswer
     ensures { λ r. ⌜ r ≡ fixCode n s resolution longitude z ⌝ }
 {
-    let arrangement = Arrangement { north: n, south: s }; // `coded_fix` tests it
-    coded_answer(locate::coded_fix(arrangement, resolution, longitude, z))
+    let arrangement = Arrangement { north: n, south: s }; // `fix_refusal` tests it
+    let refusal = locate::fix_refusal(arrangement, resolution, longitude, z);
+    if refusal != 0 {
+        return CodeAnswer { refusal, code: 0 };
+    }
+    if locate::in_belt(z) {
+        return CodeAnswer {
+            refusal: 0,
+            code: locate::belt_fix(n, s, resolution, longitude, z),
+        };
+    }
+    CodeAnswer {
+        refusal: 0,
+        code: locate::cap_fix(n, s, resolution, longitude, z),
+    }
 }
 
 // 6 where the sine or the squared eccentricity is out of range (02 W-203).
@@ -397,8 +410,14 @@ pub extern "C" fn jgv_geodetic_code(
 ) -> CodeAnswer
     ensures { λ r. ⌜ r ≡ geodeticCode n s resolution longitude sine eccentricity ⌝ }
 {
-    let z = geodetic::z_of(sine, eccentricity);
-    jgv_fix_code(n, s, resolution, longitude, z)
+    let arrangement = Arrangement { north: n, south: s }; // `geodetic::coded_fix` tests it
+    coded_answer(geodetic::coded_fix(
+        arrangement,
+        resolution,
+        longitude,
+        sine, // of which z is made
+        eccentricity,
+    ))
 }
 
 // 3 where the direction is above 3, 4 where the code is no cell's.

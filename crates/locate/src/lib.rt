@@ -1,22 +1,24 @@
 // The code of a fix's cell (01 "From a fix to a cell"). Computed in unsigned numbers: how far east of -1,800,000,000, and z by its sign and size. Row and
 // column are found as parts of a face, of 2^56, from which their digits are woven; the cell itself is found only where a part leaves a digit open.
 ghost use mathlib.Core.Path.{_≡_};
-ghost use mathlib.Core.Bool.{true, cond};
+ghost use mathlib.Core.Bool.{true, false, cond};
 ghost use Prim.Native.Nat.{_+_, _-_, _*_, _/_, _%_, _^_, _≤_, _<_};
-ghost use lib.IntN.{negℤ, natAbs, subℕ};
+ghost use lib.IntN.{pos, negℤ, natAbs, subℕ, _+ℤ_};
+ghost use lib.Signed.{leZ};
 ghost use Rattle.ternary.specs.Weave.{weave};
 ghost use Rattle.cell.specs.Cell.{IsArrangement, found};
 ghost use Rattle.cell.specs.Neighbour.{turnOf};
 ghost use Rattle.code.specs.Code.{codeAt, codeOf, foundCode};
 ghost use Rattle.root.specs.Floor.{axisOf};
-ghost use Rattle.locate.specs.Fix.{quarter, inRange, isBelt, offsetOf, beltCell, capCell, fixCell, fixRefusal};
+ghost use Rattle.locate.specs.Fix.{quarter, inRange, eastOf, isBelt, offsetOf, beltCell, capCell, fixCell, fixRefusal};
 ghost use Rattle.locate.specs.Fix.{turnedNorth};
 ghost use Rattle.locate.specs.Internal.End.{Stands, turnedEnd};
+ghost use Rattle.locate.specs.Internal.Place.{arranged};
 ghost use Rattle.locate.specs.Internal.Parts.{placeAt, eastPart};
-ghost use Rattle.locate.specs.Internal.Place.{placeCell};
 use cell::Arrangement;
 use cell::Cell;
 use code::Coded;
+use code::FACE_SIZE;
 use root::Axis;
 use ternary::FINEST_ROWS;
 
@@ -62,7 +64,7 @@ fn in_range(longitude: i64, z: i64) -> bool
 }
 
 // "Belt, 3|z| <= 2 x 10^18".
-fn in_belt(z: i64) -> bool
+pub fn in_belt(z: i64) -> bool
     ensures { λ r. ⌜ r ≡ isBelt z ⌝ }
 {
     if signed::at_most(-666_666_666_666_666_666, z) {
@@ -228,43 +230,55 @@ fn cap(face: u64, resolution: u64, m: u64, height: u64, root: u64, end: End) -> 
 }
 
 // The code of a face, a resolution, and how far down and how far right on the face a point lies, in parts: the first digits of the finest path.
+fn coarse_code(arrangement: Arrangement, face: u64, resolution: u64, row: u64, column: u64) -> u64
+    requires { ⌜ IsArrangement arrangement ⌝ }
+    requires { ⌜ (face ≤ 5) × (resolution ≤ 15) × (row < 2 ^ 56) × (column < 2 ^ 56) ⌝ }
+    ensures { λ r. ⌜ r ≡ codeAt arrangement face resolution (weave resolution (placeAt resolution row) (placeAt resolution column)) ⌝ }
+{
+    let step = ternary::nine_power(15 - resolution);
+    let ending = code::ending(arrangement, resolution);
+    let finest = code::code_by(ending, 0, row, column);
+    let cut = finest / 256 % step;
+    finest - 256 * cut + face * (FACE_SIZE * 256)
+}
+
+// The same: of the finest resolution it is that path.
 fn part_code(arrangement: Arrangement, face: u64, resolution: u64, row: u64, column: u64) -> u64
     requires { ⌜ IsArrangement arrangement ⌝ }
     requires { ⌜ (face ≤ 5) × (resolution ≤ 15) × (row < 2 ^ 56) × (column < 2 ^ 56) ⌝ }
     ensures { λ r. ⌜ r ≡ codeAt arrangement face resolution (weave resolution (placeAt resolution row) (placeAt resolution column)) ⌝ }
 {
-    let path = ternary::woven(row, column);
     if resolution < 15 {
-        let step = ternary::nine_power(15 - resolution);
-        return code::code_at(arrangement, face, resolution, path / step);
+        return coarse_code(arrangement, face, resolution, row, column);
     }
-    code::code_at(arrangement, face, 15, path)
+    let ending = code::ending(arrangement, 15);
+    code::code_by(ending, face, row, column)
 }
 
 // How far east a place lies, in parts of a quarter turn. It is rounded up, by less than any column's edge is away, since an edge itself may lie between two parts.
 fn east_part(east: u64) -> u64
-    requires { ⌜ east < 3600000000 ⌝ }
+    requires { ⌜ east ≤ 3600000000 ⌝ }
     ensures { λ r. ⌜ r ≡ eastPart east ⌝ }
 {
     wide::high(east * 4_294_967_296, BY_QUARTER) + 1
 }
 
-// The code of a place in the belt.
+// The code of a place in the belt. A full turn is taken off the face, which is known before the column is woven.
 fn belt_code(arrangement: Arrangement, resolution: u64, east: u64, offset: u64) -> u64
     requires { ⌜ IsArrangement arrangement ⌝ }
     requires { ⌜ resolution ≤ 15 ⌝ }
-    requires { ⌜ east < 3600000000 ⌝ }
+    requires { ⌜ east ≤ 3600000000 ⌝ }
     requires { ⌜ offset < 4 * 10 ^ 18 ⌝ }
-    ensures { λ r. ⌜ r ≡ codeOf arrangement (beltCell resolution east offset) ⌝ }
+    ensures { λ r. ⌜ r ≡ codeOf arrangement (beltCell resolution (east % 3600000000) offset) ⌝ }
 {
     let row = wide::high(offset, BY_BELT);
     if root::is_firm(row, BELT_ROOM) {
         let column = east_part(east);
-        let face = 1 + column / WHOLE;
+        let face = 1 + column / WHOLE % 4;
         return part_code(arrangement, face, resolution, row, column % WHOLE);
     }
     let m = ternary::power(resolution);
-    code::code_of(arrangement, belt(resolution, m, east, offset))
+    code::code_of(arrangement, belt(resolution, m, east % FULL_TURN, offset))
 }
 
 // The code of a place in a cap.
@@ -290,17 +304,42 @@ fn cap_code(arrangement: Arrangement, face: u64, resolution: u64, height: u64, e
     code::code_of(arrangement, cap(face, resolution, m, height, root, end))
 }
 
-// The code of a place, in the belt or in a cap.
-fn place_code(arrangement: Arrangement, resolution: u64, east: u64, z: i64) -> u64
-    requires { ⌜ IsArrangement arrangement ⌝ }
-    requires { ⌜ resolution ≤ 15 ⌝ }
-    requires { ⌜ east < 3600000000 ⌝ }
-    requires { ⌜ natAbs z ≤ 10 ^ 18 ⌝ }
-    ensures { λ r. ⌜ r ≡ codeOf arrangement (placeCell arrangement resolution east z) ⌝ }
+// How far east of -1,800,000,000 a longitude lies: 1,800,000,000 is a full turn, and the same place.
+fn east_of(longitude: i64) -> u64
+    requires { ⌜ leZ (negℤ (pos 1800000000)) longitude ≡ true ⌝ }
+    requires { ⌜ natAbs (longitude +ℤ pos 1800000000) ≤ 3600000000 ⌝ }
+    ensures { λ r. ⌜ (r ≡ eastOf longitude) × (r < 3600000000) ⌝ }
 {
-    if in_belt(z) {
-        return belt_code(arrangement, resolution, east, offset(z));
+    let east = signed::shifted(longitude, 1_800_000_000);
+    if east < FULL_TURN {
+        return east;
     }
+    east - FULL_TURN
+}
+
+// The code of a fix in the belt. The arrangement is two numbers, which stay in registers.
+pub fn belt_fix(n: u64, s: u64, resolution: u64, longitude: i64, z: i64) -> u64
+    requires { ⌜ IsArrangement (arranged n s) ⌝ }
+    requires { ⌜ resolution ≤ 15 ⌝ }
+    requires { ⌜ inRange longitude z ≡ true ⌝ }
+    requires { ⌜ isBelt z ≡ true ⌝ }
+    ensures { λ r. ⌜ r ≡ codeOf (arranged n s) (fixCell (arranged n s) resolution longitude z) ⌝ }
+{
+    let arrangement = Arrangement { north: n, south: s };
+    let east = signed::shifted(longitude, 1_800_000_000);
+    belt_code(arrangement, resolution, east, offset(z))
+}
+
+// The code of a fix in a cap, likewise.
+pub fn cap_fix(n: u64, s: u64, resolution: u64, longitude: i64, z: i64) -> u64
+    requires { ⌜ IsArrangement (arranged n s) ⌝ }
+    requires { ⌜ resolution ≤ 15 ⌝ }
+    requires { ⌜ inRange longitude z ≡ true ⌝ }
+    requires { ⌜ isBelt z ≡ false ⌝ }
+    ensures { λ r. ⌜ r ≡ codeOf (arranged n s) (fixCell (arranged n s) resolution longitude z) ⌝ }
+{
+    let arrangement = Arrangement { north: n, south: s };
+    let east = east_of(longitude);
     let size = signed::magnitude(z);
     let south = signed::is_negative(z);
     let height = 3 * (1_000_000_000_000_000_000 - size);
@@ -308,33 +347,55 @@ fn place_code(arrangement: Arrangement, resolution: u64, east: u64, z: i64) -> u
     cap_code(arrangement, cap_face(south), resolution, height, end)
 }
 
-// The code of a fix in range, by how far east of -1,800,000,000 it lies: 1,800,000,000 is a full turn, and the same place.
-fn code_of(arrangement: Arrangement, resolution: u64, longitude: i64, z: i64) -> u64
+// The code of a fix in range.
+fn fix_code(arrangement: Arrangement, resolution: u64, longitude: i64, z: i64) -> u64
     requires { ⌜ IsArrangement arrangement ⌝ }
     requires { ⌜ resolution ≤ 15 ⌝ }
     requires { ⌜ inRange longitude z ≡ true ⌝ }
     ensures { λ r. ⌜ r ≡ codeOf arrangement (fixCell arrangement resolution longitude z) ⌝ }
 {
-    let east = signed::shifted(longitude, 1_800_000_000);
-    if east < FULL_TURN {
-        return place_code(arrangement, resolution, east, z);
+    if in_belt(z) {
+        return belt_fix(
+            arrangement.north,
+            arrangement.south,
+            resolution,
+            longitude,
+            z,
+        );
     }
-    place_code(arrangement, resolution, east - FULL_TURN, z)
+    cap_fix(
+        arrangement.north,
+        arrangement.south,
+        resolution,
+        longitude,
+        z,
+    )
+}
+
+// Why a fix is refused: 0 where it is not.
+pub fn fix_refusal(arrangement: Arrangement, resolution: u64, longitude: i64, z: i64) -> u64
+    ensures { λ r. ⌜ r ≡ fixRefusal arrangement resolution longitude z ⌝ }
+{
+    let refusal = arrangement.refusal();
+    if refusal != 0 {
+        return refusal;
+    }
+    if resolution > 15 {
+        return 2;
+    }
+    if in_range(longitude, z) {
+        return 0;
+    }
+    6
 }
 
 // The code of the cell of that resolution in which a fix lies, or the refusal.
 pub fn coded_fix(arrangement: Arrangement, resolution: u64, longitude: i64, z: i64) -> Coded
     ensures { λ r. ⌜ r ≡ foundCode arrangement (found (fixRefusal arrangement resolution longitude z) (fixCell arrangement resolution longitude z)) ⌝ }
 {
-    let refusal = arrangement.refusal();
+    let refusal = fix_refusal(arrangement, resolution, longitude, z);
     if refusal != 0 {
         return Coded::Refused(refusal);
     }
-    if resolution > 15 {
-        return Coded::Refused(2);
-    }
-    if in_range(longitude, z) {
-        return Coded::Code(code_of(arrangement, resolution, longitude, z));
-    }
-    Coded::Refused(6)
+    Coded::Code(fix_code(arrangement, resolution, longitude, z))
 }

@@ -4,7 +4,7 @@ use Prim.Native.Nat.{ℕ, zero, suc, _+_, _-_, _*_, _/_, _%_, _≤_, _<_}
 use native.Mathlib.Nat.{mul-le-mul-left}
 use native.Mathlib.Omega.{arith}
 use Rattle.ternary.specs.Weave.{weave}
-use Rattle.ternary.specs.Laws.Weave.{weave-apart, weave-split, weave-last, weave-more, weave-small}
+use Rattle.ternary.specs.Laws.Weave.{weave-apart, weave-split, weave-last, weave-small}
 
 -- what the turns that are left make of a path: each puts the next five digits of one part behind it, and changes the parts over
 abbrev pub turned : (turns this other by then path : ℕ) → ℕ
@@ -113,12 +113,3 @@ small turns this other by then path a b ha hb h k e =
     let w = weave-small 15 (a * 14348907 / 72057594037927936) (b * 14348907 / 72057594037927936) in
     let f = woven a b ha hb in
     omega arith
-
--- a row and a column as parts
-pub cells : (x : ℕ) → x < 14348907 → (x * 5021817623 < 72057594037927936) × (x * 5021817623 * 14348907 / 72057594037927936 ≡ x)
-cells x h = (omega arith, (let e : x * 5021817623 * 14348907 ≡ x * 72057594037927936 + x * 5460125 = omega arith in omega arith))
-
-pub path-of :
-    (i j : ℕ) → i < 14348907 → j < 14348907 →
-    weave 15 (i * 5021817623 * 14348907 / 72057594037927936) (j * 5021817623 * 14348907 / 72057594037927936) ≡ weave 16 i j
-path-of i j hi hj = ap₂ (weave 15) (cells i hi .1) (cells j hj .1) ∙ sym (weave-more 15 1 i j hi hj)

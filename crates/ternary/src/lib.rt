@@ -51,8 +51,8 @@ pub fn nine_power(e: u64) -> u64
 // 2^56, the whole of which a part is taken.
 const WHOLE: u64 = 72_057_594_037_927_936;
 
-// 2^56 / 3^15 rounded up.
-const CELL: u64 = 5_021_817_623;
+// 2^56 / 3^15 rounded up: so many times that is the first part of a row or a column at the finest resolution.
+pub const CELL: u64 = 5_021_817_623;
 
 // The path of the first fifteen ternary digits of two parts of a whole, a row's and a column's. Five digits of each are found by one product, and
 // looked up. The look-up stands in one place, so that the compiler puts it in here; and the six turns leave no loop.
@@ -77,14 +77,6 @@ pub fn woven(row: u64, column: u64) -> u64
         turns = turns - 1;
     }
     path
-}
-
-// The path of fifteen ternary digits of a row and a column. Where there are fewer, zeros before them change nothing.
-pub fn path(row: u64, column: u64) -> u64
-    requires { ⌜ (row < 14348907) × (column < 14348907) ⌝ }
-    ensures { λ r. ⌜ r ≡ weave 16 row column ⌝ }
-{
-    woven(row * CELL, column * CELL)
 }
 
 // A row and a column.

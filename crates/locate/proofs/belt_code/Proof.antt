@@ -2,10 +2,10 @@
 use native.Mathlib.Omega.{arith}
 use borrow.Author.Needs.{needs}
 use mathlib.Core.Path.{_≡_, sym, ap, subst, _∙_}
-use Prim.Native.Nat.{ℕ, _/_, _^_, _<_}
+use Prim.Native.Nat.{_%_, _^_, _<_}
 use Rattle.cell.specs.Cell.{IsCell}
 use Rattle.code.specs.Code.{codeOf}
-use Rattle.locate.specs.Internal.PartLaws.{row-part-lt, face-is, belt-parts}
+use Rattle.locate.specs.Internal.PartLaws.{row-part-lt, belt-parts}
 use Rattle.locate.specs.Laws.Fix.{belt-is-cell}
 use Rattle.locate.proofs.belt_code.Statement.{statement}
 use Rattle.locate.proofs.belt_code.Tie as tie
@@ -29,8 +29,7 @@ part-code-requires : tie.Need-part-code-requires
 part-code-requires c κs =
     let h = c .before .before .before in
     let s = h .before in
-    let f = ap (λ (x : ℕ). x / 2 ^ 56) (c .east-part .ensures) ∙ face-is (s .args .east) (s .pre .1 .1 .0) in
-    (s .pre .0, (omega (arith, s .pre .1 .1 .0), s .pre .1 .0, row-lt h, omega arith))
+    (s .pre .0, (omega arith, s .pre .1 .0, row-lt h, omega arith))
 
 returns : tie.Need-returns
 returns c =
@@ -50,7 +49,7 @@ belt-requires c κs = search needs
 code-of-requires : tie.Need-code-of-requires
 code-of-requires c κs =
     let s = c .before .before .before .before .before in
-    (s .pre .0, subst IsCell (sym (c .belt .ensures)) (belt-is-cell (s .args .resolution) (s .args .east) (s .args .offset) (s .pre .1 .0) (s .pre .1 .1 .0) (s .pre .1 .1 .1)))
+    (s .pre .0, subst IsCell (sym (c .belt .ensures)) (belt-is-cell (s .args .resolution) (s .args .east % 3600000000) (s .args .offset) (s .pre .1 .0) (omega arith) (s .pre .1 .1 .1)))
 
 returns-2 : tie.Need-returns-2
 returns-2 c = c .code-of .ensures ∙ ap (codeOf (c .before .before .before .before .before .before .args .arrangement)) (c .before .belt .ensures)

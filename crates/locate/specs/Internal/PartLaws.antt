@@ -2,7 +2,7 @@
 use mathlib.Core.Path.{_≡_, sym, ap, ap₂, _∙_}
 use mathlib.Core.Bool.{true}
 use Prim.Native.Nat.{ℕ, _+_, _-_, _*_, _/_, _%_, _^_, _≤_, _<_}
-use native.Mathlib.Nat.{div-one, mul-comm, mul-div-mul-right}
+use native.Mathlib.Nat.{div-add-mod', div-one, mul-comm, mul-div-mul-right}
 use native.Mathlib.Omega.{arith}
 use lib.Dec.{lit<, lit≤}
 use lib.IntN.{ℤ, negℤ}
@@ -11,7 +11,7 @@ use Rattle.ternary.specs.Laws.Weave.{weave-prefix}
 use Rattle.ternary.specs.Laws.Powers.{power-add, power-pos}
 use Rattle.cell.specs.declared.Cell.{Cell}
 use Rattle.cell.specs.declared.Arrangement.{Arrangement}
-use Rattle.code.specs.Code.{codeAt, codeOf, cellCode}
+use Rattle.code.specs.Code.{codeAt, codeOf, cellCode, cellCodeAt}
 use Rattle.code.specs.Laws.Code.{path-weave}
 use Rattle.wide.specs.High.{highWord}
 use Rattle.wide.specs.Laws.High.{high-under, high-over}
@@ -48,6 +48,32 @@ path-places k row column h =
 pub path-whole : (row column : ℕ) → weave 15 (row * 3 ^ 15 / 2 ^ 56) (column * 3 ^ 15 / 2 ^ 56) ≡ weave 15 (placeAt 15 row) (placeAt 15 column)
 path-whole row column = sym (div-one (weave 15 (row * 3 ^ 15 / 2 ^ 56) (column * 3 ^ 15 / 2 ^ 56))) ∙ path-places 15 row column (lit≤ tt)
 
+-- the code by the finest path without its last digits
+pub cut-code :
+    (a : Arrangement) (face k row column : ℕ) {step ending finest : ℕ} → k ≤ 15 → ending < 256 → step ≡ 9 ^ (15 - k) → ending ≡ 16 * k + (4 * a .north + a .south) →
+    finest ≡ weave 15 (row * 3 ^ 15 / 2 ^ 56) (column * 3 ^ 15 / 2 ^ 56) * 256 + (0 * (9 ^ 15 * 256) + ending) →
+    finest - 256 * (finest / 256 % step) + face * (205891132094649 * 256) ≡ codeAt a face k (weave k (placeAt k row) (placeAt k column))
+unfolding codeAt cellCodeAt
+cut-code a face k row column {step} {ending} {finest} h small e f g =
+    let w : ℕ = weave 15 (row * 3 ^ 15 / 2 ^ 56) (column * 3 ^ 15 / 2 ^ 56) in
+    let p : finest / 256 ≡ w = omega arith in
+    let q : w / step * step + w % step ≡ w = div-add-mod' w step in
+    let r : w / step ≡ weave k (placeAt k row) (placeAt k column) = ap (λ (x : ℕ). w / x) e ∙ path-places k row column h in
+    let m : w / step * step ≡ weave k (placeAt k row) (placeAt k column) * 9 ^ (15 - k) = ap₂ _*_ r e in
+    let c : finest / 256 % step ≡ w % step = ap (λ (x : ℕ). x % step) p in
+    omega arith
+
+-- and by all of it
+pub whole-code :
+    (a : Arrangement) (face k row column : ℕ) {ending finest : ℕ} → 15 ≡ k → ending ≡ 16 * 15 + (4 * a .north + a .south) →
+    finest ≡ weave 15 (row * 3 ^ 15 / 2 ^ 56) (column * 3 ^ 15 / 2 ^ 56) * 256 + (face * (9 ^ 15 * 256) + ending) →
+    finest ≡ codeAt a face k (weave k (placeAt k row) (placeAt k column))
+unfolding codeAt cellCodeAt
+whole-code a face k row column {ending} {finest} e f g =
+    let p = path-whole row column in
+    let q : finest ≡ codeAt a face 15 (weave 15 (placeAt 15 row) (placeAt 15 column)) = omega arith in
+    q ∙ ap (λ (n : ℕ). codeAt a face n (weave n (placeAt n row) (placeAt n column))) e
+
 -- ---- the belt
 
 module _ (offset : ℕ) (small : offset < 4 * 10 ^ 18) where
@@ -78,7 +104,7 @@ column-at a d h l =
     let f : d * 14348907 / 72057594037927936 ≡ w = omega arith in
     f ∙ sym e
 
-module _ (east : ℕ) (small : east < 3600000000) where
+module _ (east : ℕ) (small : east ≤ 3600000000) where
   -- east / quarter of 2^56, rounded up by less than 2
   east-between : (east * 2 ^ 56 < eastPart east * quarter) × (eastPart east * quarter < east * 2 ^ 56 + 2 * quarter)
   unfolding eastPart
@@ -108,16 +134,29 @@ module _ (east : ℕ) (small : east < 3600000000) where
   column-is k h =
       ap (λ (w : ℕ). w * 3 ^ k / 3 ^ 15) finest-column ∙ part-coarser k (east % quarter) quarter h (lit< tt) ∙ ap (λ (x : ℕ). x / quarter) (mul-comm (3 ^ k) (east % quarter))
 
+-- a full turn changes neither the place in a quarter turn nor, around four, which one it is
+turn-off : (x : ℕ) → (x % quarter ≡ x % 3600000000 % quarter) × (x / quarter % 4 ≡ x % 3600000000 / quarter)
+turn-off x =
+    let q : ℕ = x / 3600000000 in
+    let c : ℕ = x % 3600000000 / 900000000 in
+    let a : ℕ = x % 3600000000 % 900000000 in
+    let e : x ≡ (4 * q + c) * 900000000 + a = omega arith in
+    let f : x / 900000000 ≡ 4 * q + c = omega arith in
+    (omega arith, omega arith)
+
 pub belt-parts :
-    (a : Arrangement) (k east offset : ℕ) {row column : ℕ} → k ≤ 15 → east < 3600000000 → offset < 4 * 10 ^ 18 →
+    (a : Arrangement) (k east offset : ℕ) {row column : ℕ} → k ≤ 15 → east ≤ 3600000000 → offset < 4 * 10 ^ 18 →
     row ≡ highWord offset 332306998946228968 → column ≡ eastPart east → firm row 14349345 ≡ true →
-    codeAt a (1 + column / 2 ^ 56) k (weave k (placeAt k row) (placeAt k (column % 2 ^ 56))) ≡ codeOf a (beltCell k east offset)
+    codeAt a (1 + column / 2 ^ 56 % 4) k (weave k (placeAt k row) (placeAt k (column % 2 ^ 56))) ≡ codeOf a (beltCell k (east % 3600000000) offset)
 unfolding beltCell
 belt-parts a k east offset {row} {column} h he ho e f t =
     let r = ap (placeAt k) e ∙ row-is offset ho k h (ap (λ (x : ℕ). firm x 14349345) (sym e) ∙ t) in
-    let j = ap (λ (x : ℕ). placeAt k (x % 2 ^ 56)) f ∙ column-is east he k h in
-    let c = ap (λ (x : ℕ). x / 2 ^ 56) f ∙ face-is east he in
-    (λ i. codeAt a (1 + c i) k (weave k (r i) (j i))) ∙ cell-code a (beltCell k east offset)
+    let o = turn-off east in
+    let u = o .0 in
+    let v = o .1 in
+    let j = ap (λ (x : ℕ). placeAt k (x % 2 ^ 56)) f ∙ column-is east he k h ∙ ap (λ (x : ℕ). x * 3 ^ k / quarter) u in
+    let c = ap (λ (x : ℕ). x / 2 ^ 56 % 4) f ∙ ap (λ (x : ℕ). x % 4) (face-is east he) ∙ v in
+    (λ i. codeAt a (1 + c i) k (weave k (r i) (j i))) ∙ cell-code a (beltCell k (east % 3600000000) offset)
 
 -- ---- the caps
 

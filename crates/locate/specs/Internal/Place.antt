@@ -8,6 +8,10 @@ use Rattle.cell.specs.declared.Cell.{Cell}
 use Rattle.cell.specs.declared.Arrangement.{Arrangement}
 use Rattle.locate.specs.Fix.{isBelt, eastOf, offsetOf, heightOf, beltCell, northCell, southCell, fixCell}
 
+-- an arrangement by its two numbers
+abbrev pub arranged : (n s : ℕ) → Arrangement
+arranged n s = record { north = n; south = s }
+
 unfoldable pub placeCell : Arrangement → (k east : ℕ) → ℤ → Cell
 placeCell a k east z =
     cond (isBelt z) (beltCell k east (offsetOf z))

@@ -116,17 +116,19 @@ fix-is-cell {a} {k} L z v h r =
     (λ f. cap-is-cell 0 k (heightOf z) _ (omega arith) h (height-small z e) (north-point (a .north) (eastOf L))))
 
 -- where nothing is refused
-pub fix-allowed : (a : Arrangement) (k : ℕ) (L z : ℤ) → fixRefusal a k L z ≡ 0 → IsArrangement a × IsCell (fixCell a k L z)
+pub fix-passes : (a : Arrangement) (k : ℕ) (L z : ℤ) → fixRefusal a k L z ≡ 0 → IsArrangement a × (k ≤ 15) × (inRange L z ≡ true)
 unfolding fixRefusal
-fix-allowed a k L z e =
+fix-passes a k L z e =
     let p = both _ _ e in
     let q = both _ _ (p .1) in
-    let g = is-arrangement (p .0) in
-    (g, fix-is-cell L z g (ltb-false 15 k (allowed 1 _ (q .0))) (in-range (inRange L z) (allowed 5 _ (q .1))))
+    (is-arrangement (p .0), ltb-false 15 k (allowed 1 _ (q .0)), in-range (inRange L z) (allowed 5 _ (q .1)))
   where
     in-range : (t : Bool) → not t ≡ false → t ≡ true
     in-range true e = refl
     in-range false e = sym e
+
+pub fix-allowed : (a : Arrangement) (k : ℕ) (L z : ℤ) → fixRefusal a k L z ≡ 0 → IsArrangement a × IsCell (fixCell a k L z)
+fix-allowed a k L z e = let p = fix-passes a k L z e in (p .0, fix-is-cell L z (p .0) (p .1) (p .2))
 
 -- ---- the antimeridian: "this one longitude is read as -1,800,000,000, with the same cell" (02, W-201)
 

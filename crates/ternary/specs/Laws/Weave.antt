@@ -3,7 +3,7 @@
 use mathlib.Core.Path.{_≡_, refl, sym, ap, ap₂, _∙_}
 use Prim.Native.Nat.{ℕ, zero, suc, _+_, _-_, _*_, _/_, _%_, _^_, _<_}
 use native.Mathlib.Nat.{add-comm, add-mul, suc-mul, mul-assoc, mul-comm, mul-le-mul-right, mul-add-div-right, mul-add-mod-self-right}
-use native.Mathlib.Nat.{pow-zero, pow-suc, zero-div, zero-mod, div-one, div-eq-of-lt, div-add-mod', div-div-eq-div-mul}
+use native.Mathlib.Nat.{one-le-pow, zero-lt-suc, pow-zero, pow-suc, zero-div, zero-mod, div-one, div-eq-of-lt, div-add-mod', div-div-eq-div-mul}
 use native.Mathlib.Omega.{arith}
 use lib.Arith.{digits-div}
 use Rattle.ternary.specs.Weave.{weave, rowIn, columnIn}
@@ -145,6 +145,21 @@ weave-more k r i j hi hj =
     ∙ weave-apart (r + k) i j
     ∙ ap₂ (λ (x y : ℕ). 3 * x + y) (read-more weave-reads k r i hi) (read-more weave-reads k r j hj)
     ∙ sym (weave-apart k i j)
+
+-- zeros behind the row's digits and the column's are zeros behind those of the path
+pub weave-shift : (k r i j : ℕ) → weave (k + r) (i * 3 ^ r) (j * 3 ^ r) ≡ weave k i j * 9 ^ r
+weave-shift k r i j =
+    let same : (x : ℕ) → x * 3 ^ r ≡ x * 3 ^ r + 0 = λ x. omega arith in
+    let cut : (x : ℕ) → x * 3 ^ r / 3 ^ r ≡ x = λ x. ap (λ (y : ℕ). y / 3 ^ r) (same x) ∙ digits-div x (one-le-pow r 3 (zero-lt-suc 2)) in
+    let none : (x : ℕ) → weave r 0 (x * 3 ^ r) ≡ 0 = λ x. ap (weave r 0) (same x) ∙ read-before weave-reads r x 0 ∙ read-zeros weave-reads r in
+    let e : weave k (i * 3 ^ r / 3 ^ r) (j * 3 ^ r / 3 ^ r) * 9 ^ r ≡ weave k i j * 9 ^ r = ap₂ (λ (x y : ℕ). weave k x y * 9 ^ r) (cut i) (cut j) in
+    let a = none i in
+    let b = none j in
+    omega (arith, weave-split k r (i * 3 ^ r) (j * 3 ^ r), weave-apart r (i * 3 ^ r) (j * 3 ^ r))
+
+-- a row or a column at resolution 15 as a part of 2^56: in its first part, rounded up, it is found again
+pub cell-part : (x : ℕ) → x < 14348907 → (x * 5021817623 < 72057594037927936) × (x * 5021817623 * 14348907 / 72057594037927936 ≡ x)
+cell-part x h = (omega arith, (let e : x * 5021817623 * 14348907 ≡ x * 72057594037927936 + x * 5460125 = omega arith in omega arith))
 
 -- ---- there and back
 
