@@ -28,8 +28,8 @@ ghost use Rattle.rescue.specs.declared.Rescued.the-variants.{Refused as 
 use cell::Arrangement;
 use loose::Looked;
 use reader::Checked;
+use reading::Profile;
 use walk::Spot;
-use writing::Written;
 
 // How many of the rising keys are below a code, looked for from the hint on.
 fn place_in(keys: &[u64], hint: usize, code: u64) -> usize
@@ -295,15 +295,12 @@ fn copy(text: &[u8], out: &mut [u8])
     }
 }
 
-// The text of cells that are written as they stand, to the front of `made`; and its length.
+// The text of cells of which nothing is refused, to the front of `made`; and its length. They are known to be good, so they are not tested again.
 fn make(arrangement: Arrangement, cells: &[u64], made: &mut [u8]) -> usize
     requires { ⌜ writeRefusal 1 15 arrangement (now cells) (length (now made)) ≡ 0 ⌝ }
     ensures { λ r. ⌜ (r ≡ length (textOf Full arrangement (now (cells .entry)))) × (take r (now (made .exit)) ≡ textOf Full arrangement (now (cells .entry))) ⌝ }
 {
-    match writing::write(1, 15, arrangement, cells, made) {
-        Written::Refused(refusal) => 0,
-        Written::Length(length) => length as usize,
-    }
+    writing::put_text(Profile::Full, arrangement, cells, made)
 }
 
 // What is changed, by the numbers of the bytes behind the heading. `made` is the proper text, and `largest` holds the largest whole cells.
