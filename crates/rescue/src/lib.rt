@@ -39,7 +39,19 @@ fn place_in(keys: &[u64], hint: usize, code: u64) -> usize
     track::place_near(keys, keys.len(), hint, code)
 }
 
-// The same for a code that is looked for; else the last place.
+// Whether the key at a place is a code. At the code's own place it tells whether the code is one of the keys.
+fn holds(keys: &[u64], k: usize, code: u64) -> bool
+    requires { ⌜ Rise (now keys) ⌝ }
+    ensures { λ r. ⌜ (r ≡ true → (k < length (now (keys .entry))) × (k ≡ numberBelow code (now (keys .entry))) × (hasCode code (now (keys .entry)) ≡ true)) ⌝ }
+    ensures { λ r. ⌜ (k ≡ numberBelow code (now (keys .entry)) → r ≡ hasCode code (now (keys .entry))) ⌝ }
+{
+    if k >= keys.len() {
+        return false;
+    }
+    keys[k] == code
+}
+
+// The place of a code that is looked for; else the last place.
 fn place_if(wanted: bool, keys: &[u64], last: usize, code: u64) -> usize
     requires { ⌜ Rise (now keys) ⌝ }
     ensures { λ r. ⌜ (wanted ≡ true → r ≡ numberBelow code (now (keys .entry))) ⌝ }
@@ -62,10 +74,8 @@ fn place_next(wanted: bool, keys: &[u64], last: usize, code: u64) -> usize
         return place_in(keys, last, code);
     }
     let next = last + 1;
-    if next < keys.len() {
-        if keys[next] == code {
-            return next;
-        }
+    if holds(keys, next, code) {
+        return next;
     }
     place_in(keys, next, code)
 }
@@ -88,17 +98,6 @@ fn note(keys: &[u64], seen: &mut [u8], k: usize, code: u64) -> u64
     1
 }
 
-// Whether a code, whose place is k, is one of the rising keys.
-fn holds(keys: &[u64], k: usize, code: u64) -> bool
-    requires { ⌜ Rise (now keys) × (k ≡ numberBelow code (now keys)) ⌝ }
-    ensures { λ r. ⌜ r ≡ hasCode code (now (keys .entry)) ⌝ }
-{
-    if k >= keys.len() {
-        return false;
-    }
-    keys[k] == code
-}
-
 // Whether a letter's or digit's code, whose place is k where it is whole, may stand for a new cell of the answer: not where it is one of the keys.
 fn may_be_new(whole: bool, keys: &[u64], k: usize, code: u64) -> bool
     requires { ⌜ Rise (now keys) × (whole ≡ true → k ≡ numberBelow code (now keys)) ⌝ }
@@ -111,7 +110,8 @@ fn may_be_new(whole: bool, keys: &[u64], k: usize, code: u64) -> bool
     !held
 }
 
-// Of the first `count` codes, those that are none of the rising keys, to the front; and how many they are.
+// Of the first `count` codes, those that are none of the rising keys, to the front; and how many they are. The key behind the last one that was met is tried
+// first.
 fn leave(keys: &[u64], codes: &mut [u64], count: usize) -> usize
     requires { ⌜ Rise (now keys) × (count ≤ length (now codes)) ⌝ }
     ensures { λ r. ⌜ r ≡ length (lacking (now (keys .entry)) (take count (now (codes .entry)))) ⌝ }
@@ -123,8 +123,13 @@ fn leave(keys: &[u64], codes: &mut [u64], count: usize) -> usize
     while i < count {
         let code = codes[i];
         i = i + 1;
-        near = place_next(true, keys, near, code);
         if holds(keys, near, code) {
+            near = near + 1;
+            continue;
+        }
+        near = place_in(keys, near, code);
+        if holds(keys, near, code) {
+            near = near + 1;
             continue;
         }
         codes[kept] = code;

@@ -4,7 +4,6 @@ use borrow.Author.Needs.{needs}
 use mathlib.Core.Path.{sym, _∙_}
 use borrow.Author.Tests.{not-true}
 use Rattle.logic.specs.Laws.Bools.{clash}
-use Rattle.rescue.specs.Internal.Note.{placed-at}
 use Rattle.rescue.proofs.place_next.Statement.{statement}
 use Rattle.rescue.proofs.place_next.Tie as tie
 
@@ -20,16 +19,11 @@ returns-2 c = λ _. c .place-in .ensures
 add-next : tie.Need-add-next
 add-next c = search needs
 
-mul-if4 : tie.Need-mul-if4
-mul-if4 c = search needs
-
-shared-slice-read-if4 : tie.Need-shared-slice-read-if4
-shared-slice-read-if4 c = search needs
+holds-requires : tie.Need-holds-requires
+holds-requires c κs = search needs
 
 returns-3 : tie.Need-returns-3
-returns-3 c =
-    let s = c .before .before .before .before .before .before in
-    λ _. placed-at (s .args .keys .now) (s .pre) _ _ (c .before .before .if3 .taken) (c .if4 .taken)
+returns-3 c = λ _. c .before .holds .ensures .0 (c .if3 .taken) .1
 
 place-in-requires-2 : tie.Need-place-in-requires-2
 place-in-requires-2 c κs = search needs
@@ -45,8 +39,7 @@ place-next-spec =
     place-in-requires
     returns-2
     add-next
-    mul-if4
-    shared-slice-read-if4
+    holds-requires
     returns-3
     place-in-requires-2
     returns-4)
