@@ -1,7 +1,7 @@
 // The rescue of a hand-edited text: its proper text, and the list of what was changed. One pass marks each byte with its kinds of change; counting
 // and writing only read the marks.
 ghost use mathlib.Core.Path.{_≡_};
-ghost use mathlib.Core.Bool.{true, cond};
+ghost use mathlib.Core.Bool.{true, false, cond};
 ghost use mathlib.Core.List.{[], _++_};
 ghost use Prim.Native.Nat.{_+_, _-_, _*_, _/_, _%_, _≤_, _<_};
 ghost use lib.Dec.{eqb};
@@ -9,7 +9,7 @@ ghost use lib.ListN.{length, take, drop};
 ghost use Rattle.logic.specs.Rise.{Rise};
 ghost use Rattle.track.specs.Track.{numberBelow};
 ghost use Rattle.walk.specs.Walk.{origin, Walks};
-ghost use Rattle.rescue.specs.Internal.Marks.{hasCode, lacking, bit, Seen, Zeros, lateAt, shuts, maskOf, masks, kindsAt, changesIn};
+ghost use Rattle.rescue.specs.Internal.Marks.{hasCode, lacking, Clear, bit, Seen, Zeros, lateAt, shuts, maskOf, masks, kindsAt, changesIn};
 ghost use Rattle.rescue.specs.Internal.Marking.{placed, Put};
 ghost use Rattle.rescue.specs.Internal.Note.{Noted, FirstIs, FourthIs};
 ghost use Rattle.cell.specs.Cell.{IsArrangement};
@@ -28,8 +28,8 @@ ghost use Rattle.rescue.specs.declared.Rescued.the-variants.{Refused as 
 use cell::Arrangement;
 use loose::Looked;
 use reader::Checked;
+use reading::Profile;
 use walk::Spot;
-use writing::Written;
 
 // How many of the rising keys are below a code, looked for from the hint on.
 fn place_in(keys: &[u64], hint: usize, code: u64) -> usize
@@ -39,7 +39,30 @@ fn place_in(keys: &[u64], hint: usize, code: u64) -> usize
     track::place_near(keys, keys.len(), hint, code)
 }
 
-// The same for a code that is looked for, which mostly stands behind the last one; else the last place.
+// Whether the key at a place is a code. At the code's own place it tells whether the code is one of the keys.
+fn holds(keys: &[u64], k: usize, code: u64) -> bool
+    requires { ⌜ Rise (now keys) ⌝ }
+    ensures { λ r. ⌜ (r ≡ true → (k < length (now (keys .entry))) × (k ≡ numberBelow code (now (keys .entry))) × (hasCode code (now (keys .entry)) ≡ true)) ⌝ }
+    ensures { λ r. ⌜ (k ≡ numberBelow code (now (keys .entry)) → r ≡ hasCode code (now (keys .entry))) ⌝ }
+{
+    if k >= keys.len() {
+        return false;
+    }
+    keys[k] == code
+}
+
+// The place of a code that is looked for; else the last place.
+fn place_if(wanted: bool, keys: &[u64], last: usize, code: u64) -> usize
+    requires { ⌜ Rise (now keys) ⌝ }
+    ensures { λ r. ⌜ (wanted ≡ true → r ≡ numberBelow code (now (keys .entry))) ⌝ }
+{
+    if !wanted {
+        return last;
+    }
+    place_in(keys, last, code)
+}
+
+// The same for a code that is mostly the key behind the last one, which is tried first.
 fn place_next(wanted: bool, keys: &[u64], last: usize, code: u64) -> usize
     requires { ⌜ Rise (now keys) ⌝ }
     ensures { λ r. ⌜ (wanted ≡ true → r ≡ numberBelow code (now (keys .entry))) ⌝ }
@@ -47,10 +70,14 @@ fn place_next(wanted: bool, keys: &[u64], last: usize, code: u64) -> usize
     if !wanted {
         return last;
     }
-    if last < keys.len() {
-        return place_in(keys, last + 1, code);
+    if last >= keys.len() {
+        return place_in(keys, last, code);
     }
-    place_in(keys, last, code)
+    let next = last + 1;
+    if holds(keys, next, code) {
+        return next;
+    }
+    place_in(keys, next, code)
 }
 
 // 0 where a code, whose place is k, is none of the rising keys; 1 where it is one that was not met before; 2 where it was.
@@ -71,18 +98,20 @@ fn note(keys: &[u64], seen: &mut [u8], k: usize, code: u64) -> u64
     1
 }
 
-// Whether a code, whose place is k, is one of the rising keys.
-fn holds(keys: &[u64], k: usize, code: u64) -> bool
-    requires { ⌜ Rise (now keys) × (k ≡ numberBelow code (now keys)) ⌝ }
-    ensures { λ r. ⌜ r ≡ hasCode code (now (keys .entry)) ⌝ }
+// Whether a letter's or digit's code, whose place is k where it is whole, may stand for a new cell of the answer: not where it is one of the keys.
+fn may_be_new(whole: bool, keys: &[u64], k: usize, code: u64) -> bool
+    requires { ⌜ Rise (now keys) × (whole ≡ true → k ≡ numberBelow code (now keys)) ⌝ }
+    ensures { λ r. ⌜ (r ≡ false → hasCode code (now (keys .entry)) ≡ true) ⌝ }
 {
-    if k >= keys.len() {
-        return false;
+    if !whole {
+        return true;
     }
-    keys[k] == code
+    let held = holds(keys, k, code);
+    !held
 }
 
-// Of the first `count` codes, those that are none of the rising keys, to the front; and how many they are.
+// Of the first `count` codes, those that are none of the rising keys, to the front; and how many they are. The key behind the last one that was met is tried
+// first.
 fn leave(keys: &[u64], codes: &mut [u64], count: usize) -> usize
     requires { ⌜ Rise (now keys) × (count ≤ length (now codes)) ⌝ }
     ensures { λ r. ⌜ r ≡ length (lacking (now (keys .entry)) (take count (now (codes .entry)))) ⌝ }
@@ -94,8 +123,13 @@ fn leave(keys: &[u64], codes: &mut [u64], count: usize) -> usize
     while i < count {
         let code = codes[i];
         i = i + 1;
-        near = place_next(true, keys, near, code);
         if holds(keys, near, code) {
+            near = near + 1;
+            continue;
+        }
+        near = place_in(keys, near, code);
+        if holds(keys, near, code) {
+            near = near + 1;
             continue;
         }
         codes[kept] = code;
@@ -116,11 +150,14 @@ fn first_kind(whole: bool, code: u64, largest: &[u64], named: &mut [u8], k: usiz
     standing != 1
 }
 
-// Kind 4: the first that stands for a cell of the answer that is none of the largest.
-fn fourth_kind(code: u64, fresh: &[u64], stood: &mut [u8], k: usize) -> bool
-    requires { ⌜ Rise (now fresh) × (length (now fresh) ≤ length (now stood)) × (k ≡ numberBelow code (now fresh)) ⌝ }
+// Kind 4: the first that stands for a cell of the answer that is none of the largest. It is looked up only where it may be one.
+fn fourth_kind(new: bool, code: u64, fresh: &[u64], stood: &mut [u8], k: usize) -> bool
+    requires { ⌜ Rise (now fresh) × (length (now fresh) ≤ length (now stood)) × (new ≡ true → k ≡ numberBelow code (now fresh)) × (new ≡ false → hasCode code (now fresh) ≡ false) ⌝ }
     ensures { λ r. ⌜ FourthIs code (now (fresh .entry)) (now (stood .entry)) (now (stood .exit)) r ⌝ }
 {
+    if !new {
+        return false;
+    }
     let standing = note(fresh, stood, k, code);
     standing == 1
 }
@@ -177,7 +214,7 @@ fn mark(
 )
     requires { ⌜ Walks (now body) 0 origin × (length (now body) ≤ length (now marks)) × IsArrangement arrangement ⌝ }
     requires { ⌜ Rise (now largest) × (length (now largest) ≤ length (now named)) × Seen (now largest) [] (now named) ⌝ }
-    requires { ⌜ Rise (now fresh) × (length (now fresh) ≤ length (now stood)) × Seen (now fresh) [] (now stood) ⌝ }
+    requires { ⌜ Rise (now fresh) × (length (now fresh) ≤ length (now stood)) × Seen (now fresh) [] (now stood) × Clear (now largest) (now fresh) ⌝ }
     ensures { λ _. ⌜ take (length (now (body .entry))) (now (marks .exit)) ≡ masks arrangement (now (largest .entry)) (now (fresh .entry)) 40 origin [] [] (now (body .entry)) ⌝ }
 {
     let mut spot = Spot {
@@ -208,9 +245,10 @@ fn mark(
         let code = code::code_as(arrangement, spot.resolution, spot.number);
         let whole = walk::whole_at(body, i);
         near = place_next(whole, largest, near, code);
-        next = place_in(fresh, next, code);
+        let new = may_be_new(whole, largest, near, code);
+        next = place_if(new, fresh, next, code);
         let first = first_kind(whole, code, largest, named, near);
-        let fourth = fourth_kind(code, fresh, stood, next);
+        let fourth = fourth_kind(new, code, fresh, stood, next);
         marks[i] = mask(first, late(before, old, spot.number), fourth);
         before = b;
         i = i + 1;
@@ -295,15 +333,12 @@ fn copy(text: &[u8], out: &mut [u8])
     }
 }
 
-// The text of cells that are written as they stand, to the front of `made`; and its length.
+// The text of cells of which nothing is refused, to the front of `made`; and its length. They are known to be good, so they are not tested again.
 fn make(arrangement: Arrangement, cells: &[u64], made: &mut [u8]) -> usize
     requires { ⌜ writeRefusal 1 15 arrangement (now cells) (length (now made)) ≡ 0 ⌝ }
     ensures { λ r. ⌜ (r ≡ length (textOf Full arrangement (now (cells .entry)))) × (take r (now (made .exit)) ≡ textOf Full arrangement (now (cells .entry))) ⌝ }
 {
-    match writing::write(1, 15, arrangement, cells, made) {
-        Written::Refused(refusal) => 0,
-        Written::Length(length) => length as usize,
-    }
+    writing::put_text(Profile::Full, arrangement, cells, made)
 }
 
 // What is changed, by the numbers of the bytes behind the heading. `made` is the proper text, and `largest` holds the largest whole cells.

@@ -400,14 +400,26 @@ fn asked_refusal(version: u64, depth: u64, arrangement: Arrangement, codes: &[u6
     refused
 }
 
+// The text of a good list, to the front of a room that has place for it; and its length. Nothing is tested here, and nothing is measured.
+pub fn put_text(profile: Profile, arrangement: Arrangement, codes: &[u64], text: &mut [u8]) -> usize
+    requires { ⌜ IsProfile profile × IsArrangement arrangement × (codesRefusal arrangement (now codes) ≡ 0) × (length (textOf profile arrangement (now codes)) ≤ length (now text)) ⌝ }
+    ensures { λ r. ⌜ r ≡ length (textOf profile arrangement (now (codes .entry))) ⌝ }
+    ensures { λ r. ⌜ now (text .exit) ≡ textIn profile arrangement (now (codes .entry)) (now (text .entry)) ⌝ }
+{
+    let north = arrangement.north;
+    let south = arrangement.south;
+    put_heading(profile, text, north, south);
+    let body = reading::heading_length(profile);
+    let end = put_list(codes, 0, 6, 0, code::FACE_SIZE, text, body, b'N');
+    end.place
+}
+
 // The text of a good list, into `text`: 15, 13 or 8 where there is none.
 fn write_good(profile: Profile, arrangement: Arrangement, codes: &[u64], text: &mut [u8]) -> Written
     requires { ⌜ IsProfile profile × IsArrangement arrangement × (codesRefusal arrangement (now codes) ≡ 0) ⌝ }
     ensures { λ r. ⌜ r ≡ written (fitRefusal profile arrangement (now (codes .entry)) (length (now (text .entry)))) (length (textOf profile arrangement (now (codes .entry)))) ⌝ }
     ensures { λ r. ⌜ now (text .exit) ≡ given (fitRefusal profile arrangement (now (codes .entry)) (length (now (text .entry)))) (textIn profile arrangement (now (codes .entry)) (now (text .entry))) (now (text .entry)) ⌝ }
 {
-    let north = arrangement.north;
-    let south = arrangement.south;
     let extent = length_of(profile, codes);
     let length = extent.length;
     if breaks(profile, extent.depth) {
@@ -419,9 +431,7 @@ fn write_good(profile: Profile, arrangement: Arrangement, codes: &[u64], text: &
     if (text.len() as u64) < length {
         return Written::Refused(8);
     }
-    put_heading(profile, text, north, south);
-    let body = reading::heading_length(profile);
-    put_list(codes, 0, 6, 0, code::FACE_SIZE, text, body, b'N');
+    put_text(profile, arrangement, codes, text);
     Written::Length(length)
 }
 

@@ -1,7 +1,7 @@
 -- `leave` meets its contract: those left so far, and those of the rest, are those of all. Assumes nothing.
 use native.Mathlib.Omega.{arith}
 use borrow.Author.Needs.{needs}
-use mathlib.Core.Path.{_≡_, refl, sym, _∙_}
+use mathlib.Core.Path.{sym, _∙_}
 use Prim.Native.Nat.{_-_}
 use Rattle.logic.specs.Rise.{Rise}
 use Rattle.rescue.specs.Internal.Lack.{Leaving, leave-start, leave-length, leave-out, leave-in, leave-end}
@@ -26,34 +26,49 @@ slice-read-code c = let l = c .before .before .loop .inv .1 in omega (arith, lea
 add-i : tie.Need-add-i Inv-loop μ-loop
 add-i c = search needs
 
-place-next-requires : tie.Need-place-next-requires Inv-loop μ-loop
-place-next-requires c κs = c .before .before .loop .inv .0
-
 holds-requires : tie.Need-holds-requires Inv-loop μ-loop
-holds-requires c κs = (c .before .before .before .loop .inv .0, c .place-next .ensures refl)
+holds-requires c κs = c .before .before .loop .inv .0
+
+add-near : tie.Need-add-near Inv-loop μ-loop
+add-near c = let g = c .before .before .before .before .before .before .before .good in omega (arith, c .before .holds .ensures .0 (c .if1 .taken) .0)
 
 loop-less : tie.Need-loop-less Inv-loop μ-loop
 loop-less c = search needs
 
 loop-again : tie.Need-loop-again Inv-loop μ-loop
-loop-again c =
-    let l = c .before .before .before .before .before .loop .inv in (l .0, leave-out (l .1) (c .before .before .before .before .loop-test .taken) (sym (c .before .holds .ensures) ∙ c .if1 .taken))
+loop-again c = let l = c .before .before .before .before .loop .inv in (l .0, leave-out (l .1) (c .before .before .before .loop-test .taken) (c .before .holds .ensures .0 (c .if1 .taken) .2))
 
-mul-codes : tie.Need-mul-codes Inv-loop μ-loop
-mul-codes c = let l = c .before .before .before .before .before .loop .inv .1 in omega (arith, leave-length l, l .room, l .behind, c .before .before .before .before .loop-test .taken)
+place-in-requires : tie.Need-place-in-requires Inv-loop μ-loop
+place-in-requires c κs = c .before .before .before .before .loop .inv .0
 
-slice-write-codes : tie.Need-slice-write-codes Inv-loop μ-loop
-slice-write-codes c = let l = c .before .before .before .before .before .loop .inv .1 in omega (arith, leave-length l, l .room, l .behind, c .before .before .before .before .loop-test .taken)
+holds-requires-2 : tie.Need-holds-requires-2 Inv-loop μ-loop
+holds-requires-2 c κs = c .before .before .before .before .before .loop .inv .0
 
-add-kept : tie.Need-add-kept Inv-loop μ-loop
-add-kept c = let l = c .before .before .before .before .before .loop .inv .1 in omega (arith, l .behind)
+add-near-2 : tie.Need-add-near-2 Inv-loop μ-loop
+add-near-2 c = let g = c .before .before .before .before .before .before .before .before .before .before .good in omega (arith, c .before .holds2 .ensures .0 (c .if2 .taken) .0)
 
 loop-less-2 : tie.Need-loop-less-2 Inv-loop μ-loop
 loop-less-2 c = search needs
 
 loop-again-2 : tie.Need-loop-again-2 Inv-loop μ-loop
-loop-again-2 c =
-    let l = c .before .before .before .before .before .loop .inv in (l .0, leave-in (l .1) (c .before .before .before .before .loop-test .taken) (sym (c .before .holds .ensures) ∙ c .if1 .left))
+loop-again-2 c = let l = c .before .before .before .before .before .before .before .loop .inv in (l .0, leave-out (l .1) (c .before .before .before .before .before .before .loop-test .taken) (c .before .holds2 .ensures .0 (c .if2 .taken) .2))
+
+mul-codes : tie.Need-mul-codes Inv-loop μ-loop
+mul-codes c = let l = c .before .before .before .before .before .before .before .loop .inv .1 in omega (arith, leave-length l, l .room, l .behind, c .before .before .before .before .before .before .loop-test .taken)
+
+slice-write-codes : tie.Need-slice-write-codes Inv-loop μ-loop
+slice-write-codes c = let l = c .before .before .before .before .before .before .before .loop .inv .1 in omega (arith, leave-length l, l .room, l .behind, c .before .before .before .before .before .before .loop-test .taken)
+
+add-kept : tie.Need-add-kept Inv-loop μ-loop
+add-kept c = let l = c .before .before .before .before .before .before .before .loop .inv .1 in omega (arith, l .behind)
+
+loop-less-3 : tie.Need-loop-less-3 Inv-loop μ-loop
+loop-less-3 c = search needs
+
+loop-again-3 : tie.Need-loop-again-3 Inv-loop μ-loop
+loop-again-3 c =
+    let l = c .before .before .before .before .before .before .before .loop .inv in
+    (l .0, leave-in (l .1) (c .before .before .before .before .before .before .loop-test .taken) (sym (c .before .holds2 .ensures .1 (c .before .before .place-in .ensures)) ∙ c .if2 .left))
 
 same-length : tie.Need-same-length Inv-loop μ-loop
 same-length c = leave-length (c .before .loop .inv .1)
@@ -71,14 +86,19 @@ leave-spec =
     mul-code
     slice-read-code
     add-i
-    place-next-requires
     holds-requires
+    add-near
     loop-less
     loop-again
+    place-in-requires
+    holds-requires-2
+    add-near-2
+    loop-less-2
+    loop-again-2
     mul-codes
     slice-write-codes
     add-kept
-    loop-less-2
-    loop-again-2
+    loop-less-3
+    loop-again-3
     same-length
     returns)

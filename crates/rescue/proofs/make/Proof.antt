@@ -1,46 +1,25 @@
 -- `make` meets its contract: nothing is refused. Assumes nothing.
-use native.Mathlib.Omega.{arith}
 use borrow.Author.Needs.{needs}
-use mathlib.Core.Path.{sym, _∙_}
-use Rattle.rescue.specs.Internal.Give.{make-length, make-refused}
+use Rattle.rescue.specs.Internal.Give.{make-sure, make-taken}
 use Rattle.rescue.proofs.make.Statement.{statement}
 use Rattle.rescue.proofs.make.Tie as tie
 
-write-requires : tie.Need-write-requires
-write-requires c κs = search needs
-
-enum-known-refusal : tie.Need-enum-known-refusal
-enum-known-refusal c = search needs
-
-enum-known-length : tie.Need-enum-known-length
-enum-known-length c = search needs
+put-text-requires : tie.Need-put-text-requires
+put-text-requires c κs =
+    let s = c .before .before .before in
+    let m = make-sure (s .args .arrangement) (s .args .cells .now) (s .args .made .now) (s .pre) in
+    (tt, m .0, m .1, m .2)
 
 same-length : tie.Need-same-length
 same-length c = search needs
 
 returns : tie.Need-returns
 returns c =
-    let w = c .before .before .before .before .before in
-    let s = w .before .before .before .before in
-    absurd (make-refused (s .args .arrangement) (s .args .cells .now) (s .args .made .now) (s .pre) (sym (c .before .refusal .given .1) ∙ w .write .ensures .0))
-
-same-length-2 : tie.Need-same-length-2
-same-length-2 c = search needs
-
-returns-2 : tie.Need-returns-2
-returns-2 c =
-    let w = c .before .before .before .before .before in
-    let s = w .before .before .before .before in
-    make-length (s .args .arrangement) (s .args .cells .now) (s .args .made .now) (s .pre) (sym (c .before .length .given .1) ∙ w .write .ensures .0) (w .write .ensures .1)
+    let w = c .before .before .put-text .ensures in
+    let s = c .before .before .before .before .before .before in
+    (w .0, make-taken (s .args .arrangement) (s .args .cells .now) (s .args .made .now) (s .pre) (w .0) (w .1))
 
 pub make-spec : {M : Type 1} → statement M
 make-spec =
     tie.close
-    (tie.spec
-    write-requires
-    enum-known-refusal
-    enum-known-length
-    same-length
-    returns
-    same-length-2
-    returns-2)
+    (tie.spec put-text-requires same-length returns)

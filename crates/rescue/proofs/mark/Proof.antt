@@ -76,17 +76,25 @@ whole-at-requires c κs = search needs
 place-next-requires : tie.Need-place-next-requires Inv-loop μ-loop
 place-next-requires c κs = c .before .before .before .before .before .before .before .loop .inv .0
 
-place-in-requires : tie.Need-place-in-requires Inv-loop μ-loop
-place-in-requires c κs = c .before .before .before .before .before .before .before .before .loop .inv .1
+may-be-new-requires : tie.Need-may-be-new-requires Inv-loop μ-loop
+may-be-new-requires c κs = (c .before .before .before .before .before .before .before .before .loop .inv .0, c .place-next .ensures)
+
+place-if-requires : tie.Need-place-if-requires Inv-loop μ-loop
+place-if-requires c κs = c .before .before .before .before .before .before .before .before .before .loop .inv .1
 
 first-kind-requires : tie.Need-first-kind-requires Inv-loop μ-loop
-first-kind-requires c κs = let l = c .before .before .before .before .before .before .before .before .before .before .loop .inv in (l .0, l .5 .named-long, c .before .before .place-next .ensures)
+first-kind-requires c κs =
+    let p = c .before .before .before in
+    let l = p .before .before .before .before .before .before .before .before .loop .inv in
+    (l .0, l .5 .named-long, p .place-next .ensures)
 
 fourth-kind-requires : tie.Need-fourth-kind-requires Inv-loop μ-loop
 fourth-kind-requires c κs =
     let p = c .before .before .before .before .before in
-    let l = p .before .before .before .before .before .before .before .before .before .loop .inv in
-    (l .1, l .5 .stood-long, p .place-in .ensures)
+    let h = p .before .before .before .before .before .before .before .before .before .before in
+    let l = h .loop .inv in
+    let s = h .before .before .before .before .before .before .before .pre in
+    (l .1, l .5 .stood-long, p .place-if .ensures, (λ e. s .1 .1 .3 _ (p .before .may-be-new .ensures e)))
 
 late-requires : tie.Need-late-requires Inv-loop μ-loop
 late-requires c κs = search needs
@@ -95,11 +103,13 @@ mask-requires : tie.Need-mask-requires Inv-loop μ-loop
 mask-requires c κs = search needs
 
 slice-write-marks-3 : tie.Need-slice-write-marks-3 Inv-loop μ-loop
-slice-write-marks-3 c = search needs
+slice-write-marks-3 c =
+    let a = c .before .before .before .before .before .before .before .before .before .before .before .before .before .before .before .before .before .before .before in
+    omega (arith, a .loop-test .taken, a .before .loop .inv .2, a .before .before .before .before .before .before .before .before .pre .0 .1)
 
 add-i-3 : tie.Need-add-i-3 Inv-loop μ-loop
 add-i-3 c =
-    let a = c .before .before .before .before .before .before .before .before .before .before .before .before .before .before .before .before .before .before in
+    let a = c .before .before .before .before .before .before .before .before .before .before .before .before .before .before .before .before .before .before .before in
     let g = a .before .before .before .before .before .before .before .before .good in
     omega (arith, a .loop-test .taken)
 
@@ -110,7 +120,7 @@ loop-again-3 : tie.Need-loop-again-3 Inv-loop μ-loop
 loop-again-3 c =
     let n = c .before .before .before .before in
     let f = n .before .before .before .before in
-    let w = f .before .before .before .before in
+    let w = f .before .before .before .before .before in
     let b = w .before .before .before in
     let l = b .before .before .before .before .loop .inv in (
       l .0,
@@ -156,7 +166,8 @@ mark-spec =
     code-as-requires
     whole-at-requires
     place-next-requires
-    place-in-requires
+    may-be-new-requires
+    place-if-requires
     first-kind-requires
     fourth-kind-requires
     late-requires

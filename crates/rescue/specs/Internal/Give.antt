@@ -1,16 +1,23 @@
 -- The proper text made, and given with the changes. Assumes nothing.
 use mathlib.Core.Path.{_≡_, sym, ap, _∙_}
-use mathlib.Core.List.{List, _++_}
+use mathlib.Core.Bool.{not}
+use mathlib.Core.List.{List, _++_, map}
 use Prim.Native.Nat.{ℕ, _*_, _≤_, _<_}
 use native.Mathlib.Omega.{arith}
+use lib.Dec.{ltb}
 use lib.ListN.{length, take, drop}
 use lib.Seq.{take-at}
+use borrow.Author.Tests.{ltb-false}
 use Rattle.logic.specs.Lent.{inFront}
-use Rattle.logic.specs.Refusal.{given}
+use Rattle.logic.specs.Refusal.{refuse}
+use Rattle.logic.specs.Laws.Refusal.{both, allowed}
 use Rattle.cell.specs.declared.Arrangement.{Arrangement}
+use Rattle.cell.specs.Cell.{IsArrangement, arrangementRefusal}
+use Rattle.cell.specs.Laws.Cell.{is-arrangement}
+use Rattle.code.specs.Code.{cellOf}
 use Rattle.reading.specs.declared.Profile.the-variants.{Full}
-use Rattle.writing.specs.declared.Written.the-variants as written-as
-use Rattle.writing.specs.Write.{writeRefusal, textOf, textIn, written}
+use Rattle.reading.specs.Written.{keeps}
+use Rattle.writing.specs.Write.{allCodes, codesRefusal, isVersion, fitRefusal, writeRefusal, textOf, textIn}
 use Rattle.loose.specs.Look.{looseRefusal}
 use Rattle.proper.specs.Proper.{properOf}
 use Rattle.proper.specs.Changes.{Change}
@@ -23,23 +30,20 @@ use Rattle.rescue.specs.Internal.Joint.{no-text-room, no-list-room, resc
 -- ---- made
 
 module _ (ar : Arrangement) (cells made : List ℕ) (z : writeRefusal 1 15 ar cells (length made) ≡ 0) where
-  pub make-length :
-      {made′ : List ℕ} {n : ℕ} → written-as.Length n ≡ written (writeRefusal 1 15 ar cells (length made)) (length (textOf Full ar cells)) →
-      made′ ≡ given (writeRefusal 1 15 ar cells (length made)) (textIn Full ar cells made) made →
-      (n ≡ length (textOf Full ar cells)) × (take n made′ ≡ textOf Full ar cells)
-  unfolding written given textIn
-  make-length {made′} {n} w h =
-      let w′ : written-as.Length n ≡ written-as.Length (length (textOf Full ar cells)) = rw z at w in
-      let h′ : made′ ≡ textOf Full ar cells ++ drop (length (textOf Full ar cells)) made = rw z at h in
-      let i : n ≡ length (textOf Full ar cells) = cc in
-      (i, ap (take n) h′ ∙ take-at (textOf Full ar cells) (drop (length (textOf Full ar cells)) made) n (sym i))
+  -- what writing tests and measures first
+  pub make-sure : IsArrangement ar × (codesRefusal ar cells ≡ 0) × (length (textOf Full ar cells) ≤ length made)
+  unfolding writeRefusal fitRefusal
+  make-sure =
+      let n : ℕ = length (textOf Full ar cells) in
+      let f = both (arrangementRefusal ar) _ z in
+      let l = both (refuse (not (allCodes cells)) 4) _ (both (refuse (ltb 15 15) 2) _ (f .1) .1) in
+      let g = both (codesRefusal ar cells) _ (both (refuse (not (isVersion 1)) 10) _ (l .1) .1) in
+      let r = both (refuse (ltb 65536 n) 13) _ (both (refuse (not (keeps Full (map cellOf cells))) 15) _ (g .1) .1) in
+      (is-arrangement (f .0), g .0, ltb-false (length made) n (allowed 7 (ltb (length made) n) (r .1)))
 
-  pub make-refused : {r : ℕ} → written-as.Refused r ≡ written (writeRefusal 1 15 ar cells (length made)) (length (textOf Full ar cells)) → ⊥
-  unfolding written
-  make-refused {r} w =
-      let w′ : written-as.Refused r ≡ written-as.Length (length (textOf Full ar cells)) = rw z at w in
-      let k : _≡_ {A = ℕ} 0 1 = cc in
-      omega arith
+  pub make-taken : {made′ : List ℕ} {n : ℕ} → n ≡ length (textOf Full ar cells) → made′ ≡ textIn Full ar cells made → take n made′ ≡ textOf Full ar cells
+  unfolding textIn
+  make-taken {made′} {n} i h = ap (take n) h ∙ take-at (textOf Full ar cells) (drop (length (textOf Full ar cells)) made) n (sym i)
 
 -- ---- given
 

@@ -45,10 +45,10 @@ use Rattle.proper.specs.Thin.{thinned}
 use Rattle.proper.specs.Wholes.{looseCodes}
 use Rattle.rescue.specs.declared.Rescued.{Rescued}
 use Rattle.rescue.specs.declared.Rescued.the-variants.{Done, Refused}
-use Rattle.rescue.specs.Internal.Marks.{hasCode, bit, Seen, masks, changesIn, Zeros}
+use Rattle.rescue.specs.Internal.Marks.{Clear, hasCode, bit, Seen, masks, changesIn, Zeros}
 use Rattle.rescue.specs.Laws.Flat.{flat-length}
 use Rattle.rescue.specs.Internal.Find.{largest, answers, fresh, marks-changes, largest-rise, fresh-rise}
-use Rattle.rescue.specs.Internal.Lack.{lacking-length}
+use Rattle.rescue.specs.Internal.Lack.{lacking-clear, lacking-length}
 use Rattle.rescue.specs.Rescue.{flat, changesOf, rescueRefusal, told, RescueIs}
 
 pub zeros-seen : (keys seen : List ℕ) → Zeros seen → Seen keys [] seen
@@ -136,13 +136,18 @@ module _ (t : List ℕ) (e : looseRefusal t ≡ 0) where
     module _ (text ls as′ : List ℕ) (p : text ≡ drop 7 t) (q : ls ≡ largest arranged t body) (s : as′ ≡ fresh arranged t body) where
       pub mark-ready :
           (marks named stood : List ℕ) → length t ≤ length marks → length t ≤ length named → length t ≤ length stood → Zeros named → Zeros stood →
-          (Walks text 0 origin × (length text ≤ length marks)) × ((Rise ls × (length ls ≤ length named) × Seen ls [] named) × (Rise as′ × (length as′ ≤ length stood) × Seen as′ [] stood))
+          (Walks text 0 origin × (length text ≤ length marks)) × ((Rise ls × (length ls ≤ length named) × Seen ls [] named) × (Rise as′ × (length as′ ≤ length stood) × Seen as′ [] stood × Clear ls as′))
       mark-ready marks named stood a b c y z =
           rw (p, q, s) (
             (walks, omega (arith, length-drop 7 t)),
             (
               (largest-rise arranged t body, omega (arith, largest-short), zeros-seen (largest arranged t body) named y),
-              (fresh-rise arranged t body, omega (arith, answers-short, lacking-length (largest arranged t body) (answers arranged t body)), zeros-seen (fresh arranged t body) stood z),
+              (
+                fresh-rise arranged t body,
+                omega (arith, answers-short, lacking-length (largest arranged t body) (answers arranged t body)),
+                zeros-seen (fresh arranged t body) stood z,
+                lacking-clear (largest arranged t body) (answers arranged t body),
+              ),
             ),
           )
 

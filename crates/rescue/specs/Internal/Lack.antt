@@ -12,7 +12,7 @@ use borrow.Author.Tests.{eqb-true}
 use Rattle.logic.specs.Laws.Bools.{by-cond, and-none}
 use Rattle.logic.specs.Rise.{Above, Rise}
 use Rattle.proper.specs.Laws.Front.{put-fits, put-front}
-use Rattle.rescue.specs.Internal.Marks.{hasCode, lacking}
+use Rattle.rescue.specs.Internal.Marks.{hasCode, lacking, Clear}
 
 -- ---- what they are
 
@@ -31,6 +31,9 @@ has-lacking keys (x ∷ xs) c = go (hasCode x keys) (eqb x c) refl refl (has-lac
     go true false e f k = k
     go false true e f k = rw (f, met false e f) refl
     go false false e f k = rw f k
+
+pub lacking-clear : (keys xs : List ℕ) → Clear keys (lacking keys xs)
+lacking-clear keys xs c h = has-lacking keys xs c ∙ rw h (and-none (hasCode c xs))
 
 above-lacking : (keys xs : List ℕ) (n : ℕ) → Above n xs → Above n (lacking keys xs)
 unfolding lacking

@@ -24,6 +24,10 @@ unfolding hasCode
 lacking keys [] = []
 lacking keys (x ∷ xs) = cond (hasCode x keys) (lacking keys xs) (x ∷ lacking keys xs)
 
+-- none of the first is one of the second
+abbrev pub Clear : (ms as′ : List ℕ) → Type 0
+Clear ms as′ = (c : ℕ) → hasCode c ms ≡ true → hasCode c as′ ≡ false
+
 -- 0: it is none of the keys; 1: it is one, and was not met earlier; 2: it is one that was
 unfoldable pub standing : (keys earlier : List ℕ) (c : ℕ) → ℕ
 standing keys earlier c = cond (hasCode c keys) (cond (hasCode c earlier) 2 1) 0

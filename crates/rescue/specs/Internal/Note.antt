@@ -8,7 +8,7 @@ use native.Mathlib.Omega.{arith}
 use lib.Dec.{eqb, ltb, leb}
 use lib.ListN.{length, take, drop, getD, set, length-set, drop-of-length-le}
 use lib.Seq.{getD-set-same, getD-set-other, take-all}
-use borrow.Author.Tests.{eqb-true, eq-eqb, ne-eqb, ltb-true, ltb-false}
+use borrow.Author.Tests.{eqb-true, eq-eqb, ne-eqb, lt-ltb, le-ltb, ltb-true, ltb-false}
 use Rattle.logic.specs.Laws.Bools.{by-cond, clash}
 use Rattle.logic.specs.Laws.Order.{lt-or, three-ways}
 use Rattle.logic.specs.Rise.{Above, Rise}
@@ -58,6 +58,13 @@ distinct (x ∷ keys) r zero zero h i e = refl
 distinct (x ∷ keys) r zero (suc k) h i e = absurd (let z = above-get x keys k (r .0) (omega arith) in omega arith)
 distinct (x ∷ keys) r (suc j) zero h i e = absurd (let z = above-get x keys j (r .0) (omega arith) in omega arith)
 distinct (x ∷ keys) r (suc j) (suc k) h i e = ap suc (distinct keys (r .1) j k (omega arith) (omega arith) e)
+
+-- where it stands is its place
+pub placed-at : (keys : List ℕ) → Rise keys → (k c : ℕ) → k < length keys → getD keys k 0 ≡ c → k ≡ numberBelow c keys
+unfolding numberBelow
+placed-at [] r k c h e = absurd (omega arith)
+placed-at (x ∷ keys) r zero c h e = rw (le-ltb x c (omega (arith, e))) refl
+placed-at (x ∷ keys) r (suc k) c h e = rw (lt-ltb x c (omega (arith, above-get x keys k (r .0) (omega arith), e))) (ap suc (placed-at keys (r .1) k c (omega arith) e))
 
 -- ---- what was met
 
@@ -169,6 +176,9 @@ pub fourth-noted : {c n : ℕ} {as′ stood₀ stood₁ : List ℕ} {r : Bool} �
 unfolding fourthKind
 fourth-noted {c} {n} {as′} {stood₀} {stood₁} {r} k f =
     record { is = λ all s. let z = k .is all s in (f ∙ ap (λ (x : ℕ). eqb x 1) (z .0), z .1) }
+
+pub fourth-none : {c : ℕ} {as′ stood : List ℕ} → Rise as′ → hasCode c as′ ≡ false → FourthIs c as′ stood stood false
+fourth-none {c} {as′} {stood} r e = fourth-noted (noted-none as′ stood c r (λ h z. clash (sym (found c as′ (numberBelow c as′) h z) ∙ e))) refl
 
 -- ---- the search
 

@@ -134,3 +134,15 @@ top-text p a codes text mid later r h e u =
     ∙ sym (sets-append text 0 hs (render (levelOf p) ns))
     ∙ sets-eq (textOf p a codes) text 0 (omega arith)
     ∙ ap (λ (m : ℕ). textOf p a codes ++ drop m text) z
+
+-- and where it ends
+pub top-ends :
+    (p : Profile) (a : Arrangement) (codes mid later : List ℕ) (r : WrittenTo) → ListWrote codes 0 [] 15 (headingLength p) Faces 0 6 mid later r →
+    r .place ≡ length (textOf p a codes)
+unfolding textOf writtenText
+top-ends p a codes mid later r u =
+    let hs : List ℕ = heading p (a .north) (a .south) in
+    let ns : Nodes = nodesFor (map cellOf codes) in
+    let e : length (render Faces (side (under 15) 6 0 (restsOf [] (namesFrom codes 0)))) ≡ length (render (levelOf p) ns) =
+    ap length (ap (render Faces) (faces-nodes codes) ∙ sym (render-faces p ns)) in
+    omega (arith, u .wrote .ended, e, length-append hs (render (levelOf p) ns), heading-length p (a .north) (a .south))
