@@ -51,13 +51,19 @@ loop-less-2 : tie.Need-loop-less-2 Inv-loop μ-loop
 loop-less-2 c = search needs
 
 loop-again-2 : tie.Need-loop-again-2 Inv-loop μ-loop
-loop-again-2 c = let l = c .before .before .before .before .before .before .before .loop .inv in (l .0, leave-out (l .1) (c .before .before .before .before .before .before .loop-test .taken) (c .before .holds2 .ensures .0 (c .if2 .taken) .2))
+loop-again-2 c =
+    let l = c .before .before .before .before .before .before .before .loop .inv in
+    (l .0, leave-out (l .1) (c .before .before .before .before .before .before .loop-test .taken) (c .before .holds2 .ensures .0 (c .if2 .taken) .2))
 
 mul-codes : tie.Need-mul-codes Inv-loop μ-loop
-mul-codes c = let l = c .before .before .before .before .before .before .before .loop .inv .1 in omega (arith, leave-length l, l .room, l .behind, c .before .before .before .before .before .before .loop-test .taken)
+mul-codes c =
+    let l = c .before .before .before .before .before .before .before .loop .inv .1 in
+    omega (arith, leave-length l, l .room, l .behind, c .before .before .before .before .before .before .loop-test .taken)
 
 slice-write-codes : tie.Need-slice-write-codes Inv-loop μ-loop
-slice-write-codes c = let l = c .before .before .before .before .before .before .before .loop .inv .1 in omega (arith, leave-length l, l .room, l .behind, c .before .before .before .before .before .before .loop-test .taken)
+slice-write-codes c =
+    let l = c .before .before .before .before .before .before .before .loop .inv .1 in
+    omega (arith, leave-length l, l .room, l .behind, c .before .before .before .before .before .before .loop-test .taken)
 
 add-kept : tie.Need-add-kept Inv-loop μ-loop
 add-kept c = let l = c .before .before .before .before .before .before .before .loop .inv .1 in omega (arith, l .behind)

@@ -136,7 +136,8 @@ module _ (t : List ℕ) (e : looseRefusal t ≡ 0) where
     module _ (text ls as′ : List ℕ) (p : text ≡ drop 7 t) (q : ls ≡ largest arranged t body) (s : as′ ≡ fresh arranged t body) where
       pub mark-ready :
           (marks named stood : List ℕ) → length t ≤ length marks → length t ≤ length named → length t ≤ length stood → Zeros named → Zeros stood →
-          (Walks text 0 origin × (length text ≤ length marks)) × ((Rise ls × (length ls ≤ length named) × Seen ls [] named) × (Rise as′ × (length as′ ≤ length stood) × Seen as′ [] stood × Clear ls as′))
+          (Walks text 0 origin × (length text ≤ length marks))
+          × ((Rise ls × (length ls ≤ length named) × Seen ls [] named) × (Rise as′ × (length as′ ≤ length stood) × Seen as′ [] stood × Clear ls as′))
       mark-ready marks named stood a b c y z =
           rw (p, q, s) (
             (walks, omega (arith, length-drop 7 t)),
