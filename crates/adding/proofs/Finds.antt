@@ -25,7 +25,7 @@ use Rattle.adding.specs.declared.Skipped.{Skipped}
 use Rattle.adding.specs.Internal.Grow.{by, grow}
 use Rattle.adding.specs.Internal.Edit.{nameBytes, run, toWhole, toPut, over, size, editOf}
 use Rattle.adding.specs.Internal.EditLaws.{Says, says}
-use Rattle.adding.specs.Near.{Leads}
+use Rattle.adding.specs.InMind.{LeadsTo}
 use Rattle.adding.specs.Internal.Find.{runIn, wholeAs, putAs, overAs, EndsIn, Stands, EditIs, Lands, From, SkipIs}
 use Rattle.adding.proofs.Skips.{On}
 use Rattle.adding.proofs.Bytes.{inside, byte, stop-byte, whole-here, list-here, listed-here, node-size, list-in, list-past, size-fits, run-nodes}
@@ -128,7 +128,7 @@ pub record Holds {t name : List ℕ} {at k : ℕ} (v : Stands t name at k) (i w 
   pub left : drop i t ≡ render (v .level) (listed (v .number) list nodes) ++ v .rest
   pub good : Good (v .level) (v .depth) lo (listed (v .number) list nodes)
   pub same : editOf at k 0 (v .number) (v .digits) (v .nodes) ≡ editOf i k w (v .number) (v .digits) (listed (v .number) list nodes)
-  pub on : (p : Name) (to : ℕ) (is : Nodes) → Leads (i + 2) p list to is → Leads at (v .number ∷ p) (v .nodes) to is
+  pub on : (p : Name) (to : ℕ) (is : Nodes) → LeadsTo (i + 2) p list to is → LeadsTo at (v .number ∷ p) (v .nodes) to is
 
 pub holds :
     {t name : List ℕ} {at k i w : ℕ} (v : Stands t name at k) (d : Lands v i w) → getD t i 0 ≡ getD name k 0 → wholeAt (drop i t) ≡ false → Holds v i w

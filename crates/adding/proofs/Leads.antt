@@ -18,17 +18,17 @@ use Rattle.reading.specs.Laws.Parse.{Stop}
 use Rattle.reading.specs.Prefix.{Name}
 use Rattle.adding.specs.declared.Edit.{Edit}
 use Rattle.adding.specs.declared.Edit.the-variants.{Covered, Put, Cut, Full}
-use Rattle.adding.specs.Near.{Leads}
+use Rattle.adding.specs.InMind.{LeadsTo}
 use Rattle.adding.specs.Internal.Grow.{by, merged, grow}
 use Rattle.adding.specs.Internal.Edit.{nameBytes, over, size, editOf}
 use Rattle.adding.specs.Internal.EditLaws.{Says, says}
-use Rattle.adding.specs.Internal.Find.{Stands, EditIs, Deep, Led, isFull}
+use Rattle.adding.specs.Internal.Find.{Stands, EditIs, Deep, Led, becomesWhole}
 use Rattle.adding.proofs.Bytes.{after, list-in, list-past, size-fits}
 use Rattle.adding.proofs.Skips.{before}
 use Rattle.adding.proofs.Finds.{at-x, Holds, name-length}
 
 -- nodes lead only to numbers that may stand among them
-leads-low : (ns : Nodes) (l : Level) (d lo i x : ℕ) (p : Name) (at : ℕ) (is : Nodes) → Good l d lo ns → Leads i (x ∷ p) ns at is → lo ≤ x
+leads-low : (ns : Nodes) (l : Level) (d lo i x : ℕ) (p : Name) (at : ℕ) (is : Nodes) → Good l d lo ns → LeadsTo i (x ∷ p) ns at is → lo ≤ x
 leads-low end l d lo i x p at is g h = absurd h
 leads-low (whole c ns) l d lo i x p at is g h = omega (arith, g .0, leads-low ns l d (suc c) (i + 1) x p at is (g .2) h)
 leads-low (listed c js ns) l d lo i x p at is g h =
@@ -36,8 +36,8 @@ leads-low (listed c js ns) l d lo i x p at is g h =
 
 -- and on from there
 pub leads-on :
-    (ns : Nodes) (i : ℕ) (p : Name) (at : ℕ) (is : Nodes) (q : Name) (to : ℕ) (js : Nodes) → Leads i p ns at is → Leads at q is to js → Leads i (p ++ q) ns to js
-leads-on ns i [] at is q to js h k = subst (λ (x : ℕ). Leads x q ns to js) (h .0) (subst (λ (x : Nodes). Leads at q x to js) (h .1) k)
+    (ns : Nodes) (i : ℕ) (p : Name) (at : ℕ) (is : Nodes) (q : Name) (to : ℕ) (js : Nodes) → LeadsTo i p ns at is → LeadsTo at q is to js → LeadsTo i (p ++ q) ns to js
+leads-on ns i [] at is q to js h k = subst (λ (x : ℕ). LeadsTo x q ns to js) (h .0) (subst (λ (x : Nodes). LeadsTo at q x to js) (h .1) k)
 leads-on end i (x ∷ p) at is q to js h k = absurd h
 leads-on (whole c ns) i (x ∷ p) at is q to js h k = leads-on ns (i + 1) (x ∷ p) at is q to js h k
 leads-on (listed c ks ns) i (x ∷ p) at is q to js h k =
@@ -45,7 +45,7 @@ leads-on (listed c ks ns) i (x ∷ p) at is q to js h k =
 
 -- ---- the edit
 
-over-inner : (i w : ℕ) (ns : Nodes) (e : Edit) → isFull e ≡ false → over i w ns e ≡ e
+over-inner : (i w : ℕ) (ns : Nodes) (e : Edit) → becomesWhole e ≡ false → over i w ns e ≡ e
 unfolding over
 over-inner i w ns Covered n = refl
 over-inner i w ns (Put a k) n = refl
@@ -68,8 +68,8 @@ unfolding editOf
 edit-past i k w x c y q js ns h = before _ _ _ h
 
 pub leads-edit :
-    (ns : Nodes) (l : Level) (d lo i k w x : ℕ) (p : Name) (y : ℕ) (q : Name) (at : ℕ) (is : Nodes) (m : ℕ) (e : Edit) → Good l d lo ns → Leads i (x ∷ p) ns at is →
-    m ≡ k + 1 + length p → e ≡ editOf at m 0 y q is → isFull e ≡ false → editOf i k w x (p ++ (y ∷ q)) ns ≡ e
+    (ns : Nodes) (l : Level) (d lo i k w x : ℕ) (p : Name) (y : ℕ) (q : Name) (at : ℕ) (is : Nodes) (m : ℕ) (e : Edit) → Good l d lo ns → LeadsTo i (x ∷ p) ns at is →
+    m ≡ k + 1 + length p → e ≡ editOf at m 0 y q is → becomesWhole e ≡ false → editOf i k w x (p ++ (y ∷ q)) ns ≡ e
 unfolding editOf
 leads-edit end l d lo i k w x p y q at is m e g h j f n = absurd h
 leads-edit (whole c ns) l d lo i k w x p y q at is m e g h j f n =
@@ -108,40 +108,40 @@ unfolding grow
 grow-past x c y q js ns h = before _ _ _ h
 
 pub leads-grow :
-    (ns : Nodes) (l : Level) (d lo i x : ℕ) (p : Name) (y : ℕ) (q : Name) (at : ℕ) (is : Nodes) → Good l d lo ns → Leads i (x ∷ p) ns at is → (wholes (grow y q is) ≡ 9 → ⊥) →
-    Leads i (x ∷ p) (grow x (p ++ (y ∷ q)) ns) at (grow y q is) × (wholes (grow x (p ++ (y ∷ q)) ns) ≡ wholes ns)
+    (ns : Nodes) (l : Level) (d lo i x : ℕ) (p : Name) (y : ℕ) (q : Name) (at : ℕ) (is : Nodes) → Good l d lo ns → LeadsTo i (x ∷ p) ns at is → (wholes (grow y q is) ≡ 9 → ⊥) →
+    LeadsTo i (x ∷ p) (grow x (p ++ (y ∷ q)) ns) at (grow y q is) × (wholes (grow x (p ++ (y ∷ q)) ns) ≡ wholes ns)
 unfolding grow
 leads-grow end l d lo i x p y q at is g h n = absurd h
 leads-grow (whole c ns) l d lo i x p y q at is g h n =
     let r = leads-grow ns l d (suc c) (i + 1) x p y q at is (g .2) h n in
     let e : grow x (p ++ (y ∷ q)) (whole c ns) ≡ whole c (grow x (p ++ (y ∷ q)) ns) = before _ _ _ (leads-low ns l d (suc c) (i + 1) x p at is (g .2) h) in
-    (subst (λ (m : Nodes). Leads i (x ∷ p) m at (grow y q is)) (sym e) (r .0), ap wholes e ∙ ap suc (r .1))
+    (subst (λ (m : Nodes). LeadsTo i (x ∷ p) m at (grow y q is)) (sym e) (r .0), ap wholes e ∙ ap suc (r .1))
 leads-grow (listed c js ns) l d lo i x [] y q at is g h n =
     ⊎-elim
     (λ z.
     let k : is ≡ js = z .1 .1 in
     let e = grow-here x c y q js ns (z .0) (λ b. n (ap (λ (m : Nodes). wholes (grow y q m)) k ∙ b)) in
-    (subst (λ (m : Nodes). Leads i (x ∷ []) m at (grow y q is)) (sym e) (inl (z .0, (z .1 .0, ap (grow y q) k))), ap wholes e))
+    (subst (λ (m : Nodes). LeadsTo i (x ∷ []) m at (grow y q is)) (sym e) (inl (z .0, (z .1 .0, ap (grow y q) k))), ap wholes e))
     (λ z.
     let r = leads-grow ns l d (suc c) (i + size js) x [] y q at is (g .6) z n in
     let e = grow-past x c y q js ns (leads-low ns l d (suc c) (i + size js) x [] at is (g .6) z) in
-    (subst (λ (m : Nodes). Leads i (x ∷ []) m at (grow y q is)) (sym e) (inr (r .0)), ap wholes e ∙ r .1))
+    (subst (λ (m : Nodes). LeadsTo i (x ∷ []) m at (grow y q is)) (sym e) (inr (r .0)), ap wholes e ∙ r .1))
     h
 leads-grow (listed c js ns) l d lo i x (u ∷ p) y q at is g h n =
     ⊎-elim
     (λ z.
     let r = leads-grow js Digits (room l c d - 1) 0 (i + 2) u p y q at is (g .5) (z .1) n in
     let e = grow-here x c u (p ++ (y ∷ q)) js ns (z .0) (λ b. g .4 (sym (r .1) ∙ b)) in
-    (subst (λ (m : Nodes). Leads i (x ∷ u ∷ p) m at (grow y q is)) (sym e) (inl (z .0, r .0)), ap wholes e))
+    (subst (λ (m : Nodes). LeadsTo i (x ∷ u ∷ p) m at (grow y q is)) (sym e) (inl (z .0, r .0)), ap wholes e))
     (λ z.
     let r = leads-grow ns l d (suc c) (i + size js) x (u ∷ p) y q at is (g .6) z n in
     let e = grow-past x c u (p ++ (y ∷ q)) js ns (leads-low ns l d (suc c) (i + size js) x (u ∷ p) at is (g .6) z) in
-    (subst (λ (m : Nodes). Leads i (x ∷ u ∷ p) m at (grow y q is)) (sym e) (inr (r .0)), ap wholes e ∙ r .1))
+    (subst (λ (m : Nodes). LeadsTo i (x ∷ u ∷ p) m at (grow y q is)) (sym e) (inr (r .0)), ap wholes e ∙ r .1))
     h
 
 -- ---- its bytes
 
-pub record Lists (t : List ℕ) (at : ℕ) (is : Nodes) : Type 0 where
+pub record ListBytes (t : List ℕ) (at : ℕ) (is : Nodes) : Type 0 where
   pub depth : ℕ
   pub rest : List ℕ
   pub within : at ≤ length t
@@ -152,14 +152,14 @@ pub record Lists (t : List ℕ) (at : ℕ) (is : Nodes) : Type 0 where
 
 pub leads-lists :
     (ns : Nodes) (l : Level) (d lo i x : ℕ) (p : Name) (at : ℕ) (is : Nodes) (t rest : List ℕ) → Good l d lo ns → drop i t ≡ render l ns ++ rest →
-    Leads i (x ∷ p) ns at is → Lists t at is
+    LeadsTo i (x ∷ p) ns at is → ListBytes t at is
 leads-lists end l d lo i x p at is t rest g e h = absurd h
 leads-lists (whole c ns) l d lo i x p at is t rest g e h = leads-lists ns l d (suc c) (i + 1) x p at is t rest (g .2) (after t i e) h
 leads-lists (listed c js ns) l d lo i x [] at is t rest g e h =
     ⊎-elim
     (λ z.
-    subst (λ (a : ℕ). Lists t a is) (sym (z .1 .0))
-    (subst (λ (m : Nodes). Lists t (i + 2) m) (sym (z .1 .1))
+    subst (λ (a : ℕ). ListBytes t a is) (sym (z .1 .0))
+    (subst (λ (m : Nodes). ListBytes t (i + 2) m) (sym (z .1 .1))
     (record {
       depth = room l c d - 1;
       rest = 41 ∷ (render l ns ++ rest);

@@ -23,13 +23,13 @@ use Rattle.reading.specs.TextReading.{nodesOf, profileOf, isText, bodyStart}
 use Rattle.reading.specs.Laws.TextReading.{read-nodes, read-profile}
 use Rattle.adding.specs.declared.Added.{Added}
 use Rattle.adding.specs.declared.Edit.{Edit}
-use Rattle.adding.specs.declared.Reached.{Reached}
+use Rattle.adding.specs.declared.ListAt.{ListAt}
 use Rattle.adding.specs.Add.{textWith, keepsWith, withRefusal, resized, placed, lengthAfter, Gains}
 use Rattle.adding.specs.Laws.Add.{with-reads}
-use Rattle.adding.specs.Near.{Leads, Near}
+use Rattle.adding.specs.InMind.{LeadsTo, InMind}
 use Rattle.adding.specs.Internal.Grow.{grow}
 use Rattle.adding.specs.Internal.Edit.{nameBytes, editOf}
-use Rattle.adding.specs.Internal.Find.{Stands, EditIs, Deep, Led, isFull, StartIs, NearEdit}
+use Rattle.adding.specs.Internal.Find.{Stands, EditIs, Deep, Led, becomesWhole, StartIs, NearEdit}
 use Rattle.adding.specs.Internal.WithLaws.{cellDigits, cellBytes, textEdit, name-bytes, nodes-with, stands-text}
 use Rattle.adding.proofs.Ways.{own-stands, led-edit, deep-grow}
 
@@ -51,7 +51,7 @@ module _ (t : List ℕ) (e : isText t ≡ true) (c : Cell) (v : IsCell c) (name 
 
   -- ---- where it begins
 
-  led-numbers : (k at : ℕ) (list : Nodes) → k < length name → Leads (bodyStart t) (take k (numbersOf c)) (nodesOf t) at list → Led text-stands at k
+  led-numbers : (k at : ℕ) (list : Nodes) → k < length name → LeadsTo (bodyStart t) (take k (numbersOf c)) (nodesOf t) at list → Led text-stands at k
   unfolding text-stands own-stands stands-text numbersOf
   led-numbers zero at list h l = inl (refl, l .0 ∙ sym b)
   led-numbers (suc k) at list h l = go (drop k (cellDigits c)) refl
@@ -74,11 +74,11 @@ module _ (t : List ℕ) (e : isText t ≡ true) (c : Cell) (v : IsCell c) (name 
             split = sym (take-append-drop k (cellDigits c)) ∙ ap (λ (x : Name). take k (cellDigits c) ++ x) f;
             deep = ap suc (sym (length-take-le k (cellDigits c) (omega (arith, m))));
             list = list;
-            leads = subst (λ (x : ℕ). Leads x (c .face ∷ take k (cellDigits c)) (nodesOf t) at list) (sym b) l;
+            leads = subst (λ (x : ℕ). LeadsTo x (c .face ∷ take k (cellDigits c)) (nodesOf t) at list) (sym b) l;
           })
 
   pub near-led :
-      {near : List ℕ} → Near t near → getD near 1 0 < length name → take (getD near 1 0) name ≡ take (getD near 1 0) (nameOf (cellOf (getD near 2 0))) →
+      {near : List ℕ} → InMind t near → getD near 1 0 < length name → take (getD near 1 0) name ≡ take (getD near 1 0) (nameOf (cellOf (getD near 2 0))) →
       Led text-stands (getD near 0 0) (getD near 1 0)
   unfolding numbersOf
   near-led {near} n h f =
@@ -86,16 +86,16 @@ module _ (t : List ℕ) (e : isText t ≡ true) (c : Cell) (v : IsCell c) (name 
       let d = cellOf (getD near 2 0) in
       let g : take k (c .face ∷ cellDigits c) ≡ take k (d .face ∷ cellDigits d) =
       same-numbers k Faces (c .face ∷ cellDigits c) (d .face ∷ cellDigits d) (sym (ap (take k) q) ∙ f ∙ ap (take k) (name-bytes d)) in
-      led-numbers k (getD near 0 0) (n .list) h (subst (λ (x : Name). Leads (bodyStart t) x (nodesOf t) (getD near 0 0) (n .list)) (sym g) (n .leads))
+      led-numbers k (getD near 0 0) (n .list) h (subst (λ (x : Name). LeadsTo (bodyStart t) x (nodesOf t) (getD near 0 0) (n .list)) (sym g) (n .leads))
 
-  pub start-led : {near : List ℕ} {r : Reached} → Near t near → StartIs body name near r → Led text-stands (r .place) (r .depth)
+  pub start-led : {near : List ℕ} {r : ListAt} → InMind t near → StartIs body name near r → Led text-stands (r .place) (r .depth)
   start-led {near} {r} n s =
-      ⊎-elim (λ z. subst (λ (x : Reached). Led text-stands (x .place) (x .depth)) (sym z) (inl (refl, refl)))
-      (λ z. subst (λ (x : Reached). Led text-stands (x .place) (x .depth)) (sym (z .0)) (near-led n (z .1) (z .2))) s
+      ⊎-elim (λ z. subst (λ (x : ListAt). Led text-stands (x .place) (x .depth)) (sym z) (inl (refl, refl)))
+      (λ z. subst (λ (x : ListAt). Led text-stands (x .place) (x .depth)) (sym (z .0)) (near-led n (z .1) (z .2))) s
 
   -- ---- what is kept
 
-  near-with : (u : List ℕ) (at k code : ℕ) (list : Nodes) → Leads (bodyStart u) (take k (numbersOf (cellOf code))) (nodesOf u) at list → Near u (at ∷ k ∷ code ∷ [])
+  near-with : (u : List ℕ) (at k code : ℕ) (list : Nodes) → LeadsTo (bodyStart u) (take k (numbersOf (cellOf code))) (nodesOf u) at list → InMind u (at ∷ k ∷ code ∷ [])
   near-with u at k code list l = record { long = refl; list = list; leads = l }
 
   module _ (code : ℕ) (i : cellOf code ≡ c) where
@@ -106,19 +106,19 @@ module _ (t : List ℕ) (e : isText t ≡ true) (c : Cell) (v : IsCell c) (name 
         ∙ ap (λ (x : Name). c .face ∷ x) (ap (take (length (d .front))) (d .split) ∙ take-at (d .front) (d .number ∷ d .digits) (length (d .front)) refl)
 
     -- the nodes themselves, of the text and of any with as long a heading
-    own-near : (u : List ℕ) → bodyStart u ≡ body → {at k : ℕ} → k ≡ 0 → at ≡ body → Near u (at ∷ k ∷ code ∷ [])
+    own-near : (u : List ℕ) → bodyStart u ≡ body → {at k : ℕ} → k ≡ 0 → at ≡ body → InMind u (at ∷ k ∷ code ∷ [])
     own-near u j {at} {k} y z =
         near-with u at k code (nodesOf u)
-        (subst (λ (x : ℕ). Leads (bodyStart u) (take x (numbersOf (cellOf code))) (nodesOf u) at (nodesOf u)) (sym y) (z ∙ sym j, refl))
+        (subst (λ (x : ℕ). LeadsTo (bodyStart u) (take x (numbersOf (cellOf code))) (nodesOf u) at (nodesOf u)) (sym y) (z ∙ sym j, refl))
 
-    led-near : {at k : ℕ} → Led text-stands at k → Near t (at ∷ k ∷ code ∷ [])
+    led-near : {at k : ℕ} → Led text-stands at k → InMind t (at ∷ k ∷ code ∷ [])
     unfolding text-stands own-stands stands-text
     led-near {at} {k} l =
         ⊎-elim (λ z. own-near t (sym b) (z .0) (z .1))
         (λ d.
         near-with t at k code (d .list)
-        (subst (λ (x : Name). Leads (bodyStart t) x (nodesOf t) at (d .list)) (sym (front-of d))
-        (subst (λ (x : ℕ). Leads x (c .face ∷ d .front) (nodesOf t) at (d .list)) b (d .leads))))
+        (subst (λ (x : Name). LeadsTo (bodyStart t) x (nodesOf t) at (d .list)) (sym (front-of d))
+        (subst (λ (x : ℕ). LeadsTo x (c .face ∷ d .front) (nodesOf t) at (d .list)) b (d .leads))))
         l
 
     module _ (w : keepsWith t c ≡ true) where
@@ -131,29 +131,29 @@ module _ (t : List ℕ) (e : isText t ≡ true) (c : Cell) (v : IsCell c) (name 
       grown : nodesOf u ≡ grow (c .face) (cellDigits c) (nodesOf t)
       grown = read-nodes (with-reads t e c v w) ∙ nodes-with t e c v
 
-      led-grown : {at k : ℕ} {r : Edit} → Led text-stands at k → EditIs t name at k r → isFull r ≡ false → Near u (at ∷ k ∷ code ∷ [])
+      led-grown : {at k : ℕ} {r : Edit} → Led text-stands at k → EditIs t name at k r → becomesWhole r ≡ false → InMind u (at ∷ k ∷ code ∷ [])
       unfolding text-stands own-stands stands-text
       led-grown {at} {k} {r} l x n =
           ⊎-elim (λ z. own-near u same-start (z .0) (z .1))
           (λ d.
           near-with u at k code (grow (d .number) (d .digits) (d .list))
-          (subst (λ (y : Name). Leads (bodyStart u) y (nodesOf u) at (grow (d .number) (d .digits) (d .list))) (sym (front-of d))
-          (subst (λ (y : Nodes). Leads (bodyStart u) (c .face ∷ d .front) y at (grow (d .number) (d .digits) (d .list))) (sym grown)
-          (subst (λ (y : ℕ). Leads y (c .face ∷ d .front) (grow (c .face) (cellDigits c) (nodesOf t)) at (grow (d .number) (d .digits) (d .list))) (sym same-start)
+          (subst (λ (y : Name). LeadsTo (bodyStart u) y (nodesOf u) at (grow (d .number) (d .digits) (d .list))) (sym (front-of d))
+          (subst (λ (y : Nodes). LeadsTo (bodyStart u) (c .face ∷ d .front) y at (grow (d .number) (d .digits) (d .list))) (sym grown)
+          (subst (λ (y : ℕ). LeadsTo y (c .face ∷ d .front) (grow (c .face) (cellDigits c) (nodesOf t)) at (grow (d .number) (d .digits) (d .list))) (sym same-start)
           (deep-grow text-stands d x n)))))
           l
 
     module _ {at k : ℕ} {near : List ℕ} {r : Edit} (l : Led text-stands at k) (x : NearEdit t name body at k code near r) where
       -- of the text
-      pub kept-near : Near t near
+      pub kept-near : InMind t near
       kept-near =
-          ⊎-elim (λ z. subst (Near t) (sym z) (own-near t (sym b) refl refl)) (λ z. subst (Near t) (sym (z .0)) (led-near l)) (x .kept)
+          ⊎-elim (λ z. subst (InMind t) (sym z) (own-near t (sym b) refl refl)) (λ z. subst (InMind t) (sym (z .0)) (led-near l)) (x .kept)
 
       -- of the text with the cell
-      pub kept-with : keepsWith t c ≡ true → Near (textWith t c) near
+      pub kept-with : keepsWith t c ≡ true → InMind (textWith t c) near
       kept-with w =
-          ⊎-elim (λ z. subst (Near (u w)) (sym z) (own-near (u w) (same-start w) refl refl))
-          (λ z. subst (Near (u w)) (sym (z .0)) (led-grown w l (z .2) (z .1))) (x .kept)
+          ⊎-elim (λ z. subst (InMind (u w)) (sym z) (own-near (u w) (same-start w) refl refl))
+          (λ z. subst (InMind (u w)) (sym (z .0)) (led-grown w l (z .2) (z .1))) (x .kept)
 
       -- the edit is the text's
       pub near-edit : r ≡ textEdit t e c v
@@ -162,22 +162,22 @@ module _ (t : List ℕ) (e : isText t ≡ true) (c : Cell) (v : IsCell c) (name 
 
 -- in front of the lent bytes then
 pub near-gains :
-    {bytes after near : List ℕ} {c : Cell} (end : ℕ) {r : Added} → Gains (take end bytes) c bytes after r → Near (take end bytes) near →
-    (keepsWith (take end bytes) c ≡ true → Near (textWith (take end bytes) c) near) → Near (take (lengthAfter r end) after) near
+    {bytes after near : List ℕ} {c : Cell} (end : ℕ) {r : Added} → Gains (take end bytes) c bytes after r → InMind (take end bytes) near →
+    (keepsWith (take end bytes) c ≡ true → InMind (textWith (take end bytes) c) near) → InMind (take (lengthAfter r end) after) near
 unfolding resized placed given withRefusal
 near-gains {bytes} {after} {near} {c} end {r} g n m = go (withRefusal (take end bytes) c (length bytes)) refl (g .answer) (g .bytes)
   where
     u : List ℕ
     u = textWith (take end bytes) c
 
-    go : (z : ℕ) → withRefusal (take end bytes) c (length bytes) ≡ z → r ≡ resized z (length u) → after ≡ placed z u bytes → Near (take (lengthAfter r end) after) near
+    go : (z : ℕ) → withRefusal (take end bytes) c (length bytes) ≡ z → r ≡ resized z (length u) → after ≡ placed z u bytes → InMind (take (lengthAfter r end) after) near
     go zero k a f =
-        subst (λ (x : Added). Near (take (lengthAfter x end) after) near) (sym a)
-        (subst (λ (x : List ℕ). Near x near) (sym (ap (take (length u)) f ∙ take-at u (drop (length u) bytes) (length u) refl)) (m (not-false _ (allowed 14 _ (both _ _ k .0)))))
+        subst (λ (x : Added). InMind (take (lengthAfter x end) after) near) (sym a)
+        (subst (λ (x : List ℕ). InMind x near) (sym (ap (take (length u)) f ∙ take-at u (drop (length u) bytes) (length u) refl)) (m (not-false _ (allowed 14 _ (both _ _ k .0)))))
     go (suc z) k a f =
-        subst (λ (x : Added). Near (take (lengthAfter x end) after) near) (sym a) (subst (λ (x : List ℕ). Near (take end x) near) (sym f) n)
+        subst (λ (x : Added). InMind (take (lengthAfter x end) after) near) (sym a) (subst (λ (x : List ℕ). InMind (take end x) near) (sym f) n)
 
 -- there is a byte to look for
-pub start-short : (body : ℕ) (name near : List ℕ) (r : Reached) → StartIs body name near r → 0 < length name → r .depth < length name
+pub start-short : (body : ℕ) (name near : List ℕ) (r : ListAt) → StartIs body name near r → 0 < length name → r .depth < length name
 start-short body name near r s h =
-    ⊎-elim (λ z. subst (λ (x : Reached). x .depth < length name) (sym z) h) (λ z. subst (λ (x : Reached). x .depth < length name) (sym (z .0)) (z .1)) s
+    ⊎-elim (λ z. subst (λ (x : ListAt). x .depth < length name) (sym z) h) (λ z. subst (λ (x : ListAt). x .depth < length name) (sym (z .0)) (z .1)) s

@@ -17,7 +17,7 @@ use Rattle.walk.specs.Past.{nodeIn}
 use Rattle.adding.specs.Internal.Grow.{by}
 use Rattle.adding.specs.declared.Edit.{Edit}
 use Rattle.adding.specs.Internal.Edit.{size, editOf}
-use Rattle.adding.specs.Near.{Leads}
+use Rattle.adding.specs.InMind.{LeadsTo}
 use Rattle.adding.specs.Internal.Find.{Stands, Lands, From}
 use Rattle.adding.proofs.Bytes.{inside, byte, after, no-shut, stop-byte, whole-here, list-here, listed-here, node-size, list-past, size-fits}
 
@@ -33,7 +33,7 @@ past-list i k w x (y ∷ p) c is ns h = before _ _ _ h
 
 -- nodes from i on lead where all of them lead
 abbrev pub On : {t name : List ℕ} {at k : ℕ} (v : Stands t name at k) (i : ℕ) (ns : Nodes) → Type 0
-On {at = at} v i ns = (p : Name) (to : ℕ) (is : Nodes) → Leads i (v .number ∷ p) ns to is → Leads at (v .number ∷ p) (v .nodes) to is
+On {at = at} v i ns = (p : Name) (to : ℕ) (is : Nodes) → LeadsTo i (v .number ∷ p) ns to is → LeadsTo at (v .number ∷ p) (v .nodes) to is
 
 -- what holds before the byte at i
 pub record Skips (t : List ℕ) (at byte i w : ℕ) : Type 0 where

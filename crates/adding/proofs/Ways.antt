@@ -17,13 +17,13 @@ use Rattle.adding.specs.declared.Edit.{Edit}
 use Rattle.adding.specs.declared.Edit.the-variants.{Covered, Put, Cut, Full}
 use Rattle.walk.specs.Walk.{wholeAt}
 use Rattle.adding.specs.declared.Skipped.{Skipped}
-use Rattle.adding.specs.declared.Reached.{Reached}
-use Rattle.adding.specs.Near.{Leads}
+use Rattle.adding.specs.declared.ListAt.{ListAt}
+use Rattle.adding.specs.InMind.{LeadsTo}
 use Rattle.adding.specs.Internal.Grow.{grow}
 use Rattle.adding.specs.Internal.Edit.{nameBytes, editOf}
 use Rattle.adding.specs.Internal.EditLaws.{Says, says}
-use Rattle.adding.specs.Internal.Find.{Stands, EditIs, SkipIs, Deep, Led, Way, ReachIs, isFull}
-use Rattle.adding.proofs.Leads.{leads-on, leads-edit, leads-grow, Lists, leads-lists}
+use Rattle.adding.specs.Internal.Find.{Stands, EditIs, SkipIs, Deep, Led, OnWay, ReachIs, becomesWhole}
+use Rattle.adding.proofs.Leads.{leads-on, leads-edit, leads-grow, ListBytes, leads-lists}
 use Rattle.adding.proofs.Finds.{name-byte, byte-some, Holds, holds, name-length}
 
 drop-bytes : (p : Name) (l : Level) (x : ℕ) (r : Name) → drop (suc (length p)) (nameBytes l (x ∷ (p ++ r))) ≡ nameBytes Digits r
@@ -36,7 +36,7 @@ below-at (u ∷ p) y q h = below-at p y q (h .1)
 
 -- an edit of nodes that does not make nine of them whole
 inner-few :
-    {t name : List ℕ} {at k : ℕ} (w : Stands t name at k) (e : Edit) → e ≡ editOf at k 0 (w .number) (w .digits) (w .nodes) → isFull e ≡ false →
+    {t name : List ℕ} {at k : ℕ} (w : Stands t name at k) (e : Edit) → e ≡ editOf at k 0 (w .number) (w .digits) (w .nodes) → becomesWhole e ≡ false →
     wholes (grow (w .number) (w .digits) (w .nodes)) ≡ 9 → ⊥
 inner-few {t} {name} {at} {k} w e f = go e (subst
     (λ (r : Edit). Says name (take at t ++ (render (w .level) (w .nodes) ++ w .rest)) (take at t ++ (render (w .level) (grow (w .number) (w .digits) (w .nodes)) ++ w .rest))
@@ -49,7 +49,7 @@ inner-few {t} {name} {at} {k} w e f = go e (subst
         (r : Edit) →
         Says name (take at t ++ (render (w .level) (w .nodes) ++ w .rest)) (take at t ++ (render (w .level) (grow (w .number) (w .digits) (w .nodes)) ++ w .rest))
         (at + length (render (w .level) (w .nodes))) (0 + wholes (grow (w .number) (w .digits) (w .nodes))) r →
-        isFull r ≡ false → wholes (grow (w .number) (w .digits) (w .nodes)) ≡ 9 → ⊥
+        becomesWhole r ≡ false → wholes (grow (w .number) (w .digits) (w .nodes)) ≡ 9 → ⊥
     go Covered s n q = s .1 (omega arith)
     go (Put a b) s n q = s .6 (omega arith)
     go (Cut a b) s n q = s .7 (omega arith)
@@ -105,7 +105,7 @@ module _ {t name : List ℕ} {body : ℕ} (v : Stands t name body 0) where
   led-stands l = ⊎-elim (λ z. own-stands (z .0) (z .1)) (λ d. deep-stands d) l
 
   -- its edit is that of the text
-  pub led-edit : {at k : ℕ} {e : Edit} → Led v at k → EditIs t name at k e → isFull e ≡ false → e ≡ editOf body 0 0 (v .number) (v .digits) (v .nodes)
+  pub led-edit : {at k : ℕ} {e : Edit} → Led v at k → EditIs t name at k e → becomesWhole e ≡ false → e ≡ editOf body 0 0 (v .number) (v .digits) (v .nodes)
   unfolding own-stands deep-stands
   led-edit {at} {k} {e} l r n = ⊎-elim own deep l
     where
@@ -135,7 +135,7 @@ module _ {t name : List ℕ} {body : ℕ} (v : Stands t name body 0) where
             split = q;
             deep = omega (arith, z .0);
             list = h .list;
-            leads = subst (λ (x : ℕ). Leads x (v .number ∷ []) (v .nodes) (i + 2) (h .list)) (z .1) (h .on [] (i + 2) (h .list) (refl, refl));
+            leads = subst (λ (x : ℕ). LeadsTo x (v .number ∷ []) (v .nodes) (i + 2) (h .list)) (z .1) (h .on [] (i + 2) (h .list) (refl, refl));
           })
   led-down {at} {k} {i} {w} (inr d) h s = go (d .digits) refl (name-length (deep-stands d))
     where
@@ -158,11 +158,11 @@ module _ {t name : List ℕ} {body : ℕ} (v : Stands t name body 0) where
 
   -- the nodes with the cell lead to the same place
   pub deep-grow :
-      {at k : ℕ} {e : Edit} (d : Deep v at k) → EditIs t name at k e → isFull e ≡ false →
-      Leads body (v .number ∷ d .front) (grow (v .number) (v .digits) (v .nodes)) at (grow (d .number) (d .digits) (d .list))
+      {at k : ℕ} {e : Edit} (d : Deep v at k) → EditIs t name at k e → becomesWhole e ≡ false →
+      LeadsTo body (v .number ∷ d .front) (grow (v .number) (v .digits) (v .nodes)) at (grow (d .number) (d .digits) (d .list))
   unfolding deep-stands
   deep-grow {at} {k} {e} d r n =
-      subst (λ (x : Name). Leads body (v .number ∷ d .front) (grow (v .number) x (v .nodes)) at (grow (d .number) (d .digits) (d .list))) (sym (d .split))
+      subst (λ (x : Name). LeadsTo body (v .number ∷ d .front) (grow (v .number) x (v .nodes)) at (grow (d .number) (d .digits) (d .list))) (sym (d .split))
       (leads-grow (v .nodes) (v .level) (v .depth) 0 body (v .number) (d .front) (d .number) (d .digits) at (d .list) (v .good) (d .leads)
       (inner-few (deep-stands d) e (r .is (deep-stands d)) n)
       .0)
@@ -171,10 +171,10 @@ module _ {t name : List ℕ} {body : ℕ} (v : Stands t name body 0) where
 
 pub record Reaching (t name : List ℕ) (from first at k : ℕ) : Type 0 where
   pub short : k < length name
-  pub way : (body : ℕ) × Way t name body at k
+  pub way : (body : ℕ) × OnWay t name body at k
   pub led : (body : ℕ) (v : Stands t name body 0) → Led v from first → Led v at k
 
-pub reach-start : {t name : List ℕ} {from first : ℕ} → first < length name → (body : ℕ) × Way t name body from first → Reaching t name from first from first
+pub reach-start : {t name : List ℕ} {from first : ℕ} → first < length name → (body : ℕ) × OnWay t name body from first → Reaching t name from first from first
 reach-start h w = record { short = h; way = w; led = λ body v l. l }
 
 module _ {t name : List ℕ} {from first at k : ℕ} (r : Reaching t name from first at k) where

@@ -1,2 +1,2 @@
 pub mod Add
-pub mod Near
+pub mod InMind

@@ -1,4 +1,4 @@
 pub mod Add
 pub mod Internal
 pub mod Laws
-pub mod Near
+pub mod InMind

@@ -13,9 +13,9 @@ ghost use Rattle.adding.specs.declared.Added.the-variants.{Refused as Re
 ghost use Rattle.adding.specs.Add.{textWith, addRefusal, placed, added, lengthAfter, Holding, Gains};
 ghost use Rattle.adding.specs.Internal.Become.{Becomes};
 ghost use Rattle.adding.specs.Internal.Edit.{nested, edited, EditFits};
-ghost use Rattle.adding.specs.Near.{Near};
+ghost use Rattle.adding.specs.InMind.{InMind};
 ghost use Rattle.adding.specs.Internal.Find.{runIn, wholeAs, putAs, EndsIn, overAs, SkipIs, Stands, EditIs};
-ghost use Rattle.adding.specs.Internal.Find.{Way, ReachIs, StartIs, isFull, NearEdit};
+ghost use Rattle.adding.specs.Internal.Find.{OnWay, ReachIs, StartIs, becomesWhole, NearEdit};
 ghost use Rattle.adding.specs.Internal.Fit.{breaks as breaksIt};
 use cell::Arrangement;
 use name::Named;
@@ -250,7 +250,7 @@ fn breaks(profile: Profile, face: u8, digits: u64, edit: Edit) -> bool
 }
 
 // A list of the text, by where it begins and how many letters and digits of a name lead to it; 0 is the text's faces.
-pub struct Reached {
+pub struct ListAt {
     pub place: usize,
     pub depth: usize,
 }
@@ -271,7 +271,7 @@ fn same_way(name: &[u8], depth: usize, code: u64) -> bool
 }
 
 // Where to begin: at the faces, or where the last name led to if this one leads there too.
-fn start_near(body: usize, name: &[u8], near: &[u64]) -> Reached
+fn start_near(body: usize, name: &[u8], near: &[u64]) -> ListAt
     requires { ⌜ length (now near) ≡ 3 ⌝ }
     ensures { λ r. ⌜ StartIs body (now (name .entry)) (now (near .entry)) r ⌝ }
 {
@@ -279,19 +279,19 @@ fn start_near(body: usize, name: &[u8], near: &[u64]) -> Reached
     if depth < name.len() {
         if same_way(name, depth, near[2]) {
             let place = near[0] as usize;
-            return Reached { place, depth };
+            return ListAt { place, depth };
         }
     }
-    Reached {
+    ListAt {
         place: body,
         depth: 0,
     }
 }
 
-// Goes down the name's way from a list to the deepest one that is there, but stays above the lists of its last two digits: a flight's next cell most
-// often lies in that one too.
-fn reach(text: &[u8], from: usize, name: &[u8], first: usize) -> Reached
-    requires { ⌜ (length (now text) ≤ 65536) × (length (now name) ≤ 16) × (first < length (now name)) × ((body : ℕ) × Way (now text) (now name) body from first) ⌝ }
+// Goes down the name's way from a list to the deepest one that is there, down to the one in which the last digit but one stands: of a flight's cells the
+// next one most often lies in that list too.
+fn reach(text: &[u8], from: usize, name: &[u8], first: usize) -> ListAt
+    requires { ⌜ (length (now text) ≤ 65536) × (length (now name) ≤ 16) × (first < length (now name)) × ((body : ℕ) × OnWay (now text) (now name) body from first) ⌝ }
     ensures { λ r. ⌜ ReachIs (now (text .entry)) (now (name .entry)) from first r ⌝ }
 {
     let mut at = from;
@@ -301,13 +301,13 @@ fn reach(text: &[u8], from: usize, name: &[u8], first: usize) -> Reached
         let skipped = skip(text, at, byte);
         let i = skipped.place;
         if !stands_at(text, i, byte) {
-            return Reached {
+            return ListAt {
                 place: at,
                 depth: k,
             };
         }
         if walk::whole_at(text, i) {
-            return Reached {
+            return ListAt {
                 place: at,
                 depth: k,
             };
@@ -315,7 +315,7 @@ fn reach(text: &[u8], from: usize, name: &[u8], first: usize) -> Reached
         at = i + 2;
         k += 1;
     }
-    Reached {
+    ListAt {
         place: at,
         depth: k,
     }
@@ -323,7 +323,7 @@ fn reach(text: &[u8], from: usize, name: &[u8], first: usize) -> Reached
 
 // Whether an edit makes all nine nodes of its list whole.
 fn is_full(edit: Edit) -> bool
-    ensures { λ r. ⌜ r ≡ isFull edit ⌝ }
+    ensures { λ r. ⌜ r ≡ becomesWhole edit ⌝ }
 {
     match edit {
         Edit::Covered => false,
@@ -333,17 +333,17 @@ fn is_full(edit: Edit) -> bool
     }
 }
 
-// What makes the text cover the cell, looked for in a list on its way; the list is kept in mind. Where all nine of the list are whole then, the lists
-// above it change too, and all is looked for from the faces on.
+// What makes the text cover the cell, looked for in a list on its way, which is kept in mind. Where all nine of the list are whole then, the lists
+// above it change too: it is looked for from the faces on, and these are kept in mind.
 fn edit_near(
     text: &[u8],
     body: usize,
     name: &[u8],
-    list: Reached,
+    list: ListAt,
     code: u64,
     near: &mut [u64],
 ) -> Edit
-    requires { ⌜ (length (now text) ≤ 65536) × (list .depth < length (now name)) × (length (now near) ≡ 3) × Way (now text) (now name) body (list .place) (list .depth) ⌝ }
+    requires { ⌜ (length (now text) ≤ 65536) × (list .depth < length (now name)) × (length (now near) ≡ 3) × OnWay (now text) (now name) body (list .place) (list .depth) ⌝ }
     ensures { λ r. ⌜ NearEdit (now (text .entry)) (now (name .entry)) body (list .place) (list .depth) code (now (near .exit)) r ⌝ }
 {
     let place = list.place;
@@ -361,12 +361,13 @@ fn edit_near(
 }
 
 // Adds the cell of a code to the text that the first `end` bytes are, which is accepted and is so again: 15 where it would break its profile, 13 or
-// 8 where it would be too long. It is looked for near the one that was looked for last.
+// 8 where it would be too long. It is looked for near the one that was looked for last, which `near` has in mind: a place, a depth and a code. A text's
+// faces may always be in mind: where they begin, 0, and any code.
 pub fn add_near(profile: Profile, text: &mut [u8], end: usize, code: u64, near: &mut [u64]) -> Added
-    requires { ⌜ Holding profile (now text) end × (isCode code ≡ true) × Near (take end (now text)) (now near) ⌝ }
+    requires { ⌜ Holding profile (now text) end × (isCode code ≡ true) × InMind (take end (now text)) (now near) ⌝ }
     ensures { λ r. ⌜ Gains (take end (now (text .entry))) (cellOf code) (now (text .entry)) (now (text .exit)) r ⌝ }
     ensures { λ r. ⌜ Holding profile (now (text .exit)) (lengthAfter r end) ⌝ }
-    ensures { λ r. ⌜ Near (take (lengthAfter r end) (now (text .exit))) (now (near .exit)) ⌝ }
+    ensures { λ r. ⌜ InMind (take (lengthAfter r end) (now (text .exit))) (now (near .exit)) ⌝ }
 {
     let mut name = [0u8; 16];
     let Named::Length(letters) = name::code_name(code, &mut name) else {

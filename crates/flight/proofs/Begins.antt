@@ -25,8 +25,8 @@ use Rattle.writing.specs.declared.Written.{Written}
 use Rattle.writing.specs.declared.Written.the-variants as written-as
 use Rattle.writing.specs.Write.{allCodes, allOf, ordered, codesRefusal, isVersion, textOf, fitRefusal, writeRefusal, textIn, written}
 use Rattle.adding.specs.Add.{textWith, Holding}
-use Rattle.adding.specs.Near.{Near}
-use Rattle.adding.specs.Laws.Near.{near-faces}
+use Rattle.adding.specs.InMind.{InMind}
+use Rattle.adding.specs.Laws.InMind.{near-faces}
 use Rattle.flight.specs.declared.Recording.{Recording}
 use Rattle.flight.specs.Recording.{Records}
 
@@ -91,9 +91,9 @@ module _ (a : Arrangement) (v : IsArrangement a) where
             last = λ z. clash (sym z ∙ no-code);
           }
 
-      pub begin-near : {near : List ℕ} → near ≡ n ∷ 0 ∷ 0 ∷ [] → Near (take n after) near
+      pub begin-near : {near : List ℕ} → near ≡ n ∷ 0 ∷ 0 ∷ [] → InMind (take n after) near
       begin-near {near} q =
           let p = put in
           let i : n ≡ length none = cc in
           let b : bodyStart (take n after) ≡ n = ap (λ (x : List ℕ). headingLength (profileOf x)) begin-text ∙ ap headingLength (read-profile reads) ∙ sym (i ∙ seven) in
-          subst (Near (take n after)) (sym (q ∙ ap (λ (x : ℕ). x ∷ 0 ∷ 0 ∷ []) (sym b))) (near-faces (take n after) 0)
+          subst (InMind (take n after)) (sym (q ∙ ap (λ (x : ℕ). x ∷ 0 ∷ 0 ∷ []) (sym b))) (near-faces (take n after) 0)

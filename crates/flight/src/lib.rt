@@ -9,7 +9,7 @@ ghost use Rattle.code.specs.Code.{isCode, foundCode};
 ghost use Rattle.code.specs.declared.Coded.the-variants.{Code as CodeIs};
 ghost use Rattle.reading.specs.declared.Profile.the-variants.{Full};
 ghost use Rattle.reading.specs.Written.{writtenText};
-ghost use Rattle.adding.specs.Near.{Near};
+ghost use Rattle.adding.specs.InMind.{InMind};
 ghost use Rattle.flight.specs.Setting.{latitudeRefusal, settingRefusal};
 ghost use Rattle.flight.specs.Flight.{lineRefusal, lineCell, noFix, lineCode};
 ghost use Rattle.flight.specs.Recording.{taken, takenText, Records, recordingAfter};
@@ -116,7 +116,7 @@ pub fn begin(arrangement: Arrangement, text: &mut [u8], near: &mut [u64]) -> Rec
     requires { ⌜ IsArrangement arrangement × (65536 ≤ length (now text)) × (length (now near) ≡ 3) ⌝ }
     ensures { λ r. ⌜ take (r .length) (now (text .exit)) ≡ writtenText Full (arrangement .north) (arrangement .south) [] ⌝ }
     ensures { λ r. ⌜ Records (now (text .exit)) r × (length (now (text .exit)) ≡ length (now (text .entry))) ⌝ }
-    ensures { λ r. ⌜ Near (take (r .length) (now (text .exit))) (now (near .exit)) ⌝ }
+    ensures { λ r. ⌜ InMind (take (r .length) (now (text .exit))) (now (near .exit)) ⌝ }
 {
     let none = [0u64; 1];
     let Written::Length(length) = writing::write(1, 15, arrangement, &none[..0], text) else {
@@ -136,11 +136,11 @@ pub fn begin(arrangement: Arrangement, text: &mut [u8], near: &mut [u64]) -> Rec
 
 // Takes the cell of a code into the text: 13 where it would be too long, or 8 for its room. The cell of the last fix is in it already.
 fn take_code(text: &mut [u8], recording: Recording, code: u64, near: &mut [u64]) -> Taken
-    requires { ⌜ Records (now text) recording × (isCode code ≡ true) × Near (take (recording .length) (now text)) (now near) ⌝ }
+    requires { ⌜ Records (now text) recording × (isCode code ≡ true) × InMind (take (recording .length) (now text)) (now near) ⌝ }
     ensures { λ r. ⌜ r ≡ taken (CodeIs code) (length (now (text .entry))) (take (recording .length) (now (text .entry))) ⌝ }
     ensures { λ r. ⌜ now (text .exit) ≡ takenText (CodeIs code) (now (text .entry)) (take (recording .length) (now (text .entry))) ⌝ }
     ensures { λ r. ⌜ Records (now (text .exit)) (recordingAfter r recording) ⌝ }
-    ensures { λ r. ⌜ Near (take (recordingAfter r recording .length) (now (text .exit))) (now (near .exit)) ⌝ }
+    ensures { λ r. ⌜ InMind (take (recordingAfter r recording .length) (now (text .exit))) (now (near .exit)) ⌝ }
 {
     if code == recording.last {
         return Taken::Fix(recording);
@@ -151,7 +151,8 @@ fn take_code(text: &mut [u8], recording: Recording, code: u64, near: &mut [u64])
     }
 }
 
-// Takes the cell of a line's fix into the text: the refusals of `line_code`, and 13 where the text would be too long, or 8 for its room.
+// Takes the cell of a line's fix into the text: the refusals of `line_code`, and 13 where the text would be too long, or 8 for its room. `near` is what
+// `begin` or the line before left there.
 pub fn take_line(
     setting: Setting,
     line: &[u8],
@@ -159,11 +160,11 @@ pub fn take_line(
     recording: Recording,
     near: &mut [u64],
 ) -> Taken
-    requires { ⌜ Records (now text) recording × Near (take (recording .length) (now text)) (now near) ⌝ }
+    requires { ⌜ Records (now text) recording × InMind (take (recording .length) (now text)) (now near) ⌝ }
     ensures { λ r. ⌜ r ≡ taken (lineCode setting (now (line .entry))) (length (now (text .entry))) (take (recording .length) (now (text .entry))) ⌝ }
     ensures { λ r. ⌜ now (text .exit) ≡ takenText (lineCode setting (now (line .entry))) (now (text .entry)) (take (recording .length) (now (text .entry))) ⌝ }
     ensures { λ r. ⌜ Records (now (text .exit)) (recordingAfter r recording) ⌝ }
-    ensures { λ r. ⌜ Near (take (recordingAfter r recording .length) (now (text .exit))) (now (near .exit)) ⌝ }
+    ensures { λ r. ⌜ InMind (take (recordingAfter r recording .length) (now (text .exit))) (now (near .exit)) ⌝ }
 {
     match line_code(setting, line) {
         Coded::Code(code) => take_code(text, recording, code, near),

@@ -1,13 +1,13 @@
 // record n s resolution [eccentricity] [to FILE]: reads a flight, a line `longitude z` for each fix, and writes the coverage text of the cells flown.
 // With an eccentricity the lines are `longitude sine` (02 W-203). With a file the text so far is in it too, after each minute's worth of lines. The
-// text is all that is held. record settings FILE [REVISION] [to FILE]: the same with the settings of a revision, the newest if none is given (02 W-209).
+// text is all that is held of it. record settings FILE [REVISION] [to FILE]: the same with the settings of a revision, the newest if none is given (02 W-209).
 ghost use mathlib.Core.Path.{_≡_};
 ghost use mathlib.Core.Logic.{_⊎_};
 ghost use mathlib.Core.Bool.{false};
 ghost use Prim.Native.Nat.{_+_, _≤_, _<_};
 ghost use lib.ListN.{length, take};
 ghost use Rattle.lines.specs.Fold.{OfBytes};
-ghost use Rattle.adding.specs.Near.{Near};
+ghost use Rattle.adding.specs.InMind.{InMind};
 ghost use Rattle.flight.specs.Setting.{settingRefusal};
 ghost use Rattle.flight.specs.Flight.{lineCode};
 ghost use Rattle.flight.specs.Recording.{taken, Records, withLine, started};
@@ -45,7 +45,7 @@ fn begin(setting: Setting, text: &mut [u8], near: &mut [u64]) -> Flight
     requires { ⌜ (settingRefusal setting ≡ 0) × (65536 ≤ length (now text)) × (length (now near) ≡ 3) ⌝ }
     ensures { λ r. ⌜ flownOf (now (text .exit)) r ≡ started setting ⌝ }
     ensures { λ r. ⌜ Records (now (text .exit)) (r .recording) × (length (now (text .exit)) ≡ length (now (text .entry))) × (r .changed ≡ false) ⌝ }
-    ensures { λ r. ⌜ Near (take (r .recording .length) (now (text .exit))) (now (near .exit)) ⌝ }
+    ensures { λ r. ⌜ InMind (take (r .recording .length) (now (text .exit))) (now (near .exit)) ⌝ }
 {
     let recording = flight::begin(setting.arrangement, text, near);
     Flight {
@@ -134,9 +134,9 @@ fn record_line(
     near: &mut [u64],
     waits: &mut [u64],
 ) -> Flight
-    requires { ⌜ Records (now text) (flight .recording) × (number ≡ lineCount flight + 1) × Near (take (flight .recording .length) (now text)) (now near) ⌝ }
+    requires { ⌜ Records (now text) (flight .recording) × (number ≡ lineCount flight + 1) × InMind (take (flight .recording .length) (now text)) (now near) ⌝ }
     ensures { λ r. ⌜ flownOf (now (text .exit)) r ≡ withLine setting (length (now (text .entry))) (flownOf (now (text .entry)) flight) (now (line .entry)) ⌝ }
-    ensures { λ r. ⌜ Records (now (text .exit)) (r .recording) × Near (take (r .recording .length) (now (text .exit))) (now (near .exit)) ⌝ }
+    ensures { λ r. ⌜ Records (now (text .exit)) (r .recording) × InMind (take (r .recording .length) (now (text .exit))) (now (near .exit)) ⌝ }
     ensures { λ r. ⌜ Noted (now (text .entry)) flight (now (text .exit)) r ⌝ }
     ensures { λ _. ⌜ now (waits .exit) ≡ waitsAfter number (taken (lineCode setting (now (line .entry))) (length (now (text .entry))) (take (flight .recording .length) (now (text .entry)))) (now (waits .entry)) ⌝ }
 {
@@ -195,7 +195,7 @@ fn record_all(
     near: &mut [u64],
     waits: &mut [u64],
 ) -> Flight
-    requires { ⌜ (43 ≤ length (now room)) × Records (now text) (first .recording) × (flownOf (now text) first ≡ started setting) × (length (now path) ≤ 4096) × Near (take (first .recording .length) (now text)) (now near) ⌝ }
+    requires { ⌜ (43 ≤ length (now room)) × Records (now text) (first .recording) × (flownOf (now text) first ≡ started setting) × (length (now path) ≤ 4096) × InMind (take (first .recording .length) (now text)) (now near) ⌝ }
     ensures { λ r. ⌜ OfBytes (withLine setting (length (now (text .entry)))) (started setting) (flownOf (now (text .exit)) r) ⌝ }
     ensures { λ r. ⌜ Records (now (text .exit)) (r .recording) ⌝ }
 {

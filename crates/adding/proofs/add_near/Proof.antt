@@ -13,7 +13,7 @@ use Rattle.code.specs.Laws.Code.{code-is-cell}
 use Rattle.reading.specs.TextReading.{bodyStart}
 use Rattle.adding.specs.declared.Edit.{Edit}
 use Rattle.adding.specs.Add.{textWith, keepsWith}
-use Rattle.adding.specs.Near.{Near}
+use Rattle.adding.specs.InMind.{InMind}
 use Rattle.adding.specs.Internal.Find.{Stands, Led, NearEdit}
 use Rattle.adding.specs.Internal.WithLaws.{textEdit}
 use Rattle.adding.proofs.Names.{Spelt, not-nameless, name-spelt, start, add-fits, add-breaks, add-gains}
@@ -91,7 +91,7 @@ edit-of c near e x =
     near-edit (text-at s) (s .pre .0 .text) (cell-at s) (is-cell s) _ (spelt (h .before .before) .is) (begins h) (s .args .code) refl (reached c) x
 
 -- what is kept, for the text
-keeps : (c : tie.After-reach) (near : List ℕ) (e : Edit) → Looked c near e → Near (text-at (from-body (from-reach c))) near
+keeps : (c : tie.After-reach) (near : List ℕ) (e : Edit) → Looked c near e → InMind (text-at (from-body (from-reach c))) near
 unfolding nodes
 keeps c near e x =
     let h = from-reach c in
@@ -101,7 +101,7 @@ keeps c near e x =
 -- and for the text with the cell
 keeps-with :
     (c : tie.After-reach) (near : List ℕ) (e : Edit) → Looked c near e → let s = from-body (from-reach c) in
-    keepsWith (text-at s) (cell-at s) ≡ true → Near (textWith (text-at s) (cell-at s)) near
+    keepsWith (text-at s) (cell-at s) ≡ true → InMind (textWith (text-at s) (cell-at s)) near
 unfolding nodes
 keeps-with c near e x =
     let h = from-reach c in

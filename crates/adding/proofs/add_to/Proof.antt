@@ -4,8 +4,8 @@ use mathlib.Core.List.{[], _∷_}
 use Prim.Native.Nat.{ℕ}
 use lib.ListN.{take}
 use Rattle.reading.specs.Text.{headingLength}
-use Rattle.adding.specs.Near.{Near}
-use Rattle.adding.specs.Laws.Near.{near-faces}
+use Rattle.adding.specs.InMind.{InMind}
+use Rattle.adding.specs.Laws.InMind.{near-faces}
 use native.Mathlib.Omega.{arith}
 use borrow.Author.Needs.{needs}
 use Rattle.adding.proofs.add_to.Statement.{statement}
@@ -26,7 +26,7 @@ add-near-requires c κs =
     let t = take (s .args .end) (s .args .text .now) in (
       s .pre .0,
       s .pre .1,
-      subst (λ (x : ℕ). Near t (x ∷ 0 ∷ 0 ∷ [])) (ap headingLength (s .pre .0 .profiled) ∙ sym (c .before .before .heading-length .ensures)) (near-faces t 0),
+      subst (λ (x : ℕ). InMind t (x ∷ 0 ∷ 0 ∷ [])) (ap headingLength (s .pre .0 .profiled) ∙ sym (c .before .before .heading-length .ensures)) (near-faces t 0),
     )
 
 same-length : tie.Need-same-length

@@ -2,7 +2,7 @@
 use mathlib.Core.Path.{refl, sym, _∙_}
 use mathlib.Core.Logic.{inl, inr}
 use Rattle.adding.proofs.Ways.{led-stands, led-edit}
-use Rattle.adding.specs.Laws.Near.{three}
+use Rattle.adding.specs.Laws.InMind.{three}
 use native.Mathlib.Omega.{arith}
 use borrow.Author.Needs.{needs}
 use Rattle.adding.proofs.edit_near.Statement.{statement}

@@ -17,9 +17,9 @@ use Rattle.walk.specs.Walk.{wholeAt}
 use Rattle.adding.specs.declared.Edit.{Edit}
 use Rattle.adding.specs.declared.Edit.the-variants.{Covered, Put, Cut, Full}
 use Rattle.adding.specs.declared.Skipped.{Skipped}
-use Rattle.adding.specs.declared.Reached.{Reached}
+use Rattle.adding.specs.declared.ListAt.{ListAt}
 use Rattle.adding.specs.Internal.Edit.{nameBytes, editOf}
-use Rattle.adding.specs.Near.{Leads}
+use Rattle.adding.specs.InMind.{LeadsTo}
 
 -- the letters or digits of whole nodes that stand first
 unfoldable pub runIn : List ℕ → ℕ
@@ -79,7 +79,7 @@ pub record Lands {t name : List ℕ} {at k : ℕ} (v : Stands t name at k) (i w 
   pub good : Good (v .level) (v .depth) lo nodes
   pub low : lo ≤ v .number
   pub same : editOf at k 0 (v .number) (v .digits) (v .nodes) ≡ editOf i k w (v .number) (v .digits) nodes
-  pub on : (p : Name) (to : ℕ) (is : Nodes) → Leads i (v .number ∷ p) nodes to is → Leads at (v .number ∷ p) (v .nodes) to is
+  pub on : (p : Name) (to : ℕ) (is : Nodes) → LeadsTo i (v .number ∷ p) nodes to is → LeadsTo at (v .number ∷ p) (v .nodes) to is
 
 -- none of the nodes is before x
 abbrev pub From : ℕ → Nodes → Type 0
@@ -102,31 +102,31 @@ pub record Deep {t name : List ℕ} {body : ℕ} (v : Stands t name body 0) (at 
   pub split : v .digits ≡ front ++ (number ∷ digits)
   pub deep : k ≡ suc (length front)
   pub list : Nodes
-  pub leads : Leads body (v .number ∷ front) (v .nodes) at list
+  pub leads : LeadsTo body (v .number ∷ front) (v .nodes) at list
 
 -- or none of them: the nodes themselves
 abbrev pub Led : {t name : List ℕ} {body : ℕ} (v : Stands t name body 0) (at k : ℕ) → Type 0
 Led {body = body} v at k = ((k ≡ 0) × (at ≡ body)) ⊎ Deep v at k
 
 -- there are such nodes
-pub record Way (t name : List ℕ) (body at k : ℕ) : Type 0 where
+pub record OnWay (t name : List ℕ) (body at k : ℕ) : Type 0 where
   pub stands : Stands t name body 0
   pub led : Led stands at k
 
 -- further down the same way
-pub record ReachIs (t name : List ℕ) (at k : ℕ) (r : Reached) : Type 0 where
+pub record ReachIs (t name : List ℕ) (at k : ℕ) (r : ListAt) : Type 0 where
   pub short : r .depth < length name
   pub led : {body : ℕ} (v : Stands t name body 0) → Led v at k → Led v (r .place) (r .depth)
 
 -- an edit that makes all nine nodes of its list whole
-abbrev pub isFull : Edit → Bool
-isFull Covered = false
-isFull (Put a k) = false
-isFull (Cut a b) = false
-isFull (Full e) = true
+abbrev pub becomesWhole : Edit → Bool
+becomesWhole Covered = false
+becomesWhole (Put a k) = false
+becomesWhole (Cut a b) = false
+becomesWhole (Full e) = true
 
 -- where to begin: at the nodes themselves, or where the last name led, whose first bytes are this name's too
-abbrev pub StartIs : (body : ℕ) (name near : List ℕ) → Reached → Type 0
+abbrev pub StartIs : (body : ℕ) (name near : List ℕ) → ListAt → Type 0
 StartIs body name near r =
     (r ≡ record { place = body; depth = 0 })
     ⊎ ((r ≡ record { place = getD near 0 0; depth = getD near 1 0 }) × (getD near 1 0 < length name)
@@ -135,4 +135,4 @@ StartIs body name near r =
 -- the edit of the text, and what is kept of the way to it
 pub record NearEdit (t name : List ℕ) (body at k code : ℕ) (near : List ℕ) (r : Edit) : Type 0 where
   pub is : (v : Stands t name body 0) → Led v at k → r ≡ editOf body 0 0 (v .number) (v .digits) (v .nodes)
-  pub kept : (near ≡ body ∷ 0 ∷ code ∷ []) ⊎ ((near ≡ at ∷ k ∷ code ∷ []) × (isFull r ≡ false) × EditIs t name at k r)
+  pub kept : (near ≡ body ∷ 0 ∷ code ∷ []) ⊎ ((near ≡ at ∷ k ∷ code ∷ []) × (becomesWhole r ≡ false) × EditIs t name at k r)

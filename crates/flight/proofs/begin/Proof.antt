@@ -1,6 +1,6 @@
 -- `flight::begin` meets its contract. Assumes nothing.
 use Rattle.flight.proofs.Begins.{begin-not, begin-text, begin-long, begin-records, begin-near}
-use Rattle.adding.specs.Laws.Near.{three}
+use Rattle.adding.specs.Laws.InMind.{three}
 use lib.ListN.{set, length-set}
 use native.Mathlib.Omega.{arith}
 use borrow.Author.Needs.{needs}

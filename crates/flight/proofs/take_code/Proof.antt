@@ -3,7 +3,7 @@ use mathlib.Core.Path.{subst}
 use lib.ListN.{take}
 use Rattle.adding.specs.declared.Added.{Added}
 use Rattle.adding.specs.Add.{lengthAfter, Holding, Gains}
-use Rattle.adding.specs.Near.{Near}
+use Rattle.adding.specs.InMind.{InMind}
 use Rattle.reading.specs.declared.Profile.the-variants.{Full}
 use Rattle.flight.proofs.Takes.{takes-last, takes-added, takes-refused}
 use native.Mathlib.Omega.{arith}
@@ -40,7 +40,7 @@ returns-2 c =
     let t =
     takes-added (s .args .text .now) (s .args .recording) (s .pre .0) (s .args .code) (s .pre .1) (subst (Gains _ _ _ _) e (d .ensures .0))
     (subst (λ (x : Added). Holding Full (d .last .1 .0) (lengthAfter x (s .args .recording .length))) e (d .ensures .1 .0)) in
-    (t .0, (t .1 .0, (t .1 .1, subst (λ (x : Added). Near (take (lengthAfter x (s .args .recording .length)) (d .last .1 .0)) (d .last .1 .1 .1 .1 .0)) e (d .ensures .1 .1))))
+    (t .0, (t .1 .0, (t .1 .1, subst (λ (x : Added). InMind (take (lengthAfter x (s .args .recording .length)) (d .last .1 .0)) (d .last .1 .1 .1 .1 .0)) e (d .ensures .1 .1))))
 
 same-length-3 : tie.Need-same-length-3
 same-length-3 c = search needs
@@ -54,7 +54,7 @@ returns-3 c =
     let e = c .before .refusal .given .1 in
     let d = c .before .before .before .before .before .before .before .add-near in
     let t = takes-refused (s .args .text .now) (s .args .recording) (s .pre .0) (s .args .code) (s .pre .1) (subst (Gains _ _ _ _) e (d .ensures .0)) in
-    (t .0, (t .1 .0, (t .1 .1, subst (λ (x : Added). Near (take (lengthAfter x (s .args .recording .length)) (d .last .1 .0)) (d .last .1 .1 .1 .1 .0)) e (d .ensures .1 .1))))
+    (t .0, (t .1 .0, (t .1 .1, subst (λ (x : Added). InMind (take (lengthAfter x (s .args .recording .length)) (d .last .1 .0)) (d .last .1 .1 .1 .1 .0)) e (d .ensures .1 .1))))
 
 pub take-code-spec : {M : Type 1} → statement M
 take-code-spec =

@@ -5,7 +5,7 @@ use lib.ListN.{length, take}
 use lib.Seq.{length-take-le}
 use Rattle.lines.specs.Fold.{OfEnded}
 use Rattle.lines.specs.Laws.Fold.{no-line, then-none}
-use Rattle.adding.specs.Near.{Near}
+use Rattle.adding.specs.InMind.{InMind}
 use Rattle.flight.specs.declared.Recording.{Recording}
 use Rattle.flight.specs.Recording.{Records, counted, withLine, started}
 use Rattle.flight.specs.Laws.Recording.{line-once}
@@ -22,7 +22,7 @@ abbrev Inv-loop : tie.InvT-loop
 Inv-loop setting path bytes₀ room₀ text₀ near₀ waits₀ from₀ end₀ flight₀ number₀ t17 bytes room text near waits from end flight number =
     (from ≤ end) × (end ≤ length bytes) × Records text (flight .recording) × (length bytes ≡ length bytes₀) × (length room ≡ length room₀) × (length text ≡ length text₀)
     × (lineCount flight ≡ number) × OfEnded (withLine setting (length text₀)) (started setting) (flownOf text flight) × (length waits ≡ length waits₀)
-    × (length near ≡ length near₀) × Near (take (flight .recording .length) text) near
+    × (length near ≡ length near₀) × InMind (take (flight .recording .length) text) near
 
 abbrev μ-loop : tie.MeasureT-loop
 μ-loop setting path bytes₀ room₀ text₀ near₀ waits₀ from₀ end₀ flight₀ number₀ t17 bytes room text near waits from end flight number = 18446744073709551615 - number
@@ -111,7 +111,7 @@ loop-again c =
       subst (OfEnded (withLine (a .setting) (length (a .text .now))) (started (a .setting))) (sym (kept-flown k (d .last .1 .1 .1 .0))) v,
       omega (arith, d .kept .1 .1 .1 .1 .1 .1 .0, l .inv .8),
       omega (arith, d .kept .1 .1 .1 .1 .1 .0, l .inv .9),
-      subst (λ (m : Recording). Near (take (m .length) (d .last .1 .1 .1 .0)) (d .last .1 .1 .1 .1 .1 .0)) (sym (kept-recording k)) (q .1 .0 .1),
+      subst (λ (m : Recording). InMind (take (m .length) (d .last .1 .1 .1 .0)) (d .last .1 .1 .1 .1 .1 .0)) (sym (kept-recording k)) (q .1 .0 .1),
     )
 
 enum-known-length-2 : tie.Need-enum-known-length-2 Inv-loop μ-loop

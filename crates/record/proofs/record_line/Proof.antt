@@ -1,7 +1,7 @@
 -- `record_line` meets its contract: a fix that was taken, or a refused line. Assumes nothing.
 use mathlib.Core.Path.{sym, ap, _∙_, subst}
 use lib.ListN.{take}
-use Rattle.adding.specs.Near.{Near}
+use Rattle.adding.specs.InMind.{InMind}
 use Rattle.flight.specs.declared.Recording.{Recording}
 use Rattle.flight.specs.declared.Taken.{Taken}
 use Rattle.flight.specs.Recording.{Records, recordingAfter}
@@ -47,8 +47,8 @@ returns c =
       (
         (
           subst (Records (t .last .1 .1 .0)) (sym (d .0)) (subst (λ (x : Taken). Records (t .last .1 .1 .0) (recordingAfter x (a .flight .recording))) e (t .ensures .1 .1 .0)),
-          subst (λ (m : Recording). Near (take (m .length) (t .last .1 .1 .0)) (t .last .1 .1 .1 .1 .0)) (sym (d .0))
-              (subst (λ (x : Taken). Near (take (recordingAfter x (a .flight .recording) .length) (t .last .1 .1 .0)) (t .last .1 .1 .1 .1 .0)) e (t .ensures .1 .1 .1)),
+          subst (λ (m : Recording). InMind (take (m .length) (t .last .1 .1 .0)) (t .last .1 .1 .1 .1 .0)) (sym (d .0))
+              (subst (λ (x : Taken). InMind (take (recordingAfter x (a .flight .recording) .length) (t .last .1 .1 .0)) (t .last .1 .1 .1 .1 .0)) e (t .ensures .1 .1 .1)),
         ),
         (
           fix-noted (a .setting) (a .line .now) (a .text .now) (t .last .1 .1 .0) (a .flight) (c .with-fix .result) _ (s .pre .0)
@@ -78,8 +78,8 @@ returns-2 c =
       (
         (
           subst (Records (t .last .1 .1 .0)) (sym (d .0)) (subst (λ (x : Taken). Records (t .last .1 .1 .0) (recordingAfter x (a .flight .recording))) e (t .ensures .1 .1 .0)),
-          subst (λ (m : Recording). Near (take (m .length) (t .last .1 .1 .0)) (t .last .1 .1 .1 .1 .0)) (sym (d .0))
-              (subst (λ (x : Taken). Near (take (recordingAfter x (a .flight .recording) .length) (t .last .1 .1 .0)) (t .last .1 .1 .1 .1 .0)) e (t .ensures .1 .1 .1)),
+          subst (λ (m : Recording). InMind (take (m .length) (t .last .1 .1 .0)) (t .last .1 .1 .1 .1 .0)) (sym (d .0))
+              (subst (λ (x : Taken). InMind (take (recordingAfter x (a .flight .recording) .length) (t .last .1 .1 .0)) (t .last .1 .1 .1 .1 .0)) e (t .ensures .1 .1 .1)),
         ),
         (
           refused-noted (a .setting) (a .line .now) (a .text .now) (t .last .1 .1 .0) (a .flight) (c .with-refused .result) _ (sym e ∙ t .ensures .0) (t .ensures .1 .0) d,

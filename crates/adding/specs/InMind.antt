@@ -11,14 +11,14 @@ use Rattle.reading.specs.Prefix.{Name, numbersOf}
 use Rattle.reading.specs.TextReading.{nodesOf, bodyStart}
 
 -- from nodes at place i these numbers, each in the list of the one before it, lead to the list `is`, at the place `at`
-abbrev pub Leads : (i : ℕ) → Name → Nodes → (at : ℕ) → Nodes → Type 0
-Leads i [] ns at is = (at ≡ i) × (is ≡ ns)
-Leads i (x ∷ p) end at is = ⊥
-Leads i (x ∷ p) (whole c ns) at is = Leads (i + 1) (x ∷ p) ns at is
-Leads i (x ∷ p) (listed c js ns) at is = ((c ≡ x) × Leads (i + 2) p js at is) ⊎ Leads (i + (length (render Digits js) + 3)) (x ∷ p) ns at is
+abbrev pub LeadsTo : (i : ℕ) → Name → Nodes → (at : ℕ) → Nodes → Type 0
+LeadsTo i [] ns at is = (at ≡ i) × (is ≡ ns)
+LeadsTo i (x ∷ p) end at is = ⊥
+LeadsTo i (x ∷ p) (whole c ns) at is = LeadsTo (i + 1) (x ∷ p) ns at is
+LeadsTo i (x ∷ p) (listed c js ns) at is = ((c ≡ x) × LeadsTo (i + 2) p js at is) ⊎ LeadsTo (i + (length (render Digits js) + 3)) (x ∷ p) ns at is
 
 -- three numbers, a place, a depth and a code: so many leading numbers of the code's name lead to a list of the text, at the place
-pub record Near (t near : List ℕ) : Type 0 where
+pub record InMind (t near : List ℕ) : Type 0 where
   pub long : length near ≡ 3
   pub list : Nodes
-  pub leads : Leads (bodyStart t) (take (getD near 1 0) (numbersOf (cellOf (getD near 2 0)))) (nodesOf t) (getD near 0 0) list
+  pub leads : LeadsTo (bodyStart t) (take (getD near 1 0) (numbersOf (cellOf (getD near 2 0)))) (nodesOf t) (getD near 0 0) list
