@@ -7,19 +7,12 @@ mod plain;
 
 use plain::adding::add_to;
 use plain::coverage::LONGEST;
-use plain::lines::code;
+use plain::lines::{code, setting};
 use plain::writing::{write, FULL};
 use std::io::{BufRead, Write};
 
 fn main() {
-    let numbers: Vec<u64> = std::env::args()
-        .skip(1)
-        .map_while(|word| word.parse().ok())
-        .collect();
-    let [n @ 0..=3, s @ 0..=3, resolution @ 0..=15] = numbers[..] else {
-        eprintln!("usage: record n s resolution");
-        std::process::exit(2);
-    };
+    let [n, s, resolution] = setting("record");
     let mut text = write(FULL, n, s, &[]);
     let (mut length, mut last) = (text.len(), None);
     text.resize(LONGEST, 0);

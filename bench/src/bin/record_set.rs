@@ -6,20 +6,13 @@
 mod plain;
 
 use plain::coverage::LONGEST;
-use plain::lines::code;
+use plain::lines::{code, setting};
 use plain::writing::{write, FULL};
 use std::collections::BTreeSet;
 use std::io::{Read, Write};
 
 fn main() {
-    let numbers: Vec<u64> = std::env::args()
-        .skip(1)
-        .map_while(|word| word.parse().ok())
-        .collect();
-    let [n @ 0..=3, s @ 0..=3, resolution @ 0..=15] = numbers[..] else {
-        eprintln!("usage: record_set n s resolution");
-        std::process::exit(2);
-    };
+    let [n, s, resolution] = setting("record_set");
     let mut flight = Vec::new();
     std::io::stdin()
         .read_to_end(&mut flight)
