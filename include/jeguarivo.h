@@ -214,8 +214,7 @@ jgv_settings_answer jgv_settings_read(jgv_history history, uint64_t revision);
 /* What two texts of one arrangement cover, each as the fewest cells in rising order: only the first to `firsts`, only the second to
  * `seconds`, both to `boths`; how many cells each listing has, and the sum of their sizes. First only and both add up to the first text's
  * size, second only and both to the second's. The texts may differ in version and depth. Refusals: 13, 10, 9 of the first text, then of the
- * second, 14 where n or s differ, 8 where any room is short. Rooms of three codes for each byte of both texts are always enough, and then it
- * takes one pass less. */
+ * second, 14 where n or s differ, 8 where any room is short. */
 jgv_compare jgv_coverage_compare(const uint8_t *first, size_t first_length, const uint8_t *second, size_t second_length, uint64_t *firsts,
                                  size_t first_room, uint64_t *seconds, size_t second_room, uint64_t *boths, size_t both_room);
 

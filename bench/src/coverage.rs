@@ -13,7 +13,7 @@ use crate::plain::summary::{summary, summary_ask};
 use crate::plain::writing::{coverage_write, write as written, FULL};
 use jeguarivo::{
     jgv_coverage_ask, jgv_coverage_check, jgv_coverage_compare, jgv_coverage_list,
-    jgv_coverage_write, jgv_sheet_check, jgv_sheet_write, jgv_summary, jgv_summary_ask, lent,
+    jgv_coverage_write, jgv_sheet_check, jgv_sheet_write, jgv_summary, jgv_summary_ask,
 };
 use std::cell::RefCell;
 
@@ -40,8 +40,7 @@ pub fn run(plan: Plan, random: &mut Random) -> Vec<Row> {
         list,
         ask,
         write,
-        compare_in_rooms,
-        compare_measured,
+        compare_two,
         summarize,
         check_sheet,
         write_sheet,
@@ -162,27 +161,9 @@ fn write(plan: Plan, at: &Text) -> Vec<Row> {
     compare(plan, Work::new(&name, at.text.len()), sides)
 }
 
-/// Where rooms are always enough, nothing is measured before the listings are written.
-fn compare_in_rooms(plan: Plan, at: &Text) -> Vec<Row> {
-    let room = 3 * (at.text.len() + at.other.len());
-    let name = format!("compare two of {} KiB, a byte", at.size);
-    compare_two(plan, at, &name, [room; 3])
-}
-
-/// Rooms that are just as long as the listings: these are measured first.
-fn compare_measured(plan: Plan, at: &Text) -> Vec<Row> {
-    let (first, second) = (&at.text, &at.other);
-    let mut rooms = [(); 3].map(|_| vec![0; 3 * (first.len() + second.len())]);
-    let [firsts, seconds, boths] = rooms.each_mut();
-    let answer = lent::coverage_compare(first, second, firsts, seconds, boths);
-    let counts = [answer.first_cells, answer.second_cells, answer.both_cells];
-    let name = format!("compare two of {} KiB, measured first, a byte", at.size);
-    compare_two(plan, at, &name, counts.map(|count| count as usize))
-}
-
-fn compare_two(plan: Plan, at: &Text, name: &str, rooms: [usize; 3]) -> Vec<Row> {
+fn compare_two(plan: Plan, at: &Text) -> Vec<Row> {
     let both = at.text.len() + at.other.len();
-    let rooms = RefCell::new(rooms.map(|room| vec![0; room]));
+    let rooms = RefCell::new([(); 3].map(|_| vec![0; 3 * both]));
     let pass = |compare: CoverageCompare, _| {
         let mut rooms = rooms.borrow_mut();
         let [firsts, seconds, boths] = rooms.each_mut();
@@ -210,7 +191,8 @@ fn compare_two(plan: Plan, at: &Text, name: &str, rooms: [usize; 3]) -> Vec<Row>
     }
     assert!(all[0] == all[1], "the listings differ");
     let sides = pair::<CoverageCompare>(GOAL, jgv_coverage_compare, coverage_compare, pass);
-    compare(plan, Work::new(name, both), sides)
+    let name = format!("compare two of {} KiB, a byte", at.size);
+    compare(plan, Work::new(&name, both), sides)
 }
 
 /// The sheet of our rules, as both sides write it.

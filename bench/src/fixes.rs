@@ -4,7 +4,7 @@ use crate::inputs::{codes, Points, Random};
 use crate::library::{FixCode, Fold, GeodeticCode, GeodeticZ, GroundNucleus};
 use crate::measure::{compare, pair, Plan, Row, Side, Work};
 use crate::plain::fixes::{
-    fix_code, geodetic_code, geodetic_code_divided, geodetic_z, geodetic_z_divided, ground_nucleus,
+    fix_code, geodetic_code, geodetic_z, geodetic_z_divided, ground_nucleus,
 };
 use jeguarivo::{jgv_fix_code, jgv_geodetic_code, jgv_geodetic_z, jgv_ground_nucleus};
 use std::hint::black_box;
@@ -135,18 +135,10 @@ fn geodetic(plan: Plan, random: &mut Random, count: usize) -> Vec<Row> {
         }),
     });
     let mut rows = compare(plan, Work::new("geodetic sine to z, WGS84", count), sides);
-    let pass = |entry: GeodeticCode, _| {
+    let sides = pair::<GeodeticCode>(Some(1.1), jgv_geodetic_code, geodetic_code, |entry, _| {
         sines.iter().fold(0, |sum, &(longitude, sine)| {
             entry(0, 0, 15, longitude, sine, WGS84).fold(sum)
         })
-    };
-    let mut sides = pair::<GeodeticCode>(Some(1.0), jgv_geodetic_code, geodetic_code, pass);
-    let divided: GeodeticCode = geodetic_code_divided;
-    sides.push(Side {
-        name: "plain Rust, dividing u128",
-        same: false,
-        goal: Some(1.0),
-        pass: Box::new(move |turn| pass(black_box(divided), turn)),
     });
     let work = Work::new("geodetic fix to code, resolution 15, WGS84", count);
     rows.extend(compare(plan, work, sides));

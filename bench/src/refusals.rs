@@ -7,7 +7,7 @@ use crate::plain::codes::{cell_code, code_cell, code_name, name_code};
 use crate::plain::comparing::coverage_compare;
 use crate::plain::coverage::{coverage_ask, coverage_check, coverage_list};
 use crate::plain::fixes::{
-    fix_code, geodetic_code, geodetic_code_divided, geodetic_z, geodetic_z_divided, ground_nucleus,
+    fix_code, geodetic_code, geodetic_z, geodetic_z_divided, ground_nucleus,
 };
 use crate::plain::neighbour::neighbour;
 use crate::plain::plotter::{frame_first, frame_grow, mark_code, mark_point};
@@ -128,17 +128,11 @@ fn geodetic(random: &mut Random, n: u64, s: u64, k: u64, longitude: i64, z: i64)
     let divided = geodetic_z_divided(sine, eccentricity);
     let near = divided.refusal == library.refusal && divided.z.abs_diff(library.z) <= 1;
     same("geodetic sine by a division, within 1", true, near);
-    let library = jgv_geodetic_code(n, s, k, longitude, sine, eccentricity);
-    let plain = geodetic_code(n, s, k, longitude, sine, eccentricity);
-    same("geodetic fix", library, plain);
-    let beside = geodetic_code_divided(n, s, k, longitude, sine, eccentricity);
-    let of_divided = fix_code(n, s, k, longitude, divided.z);
-    let expected = if divided.refusal == 0 {
-        of_divided
-    } else {
-        library
-    };
-    same("geodetic fix by a division", expected, beside);
+    same(
+        "geodetic fix",
+        jgv_geodetic_code(n, s, k, longitude, sine, eccentricity),
+        geodetic_code(n, s, k, longitude, sine, eccentricity),
+    );
 }
 
 /// Any number of metres: an end of the range or a double beside it, a number within it, or any double.

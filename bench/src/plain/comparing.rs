@@ -1,6 +1,5 @@
-//! What two texts cover: both are gone over at once, cell by cell, and a cell is looked into where one of them has a list for it, one
-//! text alone where the other has nothing. First the listings are counted, then they are written; three codes for each byte of the texts are
-//! always room enough, and then they are only written.
+//! What two texts cover: both are gone over at once, cell by cell, and a cell is looked into where one of them has a list for it. First the
+//! listings are counted, then they are written.
 
 use super::coverage::checked;
 use super::NINE;
@@ -57,15 +56,6 @@ impl<'a> Listing<'a> {
             size: 0,
         }
     }
-
-    fn put(&mut self, arrangement: u64, resolution: u64, number: u64) {
-        let size = NINE[15 - resolution as usize];
-        if let Some(code) = self.codes.get_mut(self.count) {
-            *code = (number * size) << 8 | resolution << 4 | arrangement;
-        }
-        self.count += 1;
-        self.size += size;
-    }
 }
 
 struct Comparison<'a> {
@@ -97,24 +87,6 @@ impl Comparison<'_> {
     }
 
     fn inside(&mut self, x: Portion, y: Portion, resolution: u64, number: u64) {
-        if x == Portion::Nothing {
-            return alone(
-                &mut self.second,
-                &mut self.listings[1],
-                self.arrangement,
-                resolution,
-                number,
-            );
-        }
-        if y == Portion::Nothing {
-            return alone(
-                &mut self.first,
-                &mut self.listings[0],
-                self.arrangement,
-                resolution,
-                number,
-            );
-        }
         self.children(x, y, b'0'..b'9', resolution + 1, number * 9);
         for (portion, cursor) in [(x, &mut self.first), (y, &mut self.second)] {
             if portion == Portion::List {
@@ -130,30 +102,12 @@ impl Comparison<'_> {
             (Portion::Nothing, _) => &mut self.listings[1],
             _ => &mut self.listings[2],
         };
-        listing.put(self.arrangement, resolution, number);
-    }
-}
-
-/// The whole cells of a list, up to its `)`, where the other text has nothing.
-fn alone(
-    cursor: &mut Cursor,
-    listing: &mut Listing,
-    arrangement: u64,
-    resolution: u64,
-    number: u64,
-) {
-    while let Some(&byte) = cursor.text.get(cursor.at) {
-        cursor.at += 1;
-        if byte == b')' {
-            return;
+        let size = NINE[15 - resolution as usize];
+        if let Some(code) = listing.codes.get_mut(listing.count) {
+            *code = (number * size) << 8 | resolution << 4 | self.arrangement;
         }
-        let child = number * 9 + (byte - b'0') as u64;
-        if cursor.next_is(b'(') {
-            cursor.at += 1;
-            alone(cursor, listing, arrangement, resolution + 1, child);
-        } else {
-            listing.put(arrangement, resolution + 1, child);
-        }
+        listing.count += 1;
+        listing.size += size;
     }
 }
 
@@ -214,17 +168,14 @@ pub extern "C" fn coverage_compare(
     }
     let bodies = checks.map(|check| if check.version == 1 { 7 } else { 8 });
     let arrangement = checks[0].n << 2 | checks[0].s;
+    let found = pass(texts, bodies, arrangement, [&mut [], &mut [], &mut []]);
     let rooms = [first_room, second_room, both_room];
-    let enough = 3 * (first_length + second_length);
-    if rooms.iter().any(|&room| room < enough) {
-        let found = pass(texts, bodies, arrangement, [&mut [], &mut [], &mut []]);
-        if found
-            .iter()
-            .zip(rooms)
-            .any(|(listing, room)| room < listing.0)
-        {
-            return Compare::refused(8);
-        }
+    if found
+        .iter()
+        .zip(rooms)
+        .any(|(listing, room)| room < listing.0)
+    {
+        return Compare::refused(8);
     }
     let lent = unsafe {
         [
@@ -233,7 +184,7 @@ pub extern "C" fn coverage_compare(
             std::slice::from_raw_parts_mut(boths, both_room),
         ]
     };
-    let found = pass(texts, bodies, arrangement, lent);
+    pass(texts, bodies, arrangement, lent);
     let [(first_cells, first_size), (second_cells, second_size), (both_cells, both_size)] =
         found.map(|(count, size)| (count as u64, size));
     Compare {

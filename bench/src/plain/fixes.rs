@@ -168,12 +168,6 @@ pub extern "C" fn geodetic_z_divided(sine: i64, eccentricity: u64) -> Z {
     })
 }
 
-/// Of a z out of range: refused with 6, after 5 and 2.
-fn coded_at(n: u64, s: u64, resolution: u64, longitude: i64, z: Z) -> Code {
-    let z = if z.refusal == 0 { z.z } else { i64::MAX };
-    fix_code(n, s, resolution, longitude, z)
-}
-
 #[inline(never)]
 pub extern "C" fn geodetic_code(
     n: u64,
@@ -183,21 +177,10 @@ pub extern "C" fn geodetic_code(
     sine: i64,
     eccentricity: u64,
 ) -> Code {
-    coded_at(n, s, resolution, longitude, geodetic_z(sine, eccentricity))
-}
-
-/// With z by a division of u128: a fix at an edge may get another cell.
-#[inline(never)]
-pub extern "C" fn geodetic_code_divided(
-    n: u64,
-    s: u64,
-    resolution: u64,
-    longitude: i64,
-    sine: i64,
-    eccentricity: u64,
-) -> Code {
-    let z = geodetic_z_divided(sine, eccentricity);
-    coded_at(n, s, resolution, longitude, z)
+    let z = geodetic_z(sine, eccentricity);
+    // a z out of range is refused with 6 after 5 and 2
+    let z = if z.refusal == 0 { z.z } else { i64::MAX };
+    fix_code(n, s, resolution, longitude, z)
 }
 
 #[inline(never)]

@@ -7,7 +7,6 @@ pub mod codes;
 pub mod comparing;
 pub mod coverage;
 pub mod fixes;
-#[allow(dead_code)] // for the programs in bin/
 pub mod lines;
 pub mod neighbour;
 pub mod plotter;

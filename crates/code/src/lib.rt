@@ -1,5 +1,5 @@
 // Codes: a cell and the arrangement that it is of. How a code is made is known here only.
-ghost use Rattle.std.specs.Prelude.{◌≡◌, true, ◌+◌, ◌-◌, ◌*◌, ◌/◌, ◌%◌, ◌^◌, ◌≤◌, ◌<◌, eqb};
+ghost use Rattle.std.specs.Prelude.{◌≡◌, true, ◌+◌, ◌-◌, ◌*◌, ◌/◌, ◌^◌, ◌≤◌, ◌<◌};
 ghost use Rattle.logic.specs.Refusal.{◌otherwise◌};
 ghost use Rattle.ternary.specs.Weave.{weave};
 ghost use Rattle.cell.specs.Cell.{IsCell, IsArrangement, cell_refusal, arrangement_refusal, found};
@@ -125,22 +125,13 @@ pub fn found_code(arrangement: Arrangement, found: Found) -> Coded
     }
 }
 
-// Whether a number is a multiple of 9^e. What the quotient would be is the upper word of a product: a list is tested code by code, and a division takes longer.
-fn is_multiple(number: u64, e: u64) -> bool
-    requires { (number < 2 ^ 54) × (e ≤ 15) }
-    ensures { result ≡ eqb (number % 9 ^ e) 0 }
-{
-    let whole = wide::high(number * 256, ternary::nine_share(e));
-    whole * ternary::nine_power(e) == number
-}
-
 // Whether a number is the cell's part of a code: below 6 x 9^15 it lies in one of the faces.
 fn is_cell_code(part: u64) -> bool
     ensures { result ≡ is_cell_code part }
 {
     let finest = part / 16;
     if finest < 1_235_346_792_567_894 {
-        return is_multiple(finest, 15 - part % 16);
+        return finest % ternary::nine_power(15 - part % 16) == 0;
     }
     false
 }
@@ -237,22 +228,12 @@ pub fn size_in(code: u64) -> u64
     ternary::nine_power(15 - code / 16 % 16)
 }
 
-// The code of a cell that is given by its resolution and its number, where the number of its finest cells is at hand.
-pub fn code_sized(arrangement: Arrangement, resolution: u64, size: u64, number: u64) -> u64
-    requires arrangement { IsArrangement arrangement }
-    requires resolution_bound { (resolution ≤ 15) × (number < 9 ^ (resolution + 1)) × (size ≡ 9 ^ (15 - resolution)) }
-    ensures { result ≡ code_as arrangement resolution number }
-{
-    let part = number * size * 16 + resolution;
-    with_arrangement(arrangement, part)
-}
-
 // The code of a cell that is given by its resolution and its number.
 pub fn code_as(arrangement: Arrangement, resolution: u64, number: u64) -> u64
     requires arrangement { IsArrangement arrangement }
     requires resolution_bound { (resolution ≤ 15) × (number < 9 ^ (resolution + 1)) }
     ensures { result ≡ code_as arrangement resolution number }
 {
-    let size = ternary::nine_power(15 - resolution);
-    code_sized(arrangement, resolution, size, number)
+    let part = number * ternary::nine_power(15 - resolution) * 16 + resolution;
+    with_arrangement(arrangement, part)
 }

@@ -2,7 +2,7 @@
 use mathlib.Core.Path.{◌≡◌, refl, sym, ap, ap₂, ◌∙◌}
 use mathlib.Core.Bool.{Bool, true, false, ◌&&◌, ◌||◌, not}
 use mathlib.Core.List.{List, ◌++◌}
-use Prim.Native.Nat.{ℕ, zero, suc, ◌+◌, ◌-◌, ◌*◌, ◌≤◌}
+use Prim.Native.Nat.{ℕ, zero, suc, ◌+◌, ◌-◌, ◌≤◌}
 use native.Mathlib.Omega.{arith}
 use lib.ListN.{length, drop, length-map}
 use lib.Dec.{eqb, ltb}
@@ -19,7 +19,6 @@ use Rattle.reading.specs.TextReading.{nodes_of, north_of, south_of, text_arrange
 use Rattle.reading.specs.Laws.TextReading.{good-nodes}
 use Rattle.reading.specs.declared.Profile.{Profile}
 use Rattle.reader.specs.Check.{text_refusal, place_with}
-use Rattle.reader.specs.Laws.Check.{accepted-exactly}
 use Rattle.reader.specs.Laws.Answer.{TextChecked, TextRefused, checked-arrangement}
 use Rattle.comparing.specs.declared.Cursor.{Cursor}
 use Rattle.comparing.specs.declared.Read.{Read}
@@ -28,7 +27,6 @@ use Rattle.comparing.specs.declared.Compared.TheVariants.{Listings, Refused}
 use Rattle.comparing.specs.Compare.{first_only, second_only, in_both, ThreeLists, codes_for, shared_codes, with_codes, Compares}
 use Rattle.comparing.specs.Compare.{arrangements_differ, room_short, compare_refusal, compare_place, compared}
 use Rattle.comparing.specs.Laws.Compare.{first-tie, second-tie}
-use Rattle.comparing.specs.Laws.Room.{rooms-enough}
 use Rattle.comparing.specs.Internal.Found.{WasRead, TextsMeasured, TextsFound, tied_up}
 
 -- ---- refused: nothing is changed
@@ -179,25 +177,3 @@ module _ {t u : List ℕ} {one two : Read} {found : Cursor} (v : WasRead t one) 
         answer = q ∙ answered ∙ sym (ap (λ (x : ℕ). compared x t u) z);
         memory = k ∙ sym (given-value (with_codes (shared_codes t u) lent) lent z);
       }
-
--- ---- rooms that are always enough
-
-pub read_short : {t : List ℕ} {one : Read} → WasRead t one → length t ≤ 65536
-read_short {t} v = ((accepted-exactly t).0 v.allowed).0
-
-pub listed-at-once :
-    {t u : List ℕ} {one two : Read} {ends : Cursor} {lent later : ThreeLists} {b : Bool} {r : Compared} → WasRead t one → WasRead u two → arrangements_differ t u ≡ false →
-    b
-    ≡ short lent
-    (record { first = 0; second = 0; firsts = 3 * (length t + length u); seconds = 3 * (length t + length u); boths = 3 * (length t + length u); size = 0 }) →
-    b ≡ false → TextsFound t u lent later ends → r ≡ tied_up ends one.size two.size → Compares t u lent later r
-unfolding room_short
-listed-at-once {t} {u} {lent = lent} v w d e h l q =
-    let most : ℕ = 3 * (length t + length u) in
-    let m = l.measured in
-    let o = no_less (length lent.firsts) (length lent.seconds) (length lent.boths) most most most (sym e ∙ h) in
-    let k : room_short lent (shared_codes t u) ≡ false = rooms-enough t u v.text w.text lent o.0 o.1 o.2 in
-    all_listed v w d m
-    (sym k
-    ∙ sym (λ i. ltb (length lent.firsts) (m.firsts i) || (ltb (length lent.seconds) (m.seconds i) || ltb (length lent.boths) (m.boths i))))
-    refl l q

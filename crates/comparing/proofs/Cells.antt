@@ -18,7 +18,7 @@ use Rattle.comparing.specs.Internal.Found.{spots_at, sizes_of, Adds, AddsAll, Ce
 pub adds_none : {a : Arrangement} {lent : List ℕ} {count : ℕ} → Adds a [] lent lent count count
 adds_none = record { counted = omega arith; put = refl }
 
-pub adds_one : {a : Arrangement} {k n count : ℕ} {lent later : List ℕ} → later ≡ set lent count (code_as a k n) → Adds a (spot k n ∷ []) lent later count (count + 1)
+adds_one : {a : Arrangement} {k n count : ℕ} {lent later : List ℕ} → later ≡ set lent count (code_as a k n) → Adds a (spot k n ∷ []) lent later count (count + 1)
 adds_one e = record { counted = refl; put = e }
 
 module _ {from : Cursor} {i j k n : ℕ} {a : Arrangement} {lent : ThreeLists} where

@@ -52,7 +52,7 @@ flat-child {s} {at} {t} {byte} h = record { is = go }
     go l d c all e i b m g p k = record { portion = sym i; stands = k }
     go l d c (some ns) e i b m g p k = absurd (h (sym i))
 
-pub no-cons : (x : ℕ) (xs : List ℕ) → [] ≡ x ∷ xs → ⊥
+no-cons : (x : ℕ) (xs : List ℕ) → [] ≡ x ∷ xs → ⊥
 no-cons x xs e = let k : ◌≡◌ {A = ℕ} 0 (suc (length xs)) = ap length e in omega arith
 
 pub no-child : {s : List ℕ} {at t byte : ℕ} → t ≡ 2 → length s ≤ at → ChildIs s at t byte (record { portion = 0; next = at })

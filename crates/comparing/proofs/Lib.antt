@@ -1,4 +1,3 @@
-pub mod Alone
 pub mod Answers
 pub mod Cells
 pub mod Children

@@ -35,7 +35,7 @@ unfolding sizes_of
 sizes-append [] b = omega arith
 sizes-append (s ∷ a) b = omega (arith, sizes-append a b)
 
-pub adds-join :
+adds-join :
     {a : Arrangement} {lent mid later : List ℕ} {count more most : ℕ} (x y : List Spot) → Adds a x lent mid count more → Adds a y mid later more most →
     Adds a (x ++ y) lent later count most
 adds-join {a} {lent} {mid} {later} {count} {more} {most} x y f g =

@@ -1,4 +1,3 @@
 pub mod Answer
 pub mod Compare
-pub mod Room
 pub mod Texts

@@ -4,7 +4,7 @@ ghost use Rattle.cell.specs.Cell.{IsArrangement};
 ghost use Rattle.code.specs.Number.{code_as};
 ghost use Rattle.comparing.specs.Shared.{divides};
 ghost use Rattle.comparing.specs.Compare.{lists, arrangements_differ, Compares};
-ghost use Rattle.comparing.specs.Internal.Found.{past_of, weight, DigitIs, InsideTaken, NodesTaken, ChildIs, CellFound, NodeFound, ListFound, WasRead, TextsMeasured, TextsFound, tied_up};
+ghost use Rattle.comparing.specs.Internal.Found.{past_of, weight, ChildIs, CellFound, NodeFound, ListFound, WasRead, TextsMeasured, TextsFound, tied_up};
 
 use cell::Arrangement;
 use reader::Checked;
@@ -53,13 +53,6 @@ struct Cursor {
     seconds: usize,
     boths: usize,
     size: u64,
-}
-
-// Where one text's cells are listed alone: the place of its next byte, and how many cells the listing has so far.
-#[derive(Drop)]
-struct Taken {
-    next: usize,
-    count: usize,
 }
 
 // What the heading of a text that was accepted says of it, the sum of sizes, and where its body starts.
@@ -168,92 +161,6 @@ fn list_cell(
     next
 }
 
-// The number of the digit at a place; 9 where there is none.
-fn digit_at(text: &[u8], at: usize) -> u64
-    ensures { DigitIs text.now at result }
-{
-    if at >= text.len() {
-        return 9;
-    }
-    let byte = text[at];
-    if byte < b'0' {
-        return 9;
-    }
-    if byte > b'8' {
-        return 9;
-    }
-    (byte - b'0') as u64
-}
-
-// The cells inside a cell for which only this text has a list, whose nodes stand at `at`, to the text's own listing.
-#[cycle(take_inside_take_nodes)]
-fn take_inside(
-    text: &[u8],
-    at: usize,
-    arrangement: Arrangement,
-    resolution: u64,
-    number: u64,
-    codes: &mut [u64],
-    count: usize,
-) -> Taken
-    requires arrangement { IsArrangement arrangement }
-    requires resolution_bound { (resolution ≤ 15) × (number < 9 ^ (resolution + 1)) × (count + 9 ^ (15 - resolution) ≤ 2 ^ 62) }
-    ensures { InsideTaken text.now at count arrangement resolution number codes.old codes.new result }
-{
-    if resolution >= 15 {
-        return Taken { next: at, count }; // so deep there is none
-    }
-    let mut ends = take_nodes(
-        text,
-        at,
-        arrangement,
-        resolution + 1,
-        number * 9,
-        codes,
-        count,
-    );
-    ends.next = past_list(text, ends.next, LIST);
-    ends
-}
-
-// The same of the nodes of a list: `number` is that of the first child. There are at most nine, and only those that stand there are looked at.
-#[cycle(take_inside_take_nodes)]
-fn take_nodes(
-    text: &[u8],
-    at: usize,
-    arrangement: Arrangement,
-    resolution: u64,
-    number: u64,
-    codes: &mut [u64],
-    count: usize,
-) -> Taken
-    requires arrangement { IsArrangement arrangement }
-    requires resolution_bound { (resolution ≤ 15) × (number + 9 ≤ 9 ^ (resolution + 1)) × (count + 9 * 9 ^ (15 - resolution) ≤ 2 ^ 62) }
-    ensures { NodesTaken text.now at count arrangement 9 resolution number codes.old codes.new result }
-{
-    let mut next = at;
-    let mut found = count;
-    let mut more: u64 = 9;
-    while more > 0 {
-        let digit = digit_at(text, next);
-        if digit >= 9 {
-            return Taken { next, count: found };
-        }
-        let cell = number + digit;
-        next = next + 1;
-        if reading::opens_at(text, next) {
-            let inside = take_inside(text, next + 1, arrangement, resolution, cell, codes, found);
-            next = inside.next;
-            found = inside.count;
-        } else {
-            put(codes, found, arrangement, resolution, cell);
-            found = found + 1;
-        }
-        more = more - 1;
-    }
-    Taken { next, count: found }
-}
-
 // Whether one of the texts has a list for a cell.
 fn is_divided(x: u64, y: u64) -> bool
     ensures { result ≡ divides x y }
@@ -264,7 +171,7 @@ fn is_divided(x: u64, y: u64) -> bool
     y == LIST
 }
 
-// The cells inside a cell for which one of the texts has a list: those of its list alone where the other has nothing, else those inside its children.
+// The cells inside a cell for which one of the texts has a list: those inside its children.
 #[cycle(list_children_list_inside)]
 fn list_inside(
     first: &[u8],
@@ -286,38 +193,7 @@ fn list_inside(
     if resolution >= 15 {
         return at; // no text is so deep
     }
-    let mut ends = at;
-    if x == NOTHING {
-        let place = at.second;
-        let taken = take_inside(
-            second,
-            place,
-            arrangement,
-            resolution,
-            number,
-            seconds,
-            at.seconds,
-        );
-        ends.second = taken.next;
-        ends.seconds = taken.count;
-        return ends;
-    }
-    if y == NOTHING {
-        let place = at.first;
-        let taken = take_inside(
-            first,
-            place,
-            arrangement,
-            resolution,
-            number,
-            firsts,
-            at.firsts,
-        );
-        ends.first = taken.next;
-        ends.firsts = taken.count;
-        return ends;
-    }
-    ends = list_children(
+    let mut ends = list_children(
         first,
         second,
         at,
@@ -493,8 +369,8 @@ fn listings(found: Cursor, first: u64, second: u64) -> Compared
     }
 }
 
-// The three listings of two texts of one arrangement, measured before anything is stored: 8 where a room is short.
-fn list_measured(
+// The three listings of two texts of one arrangement: 8 where a room is short.
+fn list_both(
     first: &[u8],
     second: &[u8],
     one: Read,
@@ -515,36 +391,6 @@ fn list_measured(
     }
     list_texts(first, second, one, two, firsts, seconds, boths);
     listings(found, one.size, two.size)
-}
-
-// The three listings of two texts of one arrangement: 8 where a room is short. Three codes for each byte of the texts are always room enough, and then nothing
-// is measured before.
-fn list_both(
-    first: &[u8],
-    second: &[u8],
-    one: Read,
-    two: Read,
-    firsts: &mut [u64],
-    seconds: &mut [u64],
-    boths: &mut [u64],
-) -> Compared
-    requires { WasRead first.now one × WasRead second.now two × (arrangements_differ first.now second.now ≡ false) }
-    ensures { Compares first.now second.now (lists firsts.old seconds.old boths.old) (lists firsts.new seconds.new boths.new) result }
-{
-    let most = 3 * (first.len() + second.len());
-    let bound = Cursor {
-        first: 0,
-        second: 0,
-        firsts: most,
-        seconds: most,
-        boths: most,
-        size: 0,
-    };
-    if is_short(bound, firsts.len(), seconds.len(), boths.len()) {
-        return list_measured(first, second, one, two, firsts, seconds, boths);
-    }
-    let ends = list_texts(first, second, one, two, firsts, seconds, boths);
-    listings(ends, one.size, two.size)
 }
 
 // The three listings, where the first text was read: the second text's refusal, then 14, then 8.

@@ -337,22 +337,15 @@ pub extern "C" fn jgv_fix_code(
     ensures { result ≡ fix_code n s resolution longitude z }
 {
     let arrangement = Arrangement { north: n, south: s }; // `fix_refusal` tests it
-    let equator = locate::fix_refusal(arrangement, resolution, longitude, 0); // the belt has no z to refuse
-    if equator != 0 {
-        return CodeAnswer {
-            refusal: equator,
-            code: 0,
-        };
+    let refusal = locate::fix_refusal(arrangement, resolution, longitude, z);
+    if refusal != 0 {
+        return CodeAnswer { refusal, code: 0 };
     }
     if locate::in_belt(z) {
         return CodeAnswer {
             refusal: 0,
             code: locate::belt_fix(n, s, resolution, longitude, z),
         };
-    }
-    let refusal = locate::fix_refusal(arrangement, resolution, longitude, z);
-    if refusal != 0 {
-        return CodeAnswer { refusal, code: 0 };
     }
     CodeAnswer {
         refusal: 0,

@@ -6,6 +6,7 @@ ghost use Rattle.listing.specs.List.{codes_of, codes_in, listing_refusal, listed
 
 use cell::Arrangement;
 use reader::Checked;
+use walk::Spot;
 
 // How many codes were listed; or the refusal, with the place for 9.
 #[derive(Drop)]
@@ -15,36 +16,31 @@ pub enum Listed {
 }
 
 // "the codes of the whole cells in rising order", in the heading's arrangement, to the front of `codes`. The text's body starts at `body`.
-// A letter or digit and its `(` are gone over in one turn. Of the cell at hand the resolution, the
-// size and the number of the first cell beside it are kept: a `)` then costs one division.
+// A letter or digit and its `(` are gone over in one turn.
 fn put_codes(text: &[u8], arrangement: Arrangement, body: usize, codes: &mut [u64])
     requires { (is_text text.now ≡ true) × (arrangement ≡ text_arrangement text.now) × (body ≡ body_start text.now) × (length (codes_of text.now) ≤ length codes.old) }
     ensures { codes.new ≡ codes_of text.now ++ drop (length (codes_of text.now)) codes.old }
 {
-    let mut resolution: u64 = 0;
-    let mut first: u64 = 0;
-    let mut size: u64 = code::FACE_SIZE;
+    let mut spot = Spot {
+        resolution: 0,
+        number: 0,
+        first: 0,
+    };
     let mut count: usize = 0;
     let mut i: usize = body;
     while i < text.len() {
-        let b = text[i];
+        spot = spot.after(text[i]);
+        let whole = walk::whole_at(text, i);
         i = i + 1;
-        if b == b')' {
-            first = first / 81 * 9;
-            resolution = resolution - 1;
-            size = size * 9;
+        if whole {
+            codes[count] = code::code_as(arrangement, spot.resolution, spot.number);
+            count = count + 1;
             continue;
         }
-        let number = first + walk::number_in(b);
         if reading::opens_at(text, i) {
-            first = number * 9;
-            resolution = resolution + 1;
-            size = size / 9;
+            spot = spot.after(b'(');
             i = i + 1;
-            continue;
         }
-        codes[count] = code::code_sized(arrangement, resolution, size, number);
-        count = count + 1;
     }
 }
 

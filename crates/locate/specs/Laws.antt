@@ -4,5 +4,4 @@ pub mod Floors
 pub mod Held
 pub mod Meet
 pub mod Part
-pub mod Refusal
 pub mod Turn

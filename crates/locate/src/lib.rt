@@ -174,12 +174,12 @@ fn turned(turns: u64, u: Axis, v: Axis) -> End
     }
 }
 
-// "Turn (c - n) mod 4 times by (u, v) -> (-v, u)", where 4 turns are none; in the south "turns (c - s) mod 4 by (u, v) -> (v, -u)": these lead back, so they are
+// "Turn (c - n) mod 4 times by (u, v) -> (-v, u)"; in the south "turns (c - s) mod 4 by (u, v) -> (v, -u)": these lead back, so they are
 // (s - c) mod 4 turns of the north.
 fn turns_of(arrangement: Arrangement, south: bool, c: u64) -> u64
     requires arrangement { IsArrangement arrangement }
-    requires c_bound { c ≤ 4 }
-    ensures { (result < 4) × (result ≡ cond south ((arrangement.south + 4 - c % 4) % 4) (turn_of (c % 4) arrangement.north)) }
+    requires c_bound { c ≤ 3 }
+    ensures { (result < 4) × (result ≡ cond south ((arrangement.south + 4 - c) % 4) (turn_of c arrangement.north)) }
 {
     if south {
         return (arrangement.south + 4 - c) % 4;
@@ -187,11 +187,11 @@ fn turns_of(arrangement: Arrangement, south: bool, c: u64) -> u64
     (c + 4 - arrangement.north) % 4
 }
 
-// "Start at (u, v) = (t h, -h/2)", in the south "a start of (t h, +h/2)", turned. A full turn east is no turn.
+// "Start at (u, v) = (t h, -h/2)", in the south "a start of (t h, +h/2)", turned.
 fn end_of(arrangement: Arrangement, south: bool, east: u64) -> End
     requires arrangement { IsArrangement arrangement }
-    requires east_bound { east ≤ 3600000000 }
-    ensures { Stands (turned_end arrangement south (east % 3600000000)) result }
+    requires east_bound { east < 3600000000 }
+    ensures { Stands (turned_end arrangement south east) result }
 {
     let v = Axis {
         minus: !south,
@@ -302,6 +302,19 @@ fn cap_code(arrangement: Arrangement, face: u64, resolution: u64, height: u64, e
     code::code_of(arrangement, cap(face, resolution, m, height, root, end))
 }
 
+// How far east of -1,800,000,000 a longitude lies: 1,800,000,000 is a full turn, and the same place.
+fn east_of(longitude: i64) -> u64
+    requires longitude_value { le_z (neg_ℤ (pos 1800000000)) longitude ≡ true }
+    requires pos_bound { nat_abs (longitude +ℤ pos 1800000000) ≤ 3600000000 }
+    ensures { (result ≡ east_of longitude) × (result < 3600000000) }
+{
+    let east = signed::shifted(longitude, 1_800_000_000);
+    if east < FULL_TURN {
+        return east;
+    }
+    east - FULL_TURN
+}
+
 // The code of a fix in the belt. The arrangement is two numbers, which stay in registers.
 pub fn belt_fix(n: u64, s: u64, resolution: u64, longitude: i64, z: i64) -> u64
     requires arrangement { IsArrangement (arranged n s) }
@@ -324,7 +337,7 @@ pub fn cap_fix(n: u64, s: u64, resolution: u64, longitude: i64, z: i64) -> u64
     ensures { result ≡ code_of (arranged n s) (fix_cell (arranged n s) resolution longitude z) }
 {
     let arrangement = Arrangement { north: n, south: s };
-    let east = signed::shifted(longitude, 1_800_000_000);
+    let east = east_of(longitude);
     let size = signed::magnitude(z);
     let south = signed::is_negative(z);
     let height = 3 * (1_000_000_000_000_000_000 - size);

@@ -7,7 +7,7 @@ use native.Mathlib.Numerals.{add-one}
 use native.Mathlib.Nat.{pow-suc, mul_assoc, mul_comm, add-mul, zero-mul, mul-one}
 use native.Mathlib.Omega.{arith}
 use lib.Dec.{leb}
-use lib.ListN.{length, take, drop, get_or, set, length-map, length-set, take-append-drop}
+use lib.ListN.{length, take, drop, get_or, set, length-map}
 use lib.Seq.{drop-cons, take-take, take-set-le, set_split, drop_at, length-take-le}
 use borrow.Author.Tests.{lt-leb, le-leb, lt-ltb, le-ltb}
 use Rattle.logic.specs.Refusal.{refuse, given}
@@ -101,44 +101,6 @@ module _ (s : List ℕ) (k : ℕ) (some : 0 < k) (h : k < length s) where
       let e : k - 1 + 1 ≡ k = omega arith in
       ap (λ (x : ℕ). take x (set s k b)) e ∙ take-set-le k s k b (omega arith) ∙ sym (take-take k (k + 1) s (omega arith)) ∙ ap (take k) f ∙ take-take k (k + 1) t (omega arith)
       ∙ ap (λ (x : ℕ). take x t) (sym e)
-
--- the digits still to write, and the bytes behind them, are the whole
-pub record Written (s₀ s : List ℕ) (count path left p : ℕ) : Type 0 where
-  pub within : left ≤ count
-  pub long : length s ≡ length s₀
-  pub before : take (left + 1) s ≡ take (left + 1) s₀
-  pub behind : digit_bytes (digits 9 left p) ++ drop (left + 1) s ≡ digit_bytes (digits 9 count path) ++ drop (count + 1) s₀
-
-pub written_none : (s : List ℕ) (count path : ℕ) → Written s s count path count path
-written_none s count path = record { within = omega arith; long = refl; before = refl; behind = refl }
-
--- one digit more
-pub written_one :
-    {s₀ s : List ℕ} {count path left p : ℕ} (b : ℕ) → Written s₀ s count path left p → count < length s₀ → 0 < left → b ≡ 48 + p % 9 →
-    Written s₀ (set s left b) count path (left - 1) (p / 9)
-written_one {s₀} {s} {count} {path} {left} {p} b w h some e =
-    let r : left < length s = omega (arith, w.within, w.long) in
-    record {
-      within = omega (arith, w.within);
-      long = length-set s left b ∙ w.long;
-      before = front_kept s left some r s₀ b w.before;
-      behind = ap (λ (x : ℕ). digit_bytes (digits 9 (left - 1) (p / 9)) ++ drop (left - 1 + 1) (set s left x)) e ∙ digit-kept s left some r p ∙ w.behind;
-    }
-
--- two digits more, of the rest by 81
-pub written-two :
-    {s₀ s : List ℕ} {count path left p : ℕ} → Written s₀ s count path left p → count < length s₀ → 1 < left →
-    Written s₀ (set (set s left (48 + p % 81 % 9)) (left - 1) (48 + p % 81 / 9)) count path (left - 2) (p / 81)
-written-two {s₀} {s} {count} {path} {left} {p} w h some =
-    let one = written_one {p = p} (48 + p % 81 % 9) w h (omega arith) (omega arith) in
-    let two = written_one {p = p / 9} (48 + p % 81 / 9) one h (omega arith) (omega arith) in
-    let e : left - 1 - 1 ≡ left - 2 = omega arith in
-    let f : p / 9 / 9 ≡ p / 81 = omega arith in
-    rw (sym e, sym f) two
-
-pub written_all : {s₀ s : List ℕ} {count path p : ℕ} → Written s₀ s count path 0 p → s ≡ take 1 s₀ ++ (digit_bytes (digits 9 count path) ++ drop (count + 1) s₀)
-unfolding digits
-written_all {s = s} w = sym (take-append-drop 1 s) ∙ ap₂ ◌++◌ w.before w.behind
 
 -- ---- the letter
 

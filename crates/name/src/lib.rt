@@ -76,22 +76,17 @@ pub fn name_code(arrangement: Arrangement, name: &[u8]) -> Coded
     Coded::Code(code::code_at(arrangement, face, resolution, path))
 }
 
-// The last `count` digits of a path, as bytes after the first one of `name`. Two in a turn, since each quotient needs the one before it.
+// The last `count` digits of a path, as bytes after the first one of `name`.
 fn put_digits(name: &mut [u8], count: usize, path: u64)
     requires { count < length name.old }
     ensures { name.new ≡ take 1 name.old ++ (digit_bytes (digits 9 count path) ++ drop (count + 1) name.old) }
 {
     let mut p = path;
     let mut left = count;
-    while left > 1 {
-        let two = p % 81;
-        name[left] = b'0' + (two % 9) as u8;
-        name[left - 1] = b'0' + (two / 9) as u8;
-        p = p / 81;
-        left = left - 2;
-    }
-    if left > 0 {
-        name[left] = b'0' + (p % 9) as u8; // the first digit, where their number is odd
+    while left > 0 {
+        name[left] = b'0' + (p % 9) as u8;
+        p = p / 9;
+        left = left - 1;
     }
 }
 

@@ -198,22 +198,7 @@ fn mask(first: bool, second: bool, fourth: bool) -> u8
     one(first) + one(second) * 2 + one(fourth) * 4
 }
 
-// How many of kinds 1, 2 and 4 there are.
-fn kinds(first: bool, second: bool, fourth: bool) -> u64
-    ensures { (result ≡ length (kinds_at 7 (mask_of first second fourth))) × (result ≤ 3) }
-{
-    (one(first) + one(second) + one(fourth)) as u64
-}
-
-// Where the walk over a body begins.
-const ORIGIN: Spot = Spot {
-    resolution: 0,
-    number: 0,
-    first: 0,
-};
-
-// For each byte of a body, the kinds of change there; and how many changes that makes. Codes are looked for from where the last ones stood, since most letters
-// and digits rise.
+// For each byte of a body, the kinds of change there. Codes are looked for from where the last ones stood, since most letters and digits rise.
 fn mark(
     arrangement: Arrangement,
     body: &[u8],
@@ -222,27 +207,27 @@ fn mark(
     marks: &mut [u8],
     named: &mut [u8],
     stood: &mut [u8],
-) -> u64
-    requires walks { Walks body.now 0 origin × (length body.now ≤ length marks.old) × IsArrangement arrangement × (length body.now ≤ 65536) }
+)
+    requires walks { Walks body.now 0 origin × (length body.now ≤ length marks.old) × IsArrangement arrangement }
     requires rise { Rise largest.now × (length largest.now ≤ length named.old) × Seen largest.now [] named.old }
     requires rise_2 { Rise fresh.now × (length fresh.now ≤ length stood.old) × Seen fresh.now [] stood.old × Clear largest.now fresh.now }
-    ensures value { (result ≡ length (changes_in 7 (take (length body.now) marks.new))) × (result ≤ 262144) }
-    ensures marks_after { take (length body.now) marks.new ≡ masks arrangement largest.now fresh.now 40 origin [] [] body.now }
+    ensures { take (length body.now) marks.new ≡ masks arrangement largest.now fresh.now 40 origin [] [] body.now }
 {
-    let mut spot = ORIGIN;
+    let mut spot = Spot {
+        resolution: 0,
+        number: 0,
+        first: 0,
+    };
     let mut before: u8 = b'(';
     let mut near: usize = 0;
     let mut next: usize = 0;
-    let mut changes: u64 = 0;
     let mut i: usize = 0;
     while i < body.len() {
         let b = body[i];
         let old = spot.number;
         spot = spot.after(b);
         if b == b'(' {
-            let shut = shut_at(body, i);
-            marks[i] = shut;
-            changes = changes + (shut / 8) as u64;
+            marks[i] = shut_at(body, i);
             before = b;
             i = i + 1;
             continue;
@@ -260,13 +245,35 @@ fn mark(
         next = place_if(new, fresh, next, code);
         let first = first_kind(whole, code, largest, named, near);
         let fourth = fourth_kind(new, code, fresh, stood, next);
-        let second = late(before, old, spot.number);
-        marks[i] = mask(first, second, fourth);
-        changes = changes + kinds(first, second, fourth);
+        marks[i] = mask(first, late(before, old, spot.number), fourth);
         before = b;
         i = i + 1;
     }
-    changes
+}
+
+// How many changes a byte's number stands for.
+fn kinds(m: u8) -> u64
+    ensures { (result ≡ length (kinds_at 7 m)) × (result ≤ 4) }
+{
+    let first = one(m % 2 == 1) as u64;
+    let second = one(m / 2 % 2 == 1) as u64;
+    let third = one(m / 8 == 1) as u64;
+    let fourth = one(m / 4 % 2 == 1) as u64;
+    first + second + third + fourth
+}
+
+// How many changes the numbers stand for.
+fn count(marks: &[u8]) -> u64
+    requires { length marks.now ≤ 65536 }
+    ensures { (result ≡ length (changes_in 7 marks.now)) × (result ≤ 262144) }
+{
+    let mut n: u64 = 0;
+    let mut i: usize = 0;
+    while i < marks.len() {
+        n = n + kinds(marks[i]);
+        i = i + 1;
+    }
+    n
 }
 
 // A change, where there is one, to the place n of `out`; and the place behind it.
@@ -330,7 +337,7 @@ fn make(arrangement: Arrangement, cells: &[u64], made: &mut [u8]) -> usize
     writing::put_text(Profile::Full, arrangement, cells, made)
 }
 
-// What is changed, by the numbers of the bytes behind the heading; and how many changes that makes. `made` is the proper text, and `largest` holds the largest whole cells.
+// What is changed, by the numbers of the bytes behind the heading. `made` is the proper text, and `largest` holds the largest whole cells.
 fn find(
     text: &[u8],
     arrangement: Arrangement,
@@ -340,12 +347,11 @@ fn find(
     marks: &mut [u8],
     named: &mut [u8],
     stood: &mut [u8],
-) -> u64
+)
     requires text_value { (loose_refusal text.now ≡ 0) × (made.now ≡ proper_of text.now) × (arrangement ≡ loose_arrangement text.now) × (largest.now ≡ thinned 0 (sorted (loose_codes arrangement text.now))) }
     requires text_in_bounds { (length text.now ≤ length spare.old) × (length text.now ≤ length marks.old) × (length text.now ≤ length named.old) × (length text.now ≤ length stood.old) }
     requires zeros { Zeros named.old × Zeros stood.old }
-    ensures value { (result ≡ length (changes_of text.now)) × (result ≤ 262144) }
-    ensures marks_after { changes_in 7 (take (length text.now - 7) marks.new) ≡ changes_of text.now }
+    ensures { changes_in 7 (take (length text.now - 7) marks.new) ≡ changes_of text.now }
 {
     let answers = proper::put_wholes(made, arrangement, spare);
     let fresh = leave(largest, spare, answers);
@@ -357,7 +363,7 @@ fn find(
         marks,
         named,
         stood,
-    )
+    );
 }
 
 // The length of the proper text, and how many changes there are; or the refusal, with the place for 9.
@@ -374,10 +380,11 @@ fn refused(refusal: u64, place: u64) -> Rescued
 }
 
 // A proper text and what was changed, given: both rooms are tested before anything is written.
-fn give(changes: u64, made: &[u8], marks: &[u8], out: &mut [u8], list: &mut [u64]) -> Rescued
-    requires { (length marks.now ≤ 65536) × (changes ≡ length (changes_in 7 marks.now)) × (changes ≤ 262144) }
+fn give(made: &[u8], marks: &[u8], out: &mut [u8], list: &mut [u64]) -> Rescued
+    requires { length marks.now ≤ 65536 }
     ensures { Gives made.now marks.now out.old out.new list.old list.new result }
 {
+    let changes = count(marks);
     if out.len() < made.len() {
         return refused(8, 0);
     }
@@ -440,7 +447,7 @@ fn rescue_in(
     let largest = &codes[..count];
     let length = make(arrangement, largest, made);
     let proper = &made[..length];
-    let changes = find(
+    find(
         text,
         arrangement,
         proper,
@@ -450,80 +457,14 @@ fn rescue_in(
         named,
         stood,
     );
-    give(changes, proper, &marks[..text.len() - 7], out, list)
+    give(proper, &marks[..text.len() - 7], out, list)
 }
 
-// The rescue of any looser text.
-fn rescue_long(text: &[u8], arrangement: Arrangement, out: &mut [u8], list: &mut [u64]) -> Rescued
-    requires { (loose_refusal text.now ≡ 0) × (arrangement ≡ loose_arrangement text.now) }
-    ensures { RescueIs text.now out.old out.new list.old list.new result }
-{
-    if is_proper(text) {
-        return give_same(text, out);
-    }
-    let mut codes = [0u64; 65536];
-    let mut spare = [0u64; 65536];
-    let mut made = [0u8; 65536];
-    let mut marks = [0u8; 65536];
-    let mut named = [0u8; 65536];
-    let mut stood = [0u8; 65536];
-    rescue_in(
-        text,
-        arrangement,
-        &mut codes,
-        &mut spare,
-        &mut made,
-        &mut marks,
-        &mut named,
-        &mut stood,
-        out,
-        list,
-    )
-}
-
-// The same, with less memory for a text of at most 16,384 bytes, since the memory of a call is cleared each time. A longer one is handed on: so `rescue_long` has
-// two callers, and the compiler keeps it out of the entry, where every call, of a short text too, would touch all pages of its memory.
-fn rescue_middle(text: &[u8], arrangement: Arrangement, out: &mut [u8], list: &mut [u64]) -> Rescued
-    requires { (loose_refusal text.now ≡ 0) × (arrangement ≡ loose_arrangement text.now) }
-    ensures { RescueIs text.now out.old out.new list.old list.new result }
-{
-    if text.len() > 16384 {
-        return rescue_long(text, arrangement, out, list);
-    }
-    if is_proper(text) {
-        return give_same(text, out);
-    }
-    let mut codes = [0u64; 16384];
-    let mut spare = [0u64; 16384];
-    let mut made = [0u8; 16384];
-    let mut marks = [0u8; 16384];
-    let mut named = [0u8; 16384];
-    let mut stood = [0u8; 16384];
-    rescue_in(
-        text,
-        arrangement,
-        &mut codes,
-        &mut spare,
-        &mut made,
-        &mut marks,
-        &mut named,
-        &mut stood,
-        out,
-        list,
-    )
-}
-
-// The same, for a text of at most 4,096 bytes.
+// The rescue of a looser text of at most 4,096 bytes. The memory of a call is cleared each time, so short texts have little of it.
 fn rescue_short(text: &[u8], arrangement: Arrangement, out: &mut [u8], list: &mut [u64]) -> Rescued
-    requires { (loose_refusal text.now ≡ 0) × (arrangement ≡ loose_arrangement text.now) }
+    requires { (loose_refusal text.now ≡ 0) × (arrangement ≡ loose_arrangement text.now) × (length text.now ≤ 4096) }
     ensures { RescueIs text.now out.old out.new list.old list.new result }
 {
-    if text.len() > 4096 {
-        return rescue_middle(text, arrangement, out, list);
-    }
-    if is_proper(text) {
-        return give_same(text, out);
-    }
     let mut codes = [0u64; 4096];
     let mut spare = [0u64; 4096];
     let mut made = [0u8; 4096];
@@ -544,28 +485,17 @@ fn rescue_short(text: &[u8], arrangement: Arrangement, out: &mut [u8], list: &mu
     )
 }
 
-// The same, with still less memory for a text of at most 1,280 bytes.
-fn rescue_shortest(
-    text: &[u8],
-    arrangement: Arrangement,
-    out: &mut [u8],
-    list: &mut [u64],
-) -> Rescued
+// The rescue of any looser text.
+fn rescue_long(text: &[u8], arrangement: Arrangement, out: &mut [u8], list: &mut [u64]) -> Rescued
     requires { (loose_refusal text.now ≡ 0) × (arrangement ≡ loose_arrangement text.now) }
     ensures { RescueIs text.now out.old out.new list.old list.new result }
 {
-    if text.len() > 1280 {
-        return rescue_short(text, arrangement, out, list);
-    }
-    if is_proper(text) {
-        return give_same(text, out);
-    }
-    let mut codes = [0u64; 1280];
-    let mut spare = [0u64; 1280];
-    let mut made = [0u8; 1280];
-    let mut marks = [0u8; 1280];
-    let mut named = [0u8; 1280];
-    let mut stood = [0u8; 1280];
+    let mut codes = [0u64; 65536];
+    let mut spare = [0u64; 65536];
+    let mut made = [0u8; 65536];
+    let mut marks = [0u8; 65536];
+    let mut named = [0u8; 65536];
+    let mut stood = [0u8; 65536];
     rescue_in(
         text,
         arrangement,
@@ -580,6 +510,20 @@ fn rescue_shortest(
     )
 }
 
+// The rescue of a looser text.
+fn rescue_loose(text: &[u8], arrangement: Arrangement, out: &mut [u8], list: &mut [u64]) -> Rescued
+    requires { (loose_refusal text.now ≡ 0) × (arrangement ≡ loose_arrangement text.now) }
+    ensures { RescueIs text.now out.old out.new list.old list.new result }
+{
+    if is_proper(text) {
+        return give_same(text, out);
+    }
+    if text.len() <= 4096 {
+        return rescue_short(text, arrangement, out, list);
+    }
+    rescue_long(text, arrangement, out, list)
+}
+
 // The rescue of any bytes: the proper text into `out`, and what was changed, place and kind one behind the other, into `list`; 13, 10, 9 or 8 where
 // there is none.
 pub fn rescue(text: &[u8], out: &mut [u8], list: &mut [u64]) -> Rescued
@@ -587,17 +531,6 @@ pub fn rescue(text: &[u8], out: &mut [u8], list: &mut [u64]) -> Rescued
 {
     match loose::look(text) {
         Looked::Refused { refusal, place } => refused(refusal, place),
-        Looked::Loose(arrangement) => {
-            if text.len() > 16384 {
-                return rescue_long(text, arrangement, out, list);
-            }
-            if text.len() > 4096 {
-                return rescue_middle(text, arrangement, out, list);
-            }
-            if text.len() > 1280 {
-                return rescue_short(text, arrangement, out, list);
-            }
-            rescue_shortest(text, arrangement, out, list)
-        }
+        Looked::Loose(arrangement) => rescue_loose(text, arrangement, out, list),
     }
 }

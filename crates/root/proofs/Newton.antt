@@ -1,6 +1,10 @@
 -- Newton's iteration for a square root, on plain numbers. Assumes nothing.
-use Rattle.std.proofs.Common.{◌≡◌, ℕ, zero, suc, ◌+◌, ◌*◌, ◌/◌, ◌<◌, ◌≤◌, refl, subst, ⊎_elim, le_of_lt, add_assoc, mul-le-mul_right, zero-lt-suc, lt-suc_self, mul_comm, div-lt_iff_lt-mul, add-mul, add_comm, mul-add, arith}
-use native.Mathlib.Nat.{le_dest, le_intro, add_left_comm}
+use mathlib.Core.Path.{◌≡◌, refl, subst}
+use mathlib.Core.Logic.{⊎_elim}
+use Prim.Native.Nat.{ℕ, zero, suc, ◌+◌, ◌*◌, ◌/◌, ◌≤◌, ◌<◌}
+use native.Mathlib.Nat.{le_of_lt, lt-suc_self, zero-lt-suc, le_dest, le_intro, add_comm, add_assoc, add_left_comm, mul_comm, mul-add, add-mul, mul-le-mul_right}
+use native.Mathlib.Nat.{div-lt_iff_lt-mul}
+use native.Mathlib.Omega.{arith}
 use Rattle.logic.specs.Laws.Order.{lt-or}
 
 -- ---- a step

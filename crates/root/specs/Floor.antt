@@ -1,6 +1,6 @@
 -- A floor over a root (01 "From a fix to a cell": "A floor over the root is the whole number w with w <= value < w + 1. Both sides are decided by
 -- sign and by whole-number squares"), over unbounded numbers. Assumes nothing.
-use Rattle.std.specs.Prelude.{◌≡◌, ℕ, zero, suc, ◌+◌, ◌-◌, ◌*◌, Bool, true, false, cond, ◌&&◌, ◌||◌, ℤ, pos, negsuc, neg_ℤ, nat_le}
+use Rattle.std.specs.Prelude.{◌≡◌, Bool, true, false, ◌&&◌, ◌||◌, cond, ℕ, zero, suc, ◌+◌, ◌-◌, ◌*◌, ℤ, pos, negsuc, neg_ℤ, leb}
 use Rattle.root.specs.declared.Axis.{Axis}
 
 abbrev pub square : ℕ → ℕ
@@ -10,10 +10,10 @@ square x = x * x
 --   900,000,000,000,000,000 (2w - m)  ≤  m p √radicand
 -- which the signs of the two sides and their squares decide. With g the size of p, first for p ≥ 0, then for p < 0:
 unfoldable pub plus_at : (m radicand g w : ℕ) → Bool
-plus_at m radicand g w = nat_le (2 * w) m || nat_le (square (900000000000000000 * (2 * w - m))) (square (m * g) * radicand)
+plus_at m radicand g w = leb (2 * w) m || leb (square (900000000000000000 * (2 * w - m))) (square (m * g) * radicand)
 
 unfoldable pub minus_at : (m radicand g w : ℕ) → Bool
-minus_at m radicand g w = nat_le (2 * w) m && nat_le (square (m * g) * radicand) (square (900000000000000000 * (m - 2 * w)))
+minus_at m radicand g w = leb (2 * w) m && leb (square (m * g) * radicand) (square (900000000000000000 * (m - 2 * w)))
 
 unfoldable pub at_most : (m radicand : ℕ) (p : ℤ) (w : ℕ) → Bool
 unfolding plus_at minus_at

@@ -1,5 +1,5 @@
 // Floors over a root, decided exactly (01 "From a fix to a cell": "A floor over the root is the whole number w with w <= value < w + 1").
-ghost use Rattle.std.specs.Prelude.{◌≡◌, ◌+◌, ◌*◌, ◌^◌, ◌<◌, ◌≤◌, neg_ℤ};
+ghost use Rattle.std.specs.Prelude.{◌≡◌, ◌+◌, ◌*◌, ◌^◌, ◌≤◌, ◌<◌, neg_ℤ};
 ghost use Rattle.wide.specs.Value.{three};
 ghost use Rattle.root.specs.Floor.{square, plus_at, minus_at, at_most, root_floor, axis_of};
 ghost use Rattle.root.specs.Part.{firm, part_of};
@@ -30,61 +30,42 @@ pub fn negated(x: Axis) -> Axis
 
 // ---- the whole root
 
-// A number that is almost always the whole root: the radicand is moved up to some 64 bits, the root is looked up by the first eight of these and taken along a
-// line, and what the square is short by then, times how steep the root is there, is put on it. No proof uses that, and there is no division.
+// A number near the root: the radicand is moved up to 63 or 64 bits, and the root is looked up by the first eight of these and then taken along a line. For a
+// large radicand it is at most one part in 250,000 off. No proof leans on that: it spares steps.
 fn near_root(radicand: u64) -> u64
-    requires { radicand < 16 * 10 ^ 18 }
-    ensures { result < 2 ^ 32 }
+    ensures { (1 ≤ result) × (result ≤ 2 ^ 33) }
 {
-    let s = u64::leading_zeros(radicand + 1) as u64 / 2 % 32;
+    let s = u64::leading_zeros(radicand) as u64 / 2 % 32;
     let moved = radicand << (2 * s);
-    let found = guess::root_and_rise((moved / 72_057_594_037_927_936 + 128) % 256);
-    let along = moved / 4_294_967_296 % 16_777_216;
-    let bend = found / 9_007_199_254_740_992;
-    let rise = found / 4_294_967_296 % 2_097_152;
-    let first = found % 4_294_967_296 + rise * along / 1_048_576;
-    let slope = rise + 2 * bend - bend * along / 4_194_304;
-    let short = std::num::wrapping_sub_u64(moved, first * first);
-    ((first + wide::high(short, slope * 4_096)) >> s) % 4_294_967_296
+    let found = guess::root_and_rise(moved / 72_057_594_037_927_936);
+    let along = moved / 16_777_216 % 4_294_967_296;
+    let rise = found / 4_294_967_296 * along / 4_294_967_296;
+    ((found % 4_294_967_296 + rise) >> s) + 1
 }
 
-// One of Newton's steps from any guess, which ends at or above the root.
-fn first_root(radicand: u64, near: u64) -> u64
-    requires { (radicand < 16 * 10 ^ 18) × (near < 2 ^ 32) }
-    ensures { (radicand < (result + 1) * (result + 1)) × (result ≤ 4000000000) }
+// One of Newton's steps from there, which ends at or above the root, and for a large t less than 1 above it.
+fn first_root(radicand: u64) -> u64
+    requires { radicand < 10 ^ 18 }
+    ensures { (radicand < (result + 1) * (result + 1)) × (result ≤ 1000000000) }
 {
-    let guess = near + 1;
-    let r = (guess + radicand / guess) / 2;
-    if r < 4_000_000_000 {
+    let near = near_root(radicand);
+    let r = (near + radicand / near) / 2;
+    if r < 1_000_000_000 {
         return r;
     }
-    4_000_000_000
+    1_000_000_000
 }
 
-// The largest r with r * r <= radicand, by Newton's steps from above.
-fn stepped_root(radicand: u64, near: u64) -> u64
-    requires { (radicand < 16 * 10 ^ 18) × (near < 2 ^ 32) }
+// The largest r with r * r <= radicand, by Newton's steps from above. The first guess is almost always the root already.
+pub fn whole_root(radicand: u64) -> u64
+    requires { radicand < 10 ^ 18 }
     ensures { (result * result ≤ radicand) × (radicand < (result + 1) * (result + 1)) }
 {
-    let mut r = first_root(radicand, near);
+    let mut r = first_root(radicand);
     while radicand < r * r {
         r = (r + radicand / r) / 2;
     }
     r
-}
-
-// The same, and almost always without a step: where the guess's square is short by at most twice the guess, it is the root. Where the square is too large, what it is
-// short by is taken around 2^64, and is more than that.
-pub fn whole_root(radicand: u64) -> u64
-    requires { radicand < 16 * 10 ^ 18 }
-    ensures { (result * result ≤ radicand) × (radicand < (result + 1) * (result + 1)) }
-{
-    let near = near_root(radicand);
-    let short = std::num::wrapping_sub_u64(radicand, near * near);
-    if short <= 2 * near {
-        return near;
-    }
-    stepped_root(radicand, near)
 }
 
 // ---- the exact test, by sign and by squares

@@ -6,7 +6,7 @@ use native.Mathlib.Omega.{arith}
 use Rattle.ternary.specs.Weave.{row_in, column_in, both_in}
 use Rattle.ternary.specs.Laws.Weave.{row_small, column-small, row-split, column-split, row_last, column-last}
 
-pub both_small : (k p : ℕ) → both_in k p < 3 ^ k * 4294967297
+both_small : (k p : ℕ) → both_in k p < 3 ^ k * 4294967297
 both_small k p = let r = row_small k p in let c = column-small k p in omega arith
 
 each-by-itself : (t a b c d : ℕ) → (a + b * 2 ^ 32) * t + (c + d * 2 ^ 32) ≡ (a * t + c) + (b * t + d) * 2 ^ 32

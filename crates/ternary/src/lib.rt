@@ -1,7 +1,7 @@
 // Powers of three and of nine, and a row and a column woven to digits of base nine and taken from them again. To weave, five digits at a time are
 // looked up. To take apart, two digits at a time are looked up, and the row and the column stand in one number. A batch takes a table of three
 // digits once and lends it on (02, W-202).
-ghost use Rattle.std.specs.Prelude.{◌≡◌, ◌+◌, ◌*◌, ◌/◌, ◌%◌, ◌^◌, ◌≤◌, ◌<◌};
+ghost use Rattle.std.specs.Prelude.{◌≡◌, ◌*◌, ◌/◌, ◌%◌, ◌^◌, ◌≤◌, ◌<◌};
 ghost use Rattle.ternary.specs.Threes.{Apart, Woven};
 ghost use Rattle.ternary.specs.Weave.{weave, row_in, column_in, both_in};
 
@@ -47,35 +47,10 @@ pub fn nine_power(e: u64) -> u64
     root * root
 }
 
-// 2^56 / 9^e, rounded up. The upper word of a product by it tells a quotient by 9^e, of a multiple of that, with no division.
-pub fn nine_share(e: u64) -> u64
-    requires { e ≤ 15 }
-    ensures { (2 ^ 56 ≤ result * 9 ^ e) × (result * 9 ^ e < 2 ^ 56 + 9 ^ e) }
-{
-    match e {
-        0 => 72_057_594_037_927_936,
-        1 => 8_006_399_337_547_549,
-        2 => 889_599_926_394_173,
-        3 => 98_844_436_266_020,
-        4 => 10_982_715_140_669,
-        5 => 1_220_301_682_297,
-        6 => 135_589_075_811,
-        7 => 15_065_452_868,
-        8 => 1_673_939_208,
-        9 => 185_993_246,
-        10 => 20_665_917,
-        11 => 2_296_213,
-        12 => 255_135,
-        13 => 28_349,
-        14 => 3_150,
-        _ => 350,
-    }
-}
-
 // 2^56, the whole of which a part is taken.
 const WHOLE: u64 = 72_057_594_037_927_936;
 
-// 2^56 / 3^15 rounded up: a row or a column at the finest resolution, times that, is the first part that has its digits.
+// 2^56 / 3^15 rounded up: so many times that is the first part of a row or a column at the finest resolution.
 pub const CELL: u64 = 5_021_817_623;
 
 // The path of the first fifteen ternary digits of two parts of a whole, a row's and a column's. Five digits of each are found by one product, and
@@ -110,30 +85,28 @@ pub struct Pair {
     pub column: u64,
 }
 
-// 2^56 / 9^8 rounded up: a path of eight digits, times that, is the first part that has these digits.
-const EIGHTH: u64 = 1_673_939_208;
+// The row and the column of four digits of a path, in one number, from those of two and two: 3^16 is below 2^32, so one product serves both.
+fn four_digits(x: u64) -> u64
+    requires { x < 6561 }
+    ensures { result ≡ both_in 4 x }
+{
+    digits::two_digits(x / 81) * 9 + digits::two_digits(x % 81)
+}
 
-// The row and the column of sixteen digits of a path, in one number: 3^16 is below 2^32, so one product serves both. The first eight digits and the last
-// eight are parts of a whole, and take turns: two digits of one are found by a product, and looked up in one place, as in `woven`.
+// The row and the column of eight digits of a path.
+fn eight_digits(x: u64) -> u64
+    requires { x < 43046721 }
+    ensures { result ≡ both_in 8 x }
+{
+    four_digits(x / 6_561) * 81 + four_digits(x % 6_561)
+}
+
+// The row and the column of sixteen digits of a path.
 fn sixteen_digits(x: u64) -> u64
     requires { x < 1853020188851841 }
     ensures { result ≡ both_in 16 x }
 {
-    let mut this = x / 43_046_721 * EIGHTH;
-    let mut other = x % 43_046_721 * EIGHTH;
-    let mut before: u64 = 0;
-    let mut last: u64 = 0;
-    let mut turns: u64 = 8;
-    while turns > 0 {
-        let two = this * 81;
-        let longer = before * 9 + digits::two_digits(two / WHOLE);
-        this = other;
-        other = two % WHOLE;
-        before = last;
-        last = longer;
-        turns = turns - 1;
-    }
-    before * 6_561 + last
+    eight_digits(x / 43_046_721) * 6_561 + eight_digits(x % 43_046_721)
 }
 
 // The row and the column of sixteen digits of a path. Where there are fewer, zeros before them change nothing.

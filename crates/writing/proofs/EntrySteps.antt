@@ -27,7 +27,6 @@ use Rattle.writing.specs.declared.Written.TheVariants.{Length, Refused}
 use Rattle.writing.specs.Write.{all_codes, all_of, ordered, codes_refusal, asks_for, text_of, fit_refusal, write_refusal, text_in, written}
 use Rattle.writing.specs.Internal.Put.{front}
 use Rattle.writing.specs.Internal.Asked.{asked_refusal}
-use Rattle.writing.specs.Internal.Judged.{code_at, Own, Order, Judged}
 use Rattle.writing.specs.Internal.AskedLaws.{asked-first}
 use Rattle.writing.specs.Laws.List.{not-lies, tested}
 
@@ -110,6 +109,26 @@ end-small-at c t s z =
 
 -- ---- the codes, one after the other
 
+abbrev code_at : List ℕ → ℕ → ℕ
+code_at codes i = get_or codes i 0
+
+-- the codes up to the place i are of the arrangement
+pub record Own (a : Arrangement) (codes : List ℕ) (i : ℕ) : Type 0 where
+  pub left : all_of a codes ≡ all_of a (drop i codes)
+  pub before : 0 < i → is_of a (code_at codes (i - 1)) ≡ true
+
+-- the order of the codes up to the place i is judged
+abbrev pub Order : List ℕ → (i refusal : ℕ) → Type 0
+Order codes i refusal = ((refusal ≡ 0) × (ordered codes ≡ ordered (drop (i - 1) codes))) ⊎ ((refusal ≡ 11) × (ordered codes ≡ false))
+
+-- the codes up to the place i are cells', they are judged, and the last of their cells ends at `end`
+pub record Judged (a : Arrangement) (codes : List ℕ) (i refusal end : ℕ) : Type 0 where
+  pub to : i ≤ length codes
+  pub coded : all_codes codes ≡ all_codes (drop i codes)
+  pub said : (Own a codes i × Order codes i refusal) ⊎ ((refusal ≡ 14) × (all_of a codes ≡ false))
+  pub first : i ≡ 0 → end ≡ 0
+  pub last : 0 < i → (is_code (code_at codes (i - 1)) ≡ true) × (end ≡ start_of (cell_of (code_at codes (i - 1))) + size_of (cell_of (code_at codes (i - 1))))
+
 pub judge-starts : (a : Arrangement) (codes : List ℕ) → Judged a codes 0 0 0
 judge-starts a codes =
     record {
@@ -190,14 +209,6 @@ module _ {a : Arrangement} {codes : List ℕ} {i refusal end : ℕ} (v : Judged 
           first = λ z. absurd (omega arith);
           last = λ z. rw p (e, n ∙ ap (λ (x : ℕ). x + size_of (cell_of (code_at codes i))) s);
         }
-
--- a code that is of the arrangement and follows leaves the list good
-pub judge-good :
-    {a : Arrangement} {codes : List ℕ} {i end start next : ℕ} → Judged a codes i 0 end → i < length codes → is_code (code_at codes i) ≡ true →
-    start ≡ start_of (cell_of (code_at codes i)) → is_of a (code_at codes i) ≡ true → end ≤ start → next ≡ start + size_of (cell_of (code_at codes i)) →
-    Judged a codes (i + 1) 0 next
-unfolding ◌otherwise◌
-judge-good {a} {codes} {i} {end} {start} v h e s o f n = judge-next v h e s (rw (o, le-leb end start f) refl) n
 
 -- ---- the heading
 

@@ -2,7 +2,6 @@ pub mod Asked
 pub mod AskedLaws
 pub mod Depth
 pub mod EntryLaws
-pub mod Judged
 pub mod Length
 pub mod Measure
 pub mod MeasureLaws

@@ -12,7 +12,6 @@ ghost use Rattle.writing.specs.Write.{all_codes, InTurn, codes_refusal, asks_for
 ghost use Rattle.writing.specs.Internal.Depth.{greater as greater_of, depth_above, breaks as breaks_it};
 ghost use Rattle.writing.specs.Internal.Length.{LengthIs};
 ghost use Rattle.writing.specs.Internal.Asked.{asked_refusal};
-ghost use Rattle.writing.specs.Internal.Judged.{Judged};
 
 use cell::Arrangement;
 use reading::Profile;
@@ -289,20 +288,19 @@ fn judged(refusal: u64, own: bool, follows: bool) -> u64
     11 // not rising, or nested
 }
 
-// 4, 14 or 11, or 0, of a list whose codes before `from` make a good one; the last of their cells ends at `last`. A code that is no cell's comes before all else.
-// A cell that starts where the one before it ends, or later, comes after it and not inside.
-fn refusal_from(arrangement: Arrangement, codes: &[u64], from: usize, last: u64) -> u64
-    requires arrangement { IsArrangement arrangement }
-    requires judged { Judged arrangement codes.now from 0 last }
+// 4, 14 or 11, or 0 where the codes make a good list: a code that is no cell's comes before all else. A cell that starts where the one before it
+// ends, or later, comes after it and not inside.
+fn list_refusal(arrangement: Arrangement, codes: &[u64]) -> u64
+    requires { IsArrangement arrangement }
     ensures { result ≡ codes_refusal arrangement codes.now }
 {
     let mut refusal: u64 = 0;
-    let mut end = last;
-    let mut i = from;
+    let mut end: u64 = 0;
+    let mut i: usize = 0;
     while i < codes.len() {
         let code = codes[i];
         if !code::is_code(code) {
-            return 4; // whatever else there is
+            return 4;
         }
         let own = code::is_of(arrangement, code);
         let start = code::start_in(code);
@@ -311,31 +309,6 @@ fn refusal_from(arrangement: Arrangement, codes: &[u64], from: usize, last: u64)
         i = i + 1;
     }
     refusal
-}
-
-// 4, 14 or 11, or 0 where the codes make a good list. Most lists are good, so nothing is kept but where the last cell ends, until a code is not good.
-fn list_refusal(arrangement: Arrangement, codes: &[u64]) -> u64
-    requires { IsArrangement arrangement }
-    ensures { result ≡ codes_refusal arrangement codes.now }
-{
-    let mut end: u64 = 0;
-    let mut i: usize = 0;
-    while i < codes.len() {
-        let code = codes[i];
-        if !code::is_code(code) {
-            return 4; // before all else
-        }
-        if !code::is_of(arrangement, code) {
-            return refusal_from(arrangement, codes, i, end); // 14 or 4
-        }
-        let start = code::start_in(code);
-        if start < end {
-            return refusal_from(arrangement, codes, i, end); // 11, 14 or 4
-        }
-        end = start + code::size_in(code); // of a good one
-        i = i + 1;
-    }
-    0
 }
 
 // The length of the text of a list, and the least depth of version 2 that its nodes keep to.

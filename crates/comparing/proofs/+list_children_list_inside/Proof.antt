@@ -7,7 +7,6 @@ use mathlib.Core.Path.{refl, sym, ◌∙◌}
 use mathlib.Core.Logic.{⊎_elim}
 use Rattle.comparing.specs.Compare.{lists}
 use Rattle.comparing.proofs.Steps.{Going, going_on, flat-found, deep-found, inside_found, none_found, one_less, number_small, power-more, power-less}
-use Rattle.comparing.proofs.Alone.{first_alone, second-alone}
 use borrow.Fn.Kinds.{In}
 use borrow.Fn.PlainCycle.{Measures, is, falls, and}
 use Rattle.comparing.proofs.list_children.Reads as list-children
@@ -20,7 +19,6 @@ use Rattle.comparing.proofs.child_at.Reads as child-at-reads
 use Rattle.comparing.proofs.is_divided.Reads as is-divided-reads
 use Rattle.comparing.proofs.list_cell.Reads as list-cell-reads
 use Rattle.comparing.proofs.past_list.Reads as past-list-reads
-use Rattle.comparing.proofs.take_inside.Reads as take-inside-reads
 use Rattle.comparing.proofs.+list_children_list_inside.{statement}
 use Rattle.comparing.proofs.+list_children_list_inside.Tie.{close}
 
@@ -56,8 +54,7 @@ for-children t =
     (child-at-reads.Asked, child-at-reads.Learnt, is-divided-reads.Asked, is-divided-reads.Learnt, list-inside-below t, list_inside.Post, list-cell-reads.Asked, list-cell-reads.Learnt)
 
 abbrev for-inside : ℕ → list-inside-lts.Claims
-for-inside t =
-    (take-inside-reads.Asked, take-inside-reads.Learnt, list-children-below t, list-children.Post, past-list-reads.Asked, past-list-reads.Learnt)
+for-inside t = (list-children-below t, list-children.Post, past-list-reads.Asked, past-list-reads.Learnt)
 
 abbrev list-children-Inv-loop : list-children-lts.invariant-loop
 list-children-Inv-loop first second x y arrangement left byte resolution number firsts₀ seconds₀ boths₀ cursor₀ name₀ child₀ more₀ firsts seconds boths cursor name child more =
@@ -142,40 +139,18 @@ list-children-returns t c = c.before.loop.invariant.rest _ _ (none_found (omega 
 list-inside-returns : (t : ℕ) → list-inside-lts.Need-returns (for-inside t) (list-inside-at t) list_inside.Post
 list-inside-returns t c = deep-found c.before.before.before.before.before.before.requires.1.0.1 c.if1.true
 
-list-inside-take-inside-requires : (t : ℕ) → list-inside-lts.Need-take-inside-requires (for-inside t) (list-inside-at t) list_inside.Post
-list-inside-take-inside-requires t c κs = let p = c.before.before.before.before.before.before.before.before.requires.1 in (p.0.0, (p.1.0, p.1.1, omega (arith, p.1.2)))
-
-list-inside-same-length : (t : ℕ) → list-inside-lts.Need-same-length (for-inside t) (list-inside-at t) list_inside.Post
-list-inside-same-length t c = search rules
-
-list-inside-returns-2 : (t : ℕ) → list-inside-lts.Need-returns-2 (for-inside t) (list-inside-at t) list_inside.Post
-list-inside-returns-2 t c =
-    let s = c.before.before.before.before.before.before.before.before.before.before.before in
-    second-alone s.requires.1.0.1 c.before.before.before.before.if2.true c.before.before.take-inside.ensures
-
-list-inside-take-inside-requires-2 : (t : ℕ) → list-inside-lts.Need-take-inside-requires-2 (for-inside t) (list-inside-at t) list_inside.Post
-list-inside-take-inside-requires-2 t c κs = let p = c.before.before.before.before.before.before.before.before.before.requires.1 in (p.0.0, (p.1.0, p.1.1, omega (arith, p.1.2)))
-
-list-inside-same-length-2 : (t : ℕ) → list-inside-lts.Need-same-length-2 (for-inside t) (list-inside-at t) list_inside.Post
-list-inside-same-length-2 t c = search rules
-
-list-inside-returns-3 : (t : ℕ) → list-inside-lts.Need-returns-3 (for-inside t) (list-inside-at t) list_inside.Post
-list-inside-returns-3 t c =
-    let s = c.before.before.before.before.before.before.before.before.before.before.before.before in
-    first_alone s.requires.1.0.1 c.before.before.before.before.if3.true c.before.before.take-inside2.ensures
-
 list-inside-add-list-children : (t : ℕ) → list-inside-lts.Need-overflow-add-list-children (for-inside t) (list-inside-at t) list_inside.Post
 list-inside-add-list-children t c = omega arith
 
 list-inside-mul-list-children : (t : ℕ) → list-inside-lts.Need-overflow-mul-list-children (for-inside t) (list-inside-at t) list_inside.Post
-list-inside-mul-list-children t c = let a = c.before.before.before.before.before.before.before.before in omega (arith, a.requires.1.1.1, number_small a.args.resolution a.requires.1.1.0)
+list-inside-mul-list-children t c = let a = c.before.before.before.before.before.before in omega (arith, a.requires.1.1.1, number_small a.args.resolution a.requires.1.1.0)
 
 list-inside-list-children-requires : (t : ℕ) → list-inside-lts.Need-list-children-requires (for-inside t) (list-inside-at t) list_inside.Post
 list-inside-list-children-requires t c κs =
-    let a = c.before.before.before.before.before.before.before.before.before.before.before in
+    let a = c.before.before.before.before.before.before.before.before.before in
     let k = a.args.resolution in
     let p = a.requires.1 in
-    let o = c.before.before.before.before.before.if1.false in (
+    let o = c.before.before.before.if1.false in (
       omega arith,
       (p.0.0, (omega arith, omega arith, omega arith, omega (arith, p.1.1, power-more k), omega (arith, p.1.2, power-less k (omega arith)))),
     )
@@ -186,19 +161,19 @@ list-inside-past-list-requires t c κs = search rules
 list-inside-past-list-requires-2 : (t : ℕ) → list-inside-lts.Need-past-list-requires-2 (for-inside t) (list-inside-at t) list_inside.Post
 list-inside-past-list-requires-2 t c κs = search rules
 
+list-inside-same-length : (t : ℕ) → list-inside-lts.Need-same-length (for-inside t) (list-inside-at t) list_inside.Post
+list-inside-same-length t c = search rules
+
+list-inside-same-length-2 : (t : ℕ) → list-inside-lts.Need-same-length-2 (for-inside t) (list-inside-at t) list_inside.Post
+list-inside-same-length-2 t c = search rules
+
 list-inside-same-length-3 : (t : ℕ) → list-inside-lts.Need-same-length-3 (for-inside t) (list-inside-at t) list_inside.Post
 list-inside-same-length-3 t c = search rules
 
-list-inside-same-length-4 : (t : ℕ) → list-inside-lts.Need-same-length-4 (for-inside t) (list-inside-at t) list_inside.Post
-list-inside-same-length-4 t c = search rules
-
-list-inside-same-length-5 : (t : ℕ) → list-inside-lts.Need-same-length-5 (for-inside t) (list-inside-at t) list_inside.Post
-list-inside-same-length-5 t c = search rules
-
-list-inside-returns-4 : (t : ℕ) → list-inside-lts.Need-returns-4 (for-inside t) (list-inside-at t) list_inside.Post
-list-inside-returns-4 t c =
+list-inside-returns-2 : (t : ℕ) → list-inside-lts.Need-returns-2 (for-inside t) (list-inside-at t) list_inside.Post
+list-inside-returns-2 t c =
     let l = c.before.before.before.before.before.before.before.before in
-    let o = l.before.before.before.before.before.before in
+    let o = l.before.before.before.before in
     inside_found o.before.before.before.before.before.before.requires.1.0.1 (omega (arith, o.if1.false)) l.list-children.ensures c.before.past-list.ensures
     c.past-list2.ensures
 
@@ -228,18 +203,12 @@ pub +list-children-list-inside-spec : {M : Type 1} → statement M
     (list-inside-at t)
     list_inside.Post
     (list-inside-returns t)
-    (list-inside-take-inside-requires t)
-    (list-inside-same-length t)
-    (list-inside-returns-2 t)
-    (list-inside-take-inside-requires-2 t)
-    (list-inside-same-length-2 t)
-    (list-inside-returns-3 t)
     (list-inside-add-list-children t)
     (list-inside-mul-list-children t)
     (list-inside-list-children-requires t)
     (list-inside-past-list-requires t)
     (list-inside-past-list-requires-2 t)
+    (list-inside-same-length t)
+    (list-inside-same-length-2 t)
     (list-inside-same-length-3 t)
-    (list-inside-same-length-4 t)
-    (list-inside-same-length-5 t)
-    (list-inside-returns-4 t)
+    (list-inside-returns-2 t)

@@ -1,11 +1,11 @@
 -- What the functions of this crate promise of where they stand in the two texts, and of the cells that they find. A tree is known only to the proof: so
 -- they speak of any portions whose bytes stand there. Assumes nothing.
-use Rattle.std.specs.Prelude.{◌≡◌, true, false, cond, List, [], ◌∷◌, ◌++◌, map, ℕ, ◌+◌, ◌-◌, ◌*◌, ◌^◌, ◌≤◌, ◌<◌, eqb, ltb, length, drop, get_or}
+use Rattle.std.specs.Prelude.{◌≡◌, true, false, cond, List, [], ◌∷◌, ◌++◌, map, ℕ, ◌+◌, ◌-◌, ◌*◌, ◌^◌, ◌≤◌, ◌<◌, eqb, ltb, length, drop}
 use Rattle.std.proofs.lemmas.List.Edits.{sets}
 use Rattle.cell.specs.declared.Arrangement.{Arrangement}
 use Rattle.reading.specs.declared.Level.{Level}
 use Rattle.reading.specs.declared.Level.TheVariants.{Digits}
-use Rattle.reading.specs.Reading.{Nodes, first, many, render, Good}
+use Rattle.reading.specs.Reading.{first, many, render}
 use Rattle.reading.specs.Ground.{whole_cells, size_sum}
 use Rattle.reading.specs.TextReading.{nodes_of, text_arrangement, is_text, body_start}
 use Rattle.reading.specs.Laws.Parse.{Stop}
@@ -15,7 +15,6 @@ use Rattle.walk.specs.Walk.{spot, spots_in}
 use Rattle.listing.specs.Laws.List.{spot_code}
 use Rattle.comparing.specs.declared.Child.{Child}
 use Rattle.comparing.specs.declared.Cursor.{Cursor}
-use Rattle.comparing.specs.declared.Taken.{Taken}
 use Rattle.comparing.specs.declared.Read.{Read}
 use Rattle.comparing.specs.declared.Compared.{Compared}
 use Rattle.comparing.specs.declared.Compared.TheVariants.{Listings}
@@ -92,33 +91,6 @@ pub record Found (s t e f : List ℕ) (a : Arrangement) (ss : (p q : ℕ) → Li
 -- what was counted so far. It grows by at most twice the finest cells that were gone over, so nothing overflows
 abbrev pub weight : Cursor → ℕ
 weight c = c.firsts + c.seconds + c.boths + c.size
-
--- ---- the cells of one text, where the other has none of them
-
--- a digit stands at this place, or, with 9 and more, none does
-pub record DigitIs (s : List ℕ) (at r : ℕ) : Type 0 where
-  pub within : r < 9 → at < length s
-  pub stands : r < 9 → get_or s at 0 ≡ 48 + r
-  pub none : 9 ≤ r → (c : ℕ) → c < 9 → at < length s → get_or s at 0 ≡ 48 + c → ⊥
-
--- these were found, and the text goes on with e
-pub record Took (s e : List ℕ) (a : Arrangement) (ss : List Spot) (lent later : List ℕ) (count : ℕ) (r : Taken) : Type 0 where
-  pub on : drop r.next s ≡ e
-  pub adds : Adds a ss lent later count r.count
-
--- inside a cell of resolution k and number n, the nodes of whose list stand at this place
-pub record InsideTaken (s : List ℕ) (at count : ℕ) (a : Arrangement) (k n : ℕ) (lent later : List ℕ) (r : Taken) : Type 0 where
-  pub is :
-      (ns : Nodes) (e : List ℕ) (d : ℕ) → d + k ≤ 15 → 0 < d → Good Digits (d - 1) 0 ns → drop at s ≡ render Digits ns ++ (41 ∷ e) →
-      Took s e a (spots_in (k + 1) n ns) lent later count r
-  pub short : r.count ≤ count + 9 ^ (15 - k)
-
--- m nodes of resolution k or fewer, in a cell whose first child has the number n
-pub record NodesTaken (s : List ℕ) (at count : ℕ) (a : Arrangement) (m k n : ℕ) (lent later : List ℕ) (r : Taken) : Type 0 where
-  pub is :
-      (ns : Nodes) (e : List ℕ) (d lo p : ℕ) → n ≡ p * 9 → 9 ≤ m + lo → d + k ≤ 15 → Good Digits d lo ns → Stop e → drop at s ≡ render Digits ns ++ e →
-      Took s e a (spots_in k p ns) lent later count r
-  pub short : r.count ≤ count + m * 9 ^ (15 - k)
 
 -- ---- what is promised
 

@@ -122,7 +122,7 @@ module _ (p q : ℕ) (f g : Portion → Portion → Nodes) (m : (x y : Portion) 
   side_swap zero c x y = refl
   side_swap (suc n) c x y = node-swap c (of_child c x) (of_child c y) _ _ (side_swap n (suc c) (past_child c x) (past_child c y))
 
-pub under-swap : (r p q : ℕ) (x y : Portion) → below_shared r p q x y ≡ below_shared r q p y x
+under-swap : (r p q : ℕ) (x y : Portion) → below_shared r p q x y ≡ below_shared r q p y x
 unfolding below_shared
 under-swap zero p q x y = refl
 under-swap (suc r) p q x y = side_swap p q (below_shared r p q) (below_shared r q p) (under-swap r p q) 9 0 x y

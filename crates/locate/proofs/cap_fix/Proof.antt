@@ -1,10 +1,10 @@
 -- `locate::cap_fix` meets its contract: the end of a cap that the sign picks. Assumes nothing.
 use mathlib.Core.Path.{◌≡◌, sym, ap, ap₂, ◌∙◌}
 use mathlib.Core.Bool.{Bool, true, false, cond}
-use Prim.Native.Nat.{ℕ, ◌-◌, ◌*◌, ◌%◌, ◌^◌, ◌≤◌, ◌<◌}
+use Prim.Native.Nat.{ℕ, ◌-◌, ◌*◌, ◌^◌, ◌≤◌, ◌<◌}
 use native.Mathlib.Omega.{arith}
 use borrow.Author.Rules.{rules}
-use lib.IntN.{ℤ, pos, nat_abs, ◌+ℤ◌}
+use lib.IntN.{ℤ, nat_abs}
 use Rattle.cell.specs.declared.Arrangement.{Arrangement}
 use Rattle.code.specs.Code.{code_of}
 use Rattle.signed.specs.Sign.{negative}
@@ -19,16 +19,8 @@ use Rattle.locate.proofs.cap_fix.Tie as tie
 
 -- ---- what the calls give, of the fix itself
 
-module _ (c : tie.After-shifted) where
-  shifted-is : c.shifted.result ≡ nat_abs (c.before.args.longitude +ℤ pos 1800000000)
-  shifted-is = c.shifted.ensures ∙ ap (λ (x : ℤ). nat_abs (x +ℤ pos 1800000000)) (back c.before.ranges.longitude)
-
-  east-le : c.shifted.result ≤ 3600000000
-  east-le = let s = c.before in rw shifted-is (shifted-small s.args.longitude s.args.z s.requires.1.1.0)
-
-  east-is : c.shifted.result % 3600000000 ≡ east_of c.before.args.longitude
-  unfolding east_of
-  east-is = ap (λ (x : ℕ). x % 3600000000) shifted-is
+east-is : (c : tie.After-east-of) → c.east-of.result ≡ east_of c.before.args.longitude
+east-is c = c.east-of.ensures.0 ∙ ap east_of (back c.before.ranges.longitude)
 
 module _ (c : tie.After-magnitude) where
   size_is : c.magnitude.result ≡ nat_abs c.before.before.args.z
@@ -58,8 +50,10 @@ unfolding south_cell north_cell
 cap-cell a k east z true s h o = ap (south_cell a.south k east) h ∙ sym (place-south a k east z o (below-zero z ∙ sym s))
 cap-cell a k east z false s h o = ap (north_cell a.north k east) h ∙ sym (place-north a k east z o (below-zero z ∙ sym s))
 
-shifted-requires : tie.Need-shifted-requires
-shifted-requires c κs = rw (back c.ranges.longitude) (omega arith, longitude-low c.args.longitude c.args.z c.requires.1.1.0)
+east-of-requires : tie.Need-east-of-requires
+east-of-requires c κs =
+    let r = c.requires.1.1.0 in
+    rw (back c.ranges.longitude) (longitude-low c.args.longitude c.args.z r, shifted-small c.args.longitude c.args.z r)
 
 magnitude-requires : tie.Need-magnitude-requires
 magnitude-requires c κs = search rules
@@ -74,9 +68,7 @@ mul-height : tie.Need-overflow-mul-height
 mul-height c = search rules
 
 end-of-requires : tie.Need-end-of-requires
-end-of-requires c κs =
-    let e = c.before.before in
-    (e.before.requires.0, east-le e)
+end-of-requires c κs = search rules
 
 cap-face-requires : tie.Need-cap-face-requires
 cap-face-requires c κs = search rules
@@ -104,8 +96,8 @@ returns c =
     c.cap-code.ensures
     ∙ ap (code_of g)
     (stands-cell f.cap-face.result a.resolution t _ _ x.end-of.ensures
-    ∙ ap (λ (y : ℕ). cap_cell y a.resolution t (turned_end g south (e.shifted.result % 3600000000))) f.cap-face.ensures
-    ∙ cap-cell g a.resolution (e.shifted.result % 3600000000) a.z south (sign-is n) (height-is m) s.requires.1.1.1
+    ∙ ap (λ (y : ℕ). cap_cell y a.resolution t (turned_end g south e.east-of.result)) f.cap-face.ensures
+    ∙ cap-cell g a.resolution e.east-of.result a.z south (sign-is n) (height-is m) s.requires.1.1.1
     ∙ ap (λ (y : ℕ). place_cell g a.resolution y a.z) (east-is e)
     ∙ fix-place g a.resolution a.longitude a.z)
 
@@ -113,7 +105,7 @@ pub cap-fix-spec : {M : Type 1} → statement M
 cap-fix-spec =
     tie.close
     (tie.spec
-    shifted-requires
+    east-of-requires
     magnitude-requires
     is-negative-requires
     sub-height

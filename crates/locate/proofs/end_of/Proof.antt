@@ -1,17 +1,16 @@
 -- `locate::end_of` meets its contract: the south's turns are the north's, counted back. Assumes nothing.
 use mathlib.Core.Path.{◌≡◌, ap, ◌∙◌, subst}
 use mathlib.Core.Bool.{Bool, true, false, not, cond}
-use Prim.Native.Nat.{ℕ, ◌+◌, ◌-◌, ◌*◌, ◌/◌, ◌%◌, ◌≤◌}
+use Prim.Native.Nat.{ℕ, ◌+◌, ◌-◌, ◌/◌, ◌%◌, ◌≤◌}
 use native.Mathlib.Omega.{arith}
 use borrow.Author.Rules.{rules}
-use lib.IntN.{ℤ, pos, neg_ℤ, sub_ℕ}
+use lib.IntN.{ℤ, pos, neg_ℤ}
 use Rattle.cell.specs.declared.Arrangement.{Arrangement}
 use Rattle.cell.specs.Cell.{IsArrangement}
 use Rattle.cell.specs.Neighbour.{turn_of}
 use Rattle.root.specs.Floor.{axis_of}
 use Rattle.locate.specs.Fix.{CapPoint, quarter, start_north, start_south, turned_north}
 use Rattle.locate.specs.Internal.End.{Stands, turned_end}
-use Rattle.locate.specs.Internal.PartLaws.{turn-off}
 use Rattle.locate.specs.Laws.Turn.{south-turned}
 use Rattle.locate.proofs.end_of.Statement.{statement}
 use Rattle.locate.proofs.end_of.Tie as tie
@@ -44,12 +43,9 @@ returns c =
     let a = s.args in
     let y : ℤ = cond (not a.south) (neg_ℤ (pos quarter)) (pos quarter) in
     let u : ℤ = axis_of c.before.across.result in
-    let east : ℕ = a.east % 3600000000 in
-    let o = turn-off a.east in
-    let turns : ℕ → ℕ = λ (j : ℕ). cond a.south ((a.arrangement.south + 4 - j) % 4) (turn_of j a.arrangement.north) in
-    let e : turned_north c.before.before.turns-of.result (u, y) ≡ turned_end a.arrangement a.south east =
-    ap (λ (j : ℕ). turned_north j (u, y)) (c.before.before.turns-of.ensures.1 ∙ ap turns o.1)
-    ∙ ended a.arrangement east u s.requires.0 (omega arith) a.south (c.before.across.ensures.0 ∙ ap (λ (x : ℕ). sub_ℕ (2 * x) quarter) o.0)
+    let e : turned_north c.before.before.turns-of.result (u, y) ≡ turned_end a.arrangement a.south a.east =
+    ap (λ (j : ℕ). turned_north j (u, y)) c.before.before.turns-of.ensures.1
+    ∙ ended a.arrangement a.east u s.requires.0 (omega arith) a.south c.before.across.ensures.0
     in
     subst (λ (x : CapPoint). Stands x c.turned.result) e c.turned.ensures
 

@@ -133,7 +133,7 @@ module _ (east : ℕ) (small : east ≤ 3600000000) where
       ap (λ (w : ℕ). w * 3 ^ k / 3 ^ 15) finest-column ∙ part-coarser k (east % quarter) quarter h (lit< tt) ∙ ap (λ (x : ℕ). x / quarter) (mul_comm (3 ^ k) (east % quarter))
 
 -- a full turn changes neither the place in a quarter turn nor, around four, which one it is
-pub turn-off : (x : ℕ) → (x % quarter ≡ x % 3600000000 % quarter) × (x / quarter % 4 ≡ x % 3600000000 / quarter)
+turn-off : (x : ℕ) → (x % quarter ≡ x % 3600000000 % quarter) × (x / quarter % 4 ≡ x % 3600000000 / quarter)
 turn-off x =
     let q : ℕ = x / 3600000000 in
     let c : ℕ = x % 3600000000 / 900000000 in

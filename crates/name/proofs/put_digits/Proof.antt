@@ -1,45 +1,35 @@
 -- `name::put_digits` meets its contract: the digits still to write, and the bytes behind them, are the whole. Assumes nothing.
-use mathlib.Core.Path.{◌≡◌, refl, subst}
-use Prim.Native.Nat.{ℕ, ◌+◌, ◌-◌, ◌/◌, ◌%◌}
+use mathlib.Core.Path.{◌≡◌, refl, sym, ap, ap₂, ◌∙◌}
+use mathlib.Core.List.{◌++◌}
+use Prim.Native.Nat.{ℕ, ◌+◌, ◌%◌, ◌≤◌, ◌<◌}
 use native.Mathlib.Omega.{arith}
-use lib.ListN.{set, length-set}
+use lib.ListN.{length, take, drop, length-set, take-append-drop}
 use borrow.Author.Rules.{rules}
-use Rattle.name.proofs.Laws.{Written, written_none, written_one, written-two, written_all}
+use Rattle.ternary.specs.Digits.{digits}
+use Rattle.name.specs.Name.{digit_bytes}
+use Rattle.name.proofs.Laws.{digit-kept, front_kept}
 use Rattle.name.proofs.put_digits.Statement.{statement}
 use Rattle.name.proofs.put_digits.Tie as tie
 
 abbrev invariant-loop : tie.invariant-loop
-invariant-loop name₀ count path p₀ left₀ name p left = Written name₀ name count path left p
+invariant-loop name₀ count path p₀ left₀ name p left =
+    (left ≤ count) × (length name ≡ length name₀) × (take (left + 1) name ≡ take (left + 1) name₀) × (digit_bytes (digits 9 left p) ++ drop (left + 1) name ≡ digit_bytes
+    (digits 9 count path) ++ drop (count + 1) name₀)
 
 abbrev decreases-loop : tie.decreases-loop
 decreases-loop name₀ count path p₀ left₀ name p left = left
 
 loop-holds : tie.Need-loop-init invariant-loop decreases-loop
-loop-holds c = written_none c.args.name.now c.args.count c.args.path
-
-cast-name : tie.Need-overflow-cast-name invariant-loop decreases-loop
-cast-name c = search rules
+loop-holds c = (omega arith, refl, refl, refl)
 
 add-name : tie.Need-overflow-add-name invariant-loop decreases-loop
 add-name c = search rules
 
+cast-name : tie.Need-overflow-cast-name invariant-loop decreases-loop
+cast-name c = search rules
+
 slice-write-name : tie.Need-slice-write-name invariant-loop decreases-loop
 slice-write-name c = search rules
-
-cast-name-2 : tie.Need-overflow-cast-name-2 invariant-loop decreases-loop
-cast-name-2 c = search rules
-
-add-name-2 : tie.Need-overflow-add-name-2 invariant-loop decreases-loop
-add-name-2 c = search rules
-
-sub-name : tie.Need-overflow-sub-name invariant-loop decreases-loop
-sub-name c = search rules
-
-slice-write-name-2 : tie.Need-slice-write-name-2 invariant-loop decreases-loop
-slice-write-name-2 c =
-    let l = c.before.loop in
-    let z = length-set l.name l.left (48 + l.p % 81 % 9) in
-    omega (arith, l.invariant.within, l.invariant.long)
 
 sub-left : tie.Need-overflow-sub-left invariant-loop decreases-loop
 sub-left c = search rules
@@ -48,59 +38,28 @@ loop-less : tie.Need-loop-smaller invariant-loop decreases-loop
 loop-less c = search rules
 
 loop-again : tie.Need-loop-preserved invariant-loop decreases-loop
-loop-again c = written-two c.before.loop.invariant c.before.before.requires c.loop-test.true
-
-cast-name-3 : tie.Need-overflow-cast-name-3 invariant-loop decreases-loop
-cast-name-3 c = search rules
-
-add-name-3 : tie.Need-overflow-add-name-3 invariant-loop decreases-loop
-add-name-3 c = search rules
-
-slice-write-name-3 : tie.Need-slice-write-name-3 invariant-loop decreases-loop
-slice-write-name-3 c = search rules
+loop-again c =
+    let l = c.before.loop in
+    let s = l.name in
+    let t = c.before.before.args.name.now in
+    let some = c.loop-test.true in
+    let h : l.left < length s = omega arith in
+    (omega arith, length-set s l.left (48 + l.p % 9) ∙ l.invariant.1, front_kept s l.left some h t (48 + l.p % 9) l.invariant.2, digit-kept s l.left some h l.p ∙ l.invariant.3)
 
 same_length : tie.Need-same-length invariant-loop decreases-loop
 same_length c = search rules
 
 returns : tie.Need-returns invariant-loop decreases-loop
+unfolding digits
 returns c =
-    let l = c.before.before.loop in
-    let s = c.before.before.before.args in
-    let e : l.left - 1 ≡ 0 = omega arith in
-    let w = written_one (48 + l.p % 9) l.invariant c.before.before.before.requires c.if1.true refl in
-    written_all (subst (λ (x : ℕ). Written s.name.now (set l.name l.left (48 + l.p % 9)) s.count s.path x (l.p / 9)) e w)
-
-same-length-2 : tie.Need-same-length-2 invariant-loop decreases-loop
-same-length-2 c = search rules
-
-returns-2 : tie.Need-returns-2 invariant-loop decreases-loop
-returns-2 c =
-    let l = c.before.before.loop in
-    let s = c.before.before.before.args in
+    let l = c.before.loop in
+    let s = l.name in
     let e : l.left ≡ 0 = omega arith in
-    written_all (subst (λ (x : ℕ). Written s.name.now l.name s.count s.path x l.p) e l.invariant)
+    let f = ap (λ (x : ℕ). take (x + 1) s) (sym e) ∙ l.invariant.2 ∙ ap (λ (x : ℕ). take (x + 1) c.before.before.args.name.now) e in
+    let g = ap (λ (x : ℕ). digit_bytes (digits 9 x l.p) ++ drop (x + 1) s) (sym e) ∙ l.invariant.3 in
+    sym (take-append-drop 1 s) ∙ ap₂ ◌++◌ f g
 
 pub put-digits-spec : {M : Type 1} → statement M
 put-digits-spec =
     tie.close
-    (tie.spec
-    invariant-loop
-    decreases-loop
-    loop-holds
-    cast-name
-    add-name
-    slice-write-name
-    cast-name-2
-    add-name-2
-    sub-name
-    slice-write-name-2
-    sub-left
-    loop-less
-    loop-again
-    cast-name-3
-    add-name-3
-    slice-write-name-3
-    same_length
-    returns
-    same-length-2
-    returns-2)
+    (tie.spec invariant-loop decreases-loop loop-holds cast-name add-name slice-write-name sub-left loop-less loop-again same_length returns)

@@ -1,18 +1,18 @@
 -- `find` meets its contract: the numbers that `mark` puts stand for the changes. Assumes nothing.
 use native.Mathlib.Omega.{arith}
 use borrow.Author.Rules.{rules}
-use mathlib.Core.Path.{◌≡◌, sym, ap, ap₂, ◌∙◌}
+use mathlib.Core.Path.{◌≡◌, sym, ap₂, ◌∙◌}
 use mathlib.Core.List.{List}
 use Prim.Native.Nat.{ℕ, ◌-◌, ◌≤◌}
 use lib.ListN.{length, take, drop, length-drop}
 use lib.Seq.{length-take-le, take_all}
-use Rattle.loose.specs.Laws.Look.{loose-own, loose-short}
+use Rattle.loose.specs.Laws.Look.{loose-own}
 use Rattle.proper.specs.Laws.Text.{loose-long}
 use Rattle.proper.specs.Laws.Front.{put-fits, put_front}
 use Rattle.proper.specs.Wholes.{loose_codes}
 use Rattle.rescue.specs.Internal.Marks.{lacking}
 use Rattle.rescue.specs.Internal.Lack.{left-fits, left-front}
-use Rattle.rescue.specs.Internal.Joint.{arranged, made-ready, made-codes, keys-rise, mark-ready, marked, counted}
+use Rattle.rescue.specs.Internal.Joint.{arranged, made-ready, made-codes, keys-rise, mark-ready, marked}
 use Rattle.rescue.proofs.find.Statement.{statement}
 use Rattle.rescue.proofs.find.Tie as tie
 
@@ -113,8 +113,7 @@ mark-requires c κs =
     let m = mark-ready t e a (take (length t - 7) (drop 7 t)) _ _
     (take_all (length t - 7) (drop 7 t) (omega (arith, length-drop 7 t))) s.requires.0.3 f
     s.args.marks.now s.args.named.now s.args.stood.now l.1 l.2 l.3 s.requires.1.1.0 s.requires.1.1.1 in
-    let u = take_all (length t - 7) (drop 7 t) (omega (arith, length-drop 7 t)) in
-    ((m.0.0, m.0.1, arranged t e a, omega (arith, ap length u, length-drop 7 t, loose-short t e)), m.1)
+    ((m.0.0, m.0.1, arranged t e a), m.1)
 
 same_length : tie.Need-same-length
 same_length c = search rules
@@ -147,10 +146,9 @@ returns c =
     let j = v.leave.ensures in
     let f = left-front ls k q _ _ h j.0 j.1
     ∙ ap₂ lacking s.requires.0.3 (put_front (loose_codes s.args.arrangement made) z k _ g.0 r g.1 ∙ made-codes t e a made s.requires.0.1) in
-    let u = take_all (length t - 7) (drop 7 t) (omega (arith, length-drop 7 t)) in
-    let o = c.before.before.before.before.before.before.mark.ensures in
-    let x = marked t e a (take (length t - 7) (drop 7 t)) _ _ u s.requires.0.3 f _ o.1 in
-    ((counted t (take (length t - 7) (drop 7 t)) _ (omega (arith, ap length u, length-drop 7 t)) o.0.0 x, o.0.1), x)
+    marked t e a (take (length t - 7) (drop 7 t)) _ _
+    (take_all (length t - 7) (drop 7 t) (omega (arith, length-drop 7 t))) s.requires.0.3 f
+    _ c.before.before.before.before.before.before.mark.ensures
 
 pub find_spec : {M : Type 1} → statement M
 find_spec =

@@ -7,28 +7,29 @@ use Rattle.rescue.specs.Internal.Joint.{flat-room}
 use Rattle.rescue.proofs.give.Statement.{statement}
 use Rattle.rescue.proofs.give.Tie as tie
 
+count-requires : tie.Need-count-requires
+count-requires c κs = search rules
+
 refused-requires : tie.Need-refused-requires
 refused-requires c κs = search rules
 
 returns : tie.Need-returns
 returns c =
-    let s = c.before.before.before.before.before.before in
-    let a = s.args in
+    let a = c.before.before.before.before.before.before.before.args in
     subst (Gives a.made.now a.marks.now a.out.now a.out.now a.list.now a.list.now) (sym c.refused.ensures)
-    (gives-no-text s.requires.1 (omega (arith, c.before.if1.true)))
+    (gives-no-text c.before.before.count.ensures.0 (omega (arith, c.before.if1.true)))
 
 mul-if2 : tie.Need-overflow-mul-if2
-mul-if2 c = omega (arith, c.before.before.before.before.before.requires.2)
+mul-if2 c = search rules
 
 refused-requires-2 : tie.Need-refused-requires-2
 refused-requires-2 c κs = search rules
 
 returns-2 : tie.Need-returns-2
 returns-2 c =
-    let s = c.before.before.before.before.before.before.before in
-    let a = s.args in
+    let a = c.before.before.before.before.before.before.before.before.args in
     subst (Gives a.made.now a.marks.now a.out.now a.out.now a.list.now a.list.now) (sym c.refused2.ensures)
-    (gives-no-list s.requires.1 (omega (arith, c.before.before.if1.false)) (omega (arith, c.before.if2.true)))
+    (gives-no-list c.before.before.before.count.ensures.0 (omega (arith, c.before.before.if1.false)) (omega (arith, c.before.if2.true)))
 
 copy-requires : tie.Need-copy-requires
 copy-requires c κs = search rules
@@ -36,8 +37,8 @@ copy-requires c κs = search rules
 write-requires : tie.Need-write-requires
 write-requires c κs =
     let f = c.before.before.before.before.before in
-    let p = f.before.before.before.before.before.before.requires in
-    (p.0, flat-room _ _ _ p.1 (omega (arith, f.if2.false)))
+    let n = f.before.before in
+    (n.before.before.before.before.before.requires, flat-room _ _ _ n.count.ensures.0 (omega (arith, f.if2.false)))
 
 same_length : tie.Need-same-length
 same_length c = search rules
@@ -49,12 +50,14 @@ returns-3 : tie.Need-returns-3
 returns-3 c =
     let p = c.before.before.before.before.before.before in
     let f = p.before.before in
-    gives_both f.before.before.before.before.before.before.requires.1 (omega (arith, f.before.if1.false)) (omega (arith, f.if2.false)) p.copy.ensures c.before.before.write.ensures
+    let n = f.before.before in
+    gives_both n.count.ensures.0 (omega (arith, f.before.if1.false)) (omega (arith, f.if2.false)) p.copy.ensures c.before.before.write.ensures
 
 pub give_spec : {M : Type 1} → statement M
 give_spec =
     tie.close
     (tie.spec
+    count-requires
     refused-requires
     returns
     mul-if2

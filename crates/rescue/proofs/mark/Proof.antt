@@ -2,28 +2,27 @@
 use native.Mathlib.Omega.{arith}
 use borrow.Author.Rules.{rules}
 use mathlib.Core.Path.{◌≡◌, refl, ◌∙◌}
-use Prim.Native.Nat.{◌+◌, ◌*◌, ◌-◌, ◌≤◌, ◌<◌}
-use lib.ListN.{length, take, drop, length-set}
+use Prim.Native.Nat.{◌-◌, ◌≤◌, ◌<◌}
+use lib.ListN.{length, length-set}
 use Rattle.logic.specs.Rise.{Rise}
 use Rattle.walk.specs.Laws.Walk.{goes-here}
 use Rattle.rescue.specs.Internal.Marking.{Marking, marking-start, on, marking-open, marking-shut, marking-name, marking-end}
-use Rattle.rescue.specs.Internal.Marking.{count_of, count_none, count-on, count-open, count-shut, count_same, count-all}
 use Rattle.rescue.proofs.mark.Statement.{statement}
 use Rattle.rescue.proofs.mark.Tie as tie
 
 abbrev invariant-loop : tie.invariant-loop
-invariant-loop arrangement body largest fresh marks₀ named₀ stood₀ spot₀ before₀ near₀ next₀ changes₀ i₀ marks named stood spot before near next changes i =
+invariant-loop arrangement body largest fresh marks₀ named₀ stood₀ spot₀ before₀ near₀ next₀ i₀ marks named stood spot before near next i =
     Rise largest × Rise fresh × (length marks ≡ length marks₀) × (length named ≡ length named₀) × (length stood ≡ length stood₀)
-    × Marking arrangement largest fresh body marks named stood before i spot × (changes ≡ count_of (take i marks)) × (changes ≤ i * 4)
+    × Marking arrangement largest fresh body marks named stood before i spot
 
 abbrev decreases-loop : tie.decreases-loop
-decreases-loop arrangement body largest fresh marks₀ named₀ stood₀ spot₀ before₀ near₀ next₀ changes₀ i₀ marks named stood spot before near next changes i =
+decreases-loop arrangement body largest fresh marks₀ named₀ stood₀ spot₀ before₀ near₀ next₀ i₀ marks named stood spot before near next i =
     length body - i
 
 loop-holds : tie.Need-loop-init invariant-loop decreases-loop
 loop-holds c =
     let p = c.before.before.before.before.before.before.requires in
-    (p.1.0.0, p.1.1.0, refl, refl, refl, marking-start _ _ _ _ _ _ _ p.0.0 p.0.1 p.1.0.1 p.1.1.1 p.1.0.2 p.1.1.2, count_none, omega arith)
+    (p.1.0.0, p.1.1.0, refl, refl, refl, marking-start _ _ _ _ _ _ _ p.0.0 p.0.1 p.1.0.1 p.1.1.1 p.1.0.2 p.1.1.2)
 
 shared-slice-read-b : tie.Need-shared-slice-read-b invariant-loop decreases-loop
 shared-slice-read-b c = search rules
@@ -37,16 +36,6 @@ shut-at-requires c κs = search rules
 slice-write-marks : tie.Need-slice-write-marks invariant-loop decreases-loop
 slice-write-marks c = search rules
 
-cast-changes : tie.Need-overflow-cast-changes invariant-loop decreases-loop
-cast-changes c = search rules
-
-add-changes : tie.Need-overflow-add-changes invariant-loop decreases-loop
-add-changes c =
-    let a = c.before.before.before.before in
-    let l = a.before.loop.invariant in
-    let q = count-open (drop (a.before.loop.i + 1) a.before.before.before.before.before.before.before.before.args.body.now) c.shut_at.ensures in
-    omega (arith, l.7, a.loop-test.true, q.1, a.before.before.before.before.before.before.before.before.requires.0.3)
-
 add-i : tie.Need-overflow-add-i invariant-loop decreases-loop
 add-i c = search rules
 
@@ -57,16 +46,7 @@ loop-again : tie.Need-loop-preserved invariant-loop decreases-loop
 loop-again c =
     let a = c.before.before.before.before in
     let l = a.before.loop.invariant in
-    let q = count-open (drop (a.before.loop.i + 1) a.before.before.before.before.before.before.before.before.args.body.now) c.shut_at.ensures in (
-      l.0,
-      l.1,
-      (search rules),
-      l.3,
-      l.4,
-      marking-open l.5 a.loop-test.true c.before.before.after.ensures c.before.if1.true c.shut_at.ensures,
-      count-on l.5 a.loop-test.true _ l.6 q.0,
-      omega (arith, l.7, q.1),
-    )
+    (l.0, l.1, (search rules), l.3, l.4, marking-open l.5 a.loop-test.true c.before.before.after.ensures c.before.if1.true c.shut_at.ensures)
 
 slice-write-marks-2 : tie.Need-slice-write-marks-2 invariant-loop decreases-loop
 slice-write-marks-2 c = search rules
@@ -80,16 +60,8 @@ loop-less-2 c = search rules
 loop-again-2 : tie.Need-loop-preserved-2 invariant-loop decreases-loop
 loop-again-2 c =
     let a = c.before.before.before.before in
-    let l = a.before.loop.invariant in (
-      l.0,
-      l.1,
-      (search rules),
-      l.3,
-      l.4,
-      marking-shut l.5 a.loop-test.true c.before.before.after.ensures c.if2.true,
-      count-shut l.5 a.loop-test.true l.6,
-      omega (arith, l.7),
-    )
+    let l = a.before.loop.invariant in
+    (l.0, l.1, (search rules), l.3, l.4, marking-shut l.5 a.loop-test.true c.before.before.after.ensures c.if2.true)
 
 code-as-requires : tie.Need-code-as-requires invariant-loop decreases-loop
 code-as-requires c κs =
@@ -135,45 +107,30 @@ slice-write-marks-3 c =
     let a = c.before.before.before.before.before.before.before.before.before.before.before.before.before.before.before.before.before.before.before in
     omega (arith, a.loop-test.true, a.before.loop.invariant.2, a.before.before.before.before.before.before.before.before.requires.0.1)
 
-kinds-requires : tie.Need-kinds-requires invariant-loop decreases-loop
-kinds-requires c κs = search rules
-
-add-changes-2 : tie.Need-overflow-add-changes-2 invariant-loop decreases-loop
-add-changes-2 c =
-    let a = c.before.before.before.before.before.before.before.before.before.before.before.before.before.before.before.before.before.before.before.before in
-    let l = a.before.loop.invariant in
-    omega (arith, l.7, a.loop-test.true, c.kinds.ensures.1, a.before.before.before.before.before.before.before.before.requires.0.3)
-
 add-i-3 : tie.Need-overflow-add-i-3 invariant-loop decreases-loop
 add-i-3 c =
-    let a = c.before.before.before.before.before.before.before.before.before.before.before.before.before.before.before.before.before.before.before.before in
+    let a = c.before.before.before.before.before.before.before.before.before.before.before.before.before.before.before.before.before.before.before in
     let g = a.before.before.before.before.before.before.before.before.well-formed in
     omega (arith, a.loop-test.true)
 
 loop-less-3 : tie.Need-loop-smaller-3 invariant-loop decreases-loop
-loop-less-3 c =
-    let a = c.before.before.before.before.before.before.before.before.before.before.before.before.before.before.before.before.before.before.before.before in
-    omega (arith, a.loop-test.true)
+loop-less-3 c = search rules
 
 loop-again-3 : tie.Need-loop-preserved-3 invariant-loop decreases-loop
 loop-again-3 c =
-    let k = c.before in
-    let n = k.before.before.before.before in
+    let n = c.before.before.before.before in
     let f = n.before.before.before.before in
     let w = f.before.before.before.before.before in
     let b = w.before.before.before in
-    let a = b.before.before.before in
-    let l = a.before.loop.invariant in (
+    let l = b.before.before.before.before.loop.invariant in (
       l.0,
       l.1,
       (search rules),
       (search rules),
       (search rules),
-      marking-name l.5 a.loop-test.true b.before.after.ensures b.if1.false w.before.before.if2.false
+      marking-name l.5 b.before.before.before.loop-test.true b.before.after.ensures b.if1.false w.before.before.if2.false
           w.before.code-as.ensures w.whole-at.ensures f.first_kind.ensures n.fourth-kind.ensures (search rules) (search rules)
-          k.before.late.ensures k.mask.ensures,
-      count-on l.5 a.loop-test.true _ l.6 (count_same _ _ c.kinds.ensures.0 k.mask.ensures),
-      omega (arith, l.7, c.kinds.ensures.1),
+          c.before.late.ensures c.mask.ensures,
     )
 
 same_length : tie.Need-same-length invariant-loop decreases-loop
@@ -186,11 +143,7 @@ same-length-3 : tie.Need-same-length-3 invariant-loop decreases-loop
 same-length-3 c = search rules
 
 returns : tie.Need-returns invariant-loop decreases-loop
-returns c =
-    let l = c.before.loop.invariant in
-    let s = c.before.before.before.before.before.before.before.before in
-    let h = l.5.walks.within in
-    ((count-all s.args.body.now _ _ l.6 h c.loop-test.false, omega (arith, l.7, h, s.requires.0.3)), marking-end l.5 c.loop-test.false)
+returns c = marking-end c.before.loop.invariant.5 c.loop-test.false
 
 pub mark_spec : {M : Type 1} → statement M
 mark_spec =
@@ -203,8 +156,6 @@ mark_spec =
     after-requires
     shut-at-requires
     slice-write-marks
-    cast-changes
-    add-changes
     add-i
     loop-less
     loop-again
@@ -222,8 +173,6 @@ mark_spec =
     late-requires
     mask-requires
     slice-write-marks-3
-    kinds-requires
-    add-changes-2
     add-i-3
     loop-less-3
     loop-again-3

@@ -98,8 +98,7 @@ give-requires c κs =
     let m = f.before.before.before.before.before.before.before.before in
     let s = m.before.before.before.before.before.before.before.before.before.before.before.before.before.before.before.before.before.before.before in
     let t : List ℕ = s.args.text.now in
-    let k = f.find.ensures in
-    (take-room (length t - 7) _ 65536 (omega (arith, loose-short t s.requires.0.0)), k.0.0 ∙ sym (ap length k.1), k.0.1)
+    take-room (length t - 7) _ 65536 (omega (arith, loose-short t s.requires.0.0))
 
 same_length : tie.Need-same-length
 same_length c = search rules
@@ -136,7 +135,7 @@ returns c =
     let t : List ℕ = s.args.text.now in
     let r = s.requires.0.0 in
     let f = ap (λ (x : ℕ). take x o) e.0 ∙ e.1 in
-    c.before.before.before.before.give.ensures.is t r (m.make.ensures.1 ∙ proper-text t (loose-own t r) s.requires.0.1 f) h.find.ensures.1
+    c.before.before.before.before.give.ensures.is t r (m.make.ensures.1 ∙ proper-text t (loose-own t r) s.requires.0.1 f) h.find.ensures
 
 pub rescue-in-spec : {M : Type 1} → statement M
 rescue-in-spec =

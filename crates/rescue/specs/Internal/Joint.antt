@@ -227,9 +227,3 @@ take-room (suc n) (x ∷ l) r h = let k = take-room n l n (omega arith) in omega
 
 pub flat-room : (x : List Change) (n r : ℕ) → n ≡ length x → n * 2 ≤ r → length (flat x) ≤ r
 flat-room x n r e h = omega (arith, flat-length x)
-
--- as many as were counted
-pub counted :
-    (t body marks : List ℕ) {n : ℕ} → length body ≡ length t - 7 → n ≡ length (changes_in 7 (take (length body) marks)) →
-    changes_in 7 (take (length t - 7) marks) ≡ changes_of t → n ≡ length (changes_of t)
-counted t body marks {n} l e z = e ∙ ap (λ (x : ℕ). length (changes_in 7 (take x marks))) l ∙ ap length z

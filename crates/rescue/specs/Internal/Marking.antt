@@ -1,9 +1,6 @@
 -- The pass that finds the changes, and the passes that count and write them. Assumes nothing.
-use Rattle.std.specs.Prelude.{◌≡◌, Bool, true, false, ◌&&◌, ◌||◌, not, cond, List, [], ◌∷◌, ◌++◌, ℕ, zero, suc, ◌+◌, ◌-◌, ◌*◌, ◌/◌, ◌%◌, ◌≤◌, ◌<◌, eqb, length, drop, get_or, set}
-use Rattle.std.proofs.Math.Path.{refl, ap}
-use Rattle.std.proofs.Common.{sym, ap₂, ◌∙◌, append-nil, append_assoc, add-one, arith, length-set, length-append, length-drop, take-append-drop, drop_of_length-le, take_all, take_at, drop-set-lt, drop_at, drop-drop, length-take-le, eq-eqb, ne_eqb}
-use Rattle.std.proofs.Math.ListN.{take}
-use Rattle.std.proofs.Math.Seq.{take-suc-set}
+use Rattle.std.specs.Prelude.{◌≡◌, refl, Bool, true, false, ◌&&◌, ◌||◌, not, cond, List, [], ◌∷◌, ◌++◌, ℕ, zero, suc, ◌+◌, ◌-◌, ◌*◌, ◌/◌, ◌%◌, ◌≤◌, ◌<◌, eqb, length, take, drop, get_or, set}
+use Rattle.std.proofs.Common.{sym, ap, ap₂, ◌∙◌, append-nil, append_assoc, add-one, arith, length-set, length-append, length-drop, take-append-drop, drop_of_length-le, take-suc-set, take_all, take_at, drop-set-lt, drop_at, drop-drop, length-take-le, eq-eqb, ne_eqb}
 use Rattle.cell.specs.declared.Arrangement.{Arrangement}
 use Rattle.walk.specs.declared.Spot.{Spot}
 use Rattle.walk.specs.Walk.{origin, after, whole_at, Walks}
@@ -154,59 +151,13 @@ unfolding count_of changes_in
 count-length [] p = refl
 count-length (m ∷ ms) p = length-append (kinds_at p m) (changes_in (p + 1) ms) ∙ ap₂ ◌+◌ (kinds-length p m ∙ sym (kinds-length 7 m)) (count-length ms (p + 1))
 
-count-append : (a b : List ℕ) → count_of (a ++ b) ≡ count_of a + count_of b
+pub count-on : (ms : List ℕ) (i : ℕ) → i < length ms → count_of (drop i ms) ≡ length (kinds_at 7 (get_or ms i 0)) + count_of (drop (i + 1) ms)
 unfolding count_of
-count-append [] b = omega arith
-count-append (m ∷ a) b = omega (arith, count-append a b)
+count-on ms i h = ap count_of (byte_at ms i h)
 
-pub count_none : 0 ≡ count_of []
+pub count-end : (ms : List ℕ) (i : ℕ) → length ms ≤ i → count_of (drop i ms) ≡ 0
 unfolding count_of
-count_none = refl
-
--- one number more is put
-module _ {ar : Arrangement} {ms as' body marks named stood : List ℕ} {prev i : ℕ} {s : Spot} (m : Marking ar ms as' body marks named stood prev i s) (h : i < length body) where
-  pub count-on : (v : ℕ) {n k : ℕ} → n ≡ count_of (take i marks) → k ≡ length (kinds_at 7 v) → n + k ≡ count_of (take (i + 1) (set marks i v))
-  unfolding count_of
-  count-on v {n} {k} e f =
-      let p : count_of (take (i + 1) (set marks i v)) ≡ count_of (take i marks) + count_of (v ∷ []) =
-      ap count_of (ap (λ (x : ℕ). take x (set marks i v)) (add-one i) ∙ take-suc-set marks i v (omega (arith, m.long))) ∙ count-append (take i marks) (v ∷ []) in
-      omega (arith, p, e, f)
-
-  pub count-shut : {n : ℕ} → n ≡ count_of (take i marks) → n ≡ count_of (take (i + 1) (set marks i 0))
-  unfolding kinds_at
-  count-shut {n} e =
-      let z : n + 0 ≡ count_of (take (i + 1) (set marks i 0)) = count-on 0 e refl in
-      omega (arith, z)
-
-pub count-open : {v : ℕ} (bs : List ℕ) → v ≡ cond (shuts bs) 8 0 → (v / 8 ≡ length (kinds_at 7 v)) × (v / 8 ≤ 1)
-unfolding kinds_at
-count-open {v} bs e = rw e (go (shuts bs))
-  where
-    go : (t : Bool) → (cond {A = ℕ} t 8 0 / 8 ≡ length (kinds_at 7 (cond t 8 0))) × (cond {A = ℕ} t 8 0 / 8 ≤ 1)
-    go true = (refl, omega arith)
-    go false = (refl, omega arith)
-
-pub count_same : {r : ℕ} (x v : ℕ) → r ≡ length (kinds_at 7 x) → v ≡ x → r ≡ length (kinds_at 7 v)
-count_same x v e f = e ∙ ap (λ (y : ℕ). length (kinds_at 7 y)) (sym f)
-
-pub count-name : {x y z : ℕ} (a b d : Bool) → x ≡ bit a → y ≡ bit b → z ≡ bit d → (x + y + z ≡ length (kinds_at 7 (mask_of a b d))) × (x + y + z ≤ 3)
-unfolding kinds_at mask_of
-count-name a b d e f g = rw (e, f, g) (go a b d)
-  where
-    go : (a b d : Bool) → (bit a + bit b + bit d ≡ length (kinds_at 7 (mask_of a b d))) × (bit a + bit b + bit d ≤ 3)
-    go true true true = (refl, omega arith)
-    go true true false = (refl, omega arith)
-    go true false true = (refl, omega arith)
-    go true false false = (refl, omega arith)
-    go false true true = (refl, omega arith)
-    go false true false = (refl, omega arith)
-    go false false true = (refl, omega arith)
-    go false false false = (refl, omega arith)
-
--- all are counted
-pub count-all : (body marks : List ℕ) (i : ℕ) {n : ℕ} → n ≡ count_of (take i marks) → i ≤ length body → length body ≤ i → n ≡ length (changes_in 7 (take (length body) marks))
-count-all body marks i {n} e h k =
-    let z : i ≡ length body = omega arith in e ∙ ap (λ (x : ℕ). count_of (take x marks)) z ∙ sym (count-length (take (length body) marks) 7)
+count-end ms i h = ap count_of (drop_of_length-le ms {i = i} h)
 
 -- ---- written
 

@@ -227,6 +227,10 @@ when-length : (t : Bool) (x : Change) (l : List Change) → length (when t x ++ 
 when-length true x l = omega arith
 when-length false x l = omega arith
 
+bit-small : (t : Bool) → bit t ≤ 1
+bit-small true = omega arith
+bit-small false = omega arith
+
 pub kinds-length : (p m : ℕ) → length (kinds_at p m) ≡ bit (eqb (m % 2) 1) + bit (eqb (m / 2 % 2) 1) + bit (eqb (m / 8) 1) + bit (eqb (m / 4 % 2) 1)
 unfolding kinds_at
 kinds-length p m =
@@ -241,3 +245,9 @@ kinds-length p m =
       when-length (eqb (m / 8) 1) (record { place = p; kind = 3 }) a,
       z,
     )
+
+pub kinds-are :
+    (m : ℕ) {a b c d : ℕ} → a ≡ bit (eqb (m % 2) 1) → b ≡ bit (eqb (m / 2 % 2) 1) → c ≡ bit (eqb (m / 8) 1) → d ≡ bit (eqb (m / 4 % 2) 1) →
+    (a + b + c + d ≡ length (kinds_at 7 m)) × (a + b + c + d ≤ 4)
+kinds-are m e f g h =
+    (omega (arith, kinds-length 7 m, e, f, g, h), omega (arith, e, f, g, h, bit-small (eqb (m % 2) 1), bit-small (eqb (m / 2 % 2) 1), bit-small (eqb (m / 8) 1), bit-small (eqb (m / 4 % 2) 1)))

@@ -1,6 +1,9 @@
 -- `root::edge` meets its contract. Assumes nothing.
-use Rattle.std.proofs.Common.{ℕ, ◌*◌, ap, ◌∙◌, mul-le-mul, arith, rules}
-use native.Mathlib.Nat.{mul-mul-mul_comm}
+use mathlib.Core.Path.{ap, ◌∙◌}
+use Prim.Native.Nat.{ℕ, ◌*◌}
+use native.Mathlib.Nat.{mul-le-mul, mul-mul-mul_comm}
+use native.Mathlib.Omega.{arith}
+use borrow.Author.Rules.{rules}
 use Rattle.root.proofs.edge.Statement.{statement}
 use Rattle.root.proofs.edge.Tie as tie
 

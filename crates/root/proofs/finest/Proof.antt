@@ -1,5 +1,10 @@
 -- `root::finest` meets its contract: the floor is the lower end's whole part or the next. Assumes nothing.
-use Rattle.std.proofs.Common.{◌≡◌, ℕ, ◌+◌, ◌*◌, ◌/◌, ◌<◌, sym, ap, ◌∙◌, le_refl, arith, lit<, rules}
+use mathlib.Core.Path.{◌≡◌, sym, ap, ◌∙◌}
+use Prim.Native.Nat.{ℕ, ◌+◌, ◌*◌, ◌/◌, ◌<◌}
+use native.Mathlib.Nat.{le_refl}
+use native.Mathlib.Omega.{arith}
+use lib.Dec.{lit<}
+use borrow.Author.Rules.{rules}
 use Rattle.root.specs.Floor.{at_most, root_floor, axis_of}
 use Rattle.root.specs.Internal.Bracket.{low_part}
 use Rattle.root.specs.Laws.Floor.{floor-below}

@@ -1,5 +1,10 @@
 -- `root::floor` meets its contract: the resolutions agree. Assumes nothing.
-use Rattle.std.proofs.Common.{◌≡◌, ℕ, ◌*◌, ◌/◌, ◌^◌, ◌<◌, ◌≤◌, nat_abs, ◌∙◌, subst, ap₂, le_of_lt, mul-le-mul, arith, rules}
+use mathlib.Core.Path.{◌≡◌, ap₂, ◌∙◌, subst}
+use Prim.Native.Nat.{ℕ, ◌*◌, ◌/◌, ◌^◌, ◌≤◌, ◌<◌}
+use native.Mathlib.Nat.{le_of_lt, mul-le-mul}
+use native.Mathlib.Omega.{arith}
+use borrow.Author.Rules.{rules}
+use lib.IntN.{nat_abs}
 use Rattle.ternary.specs.Laws.Powers.{power_le, power_pos}
 use Rattle.root.specs.Floor.{root_floor, axis_of}
 use Rattle.root.specs.Laws.Floor.{floor-below, axis-size}

@@ -1,5 +1,5 @@
 -- `root::is_firm` meets its contract. Assumes nothing.
-use Rattle.std.proofs.Common.{rules}
+use borrow.Author.Rules.{rules}
 use Rattle.root.specs.Part.{firm}
 use Rattle.root.proofs.is_firm.Statement.{statement}
 use Rattle.root.proofs.is_firm.Tie as tie

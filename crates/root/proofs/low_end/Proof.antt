@@ -1,5 +1,6 @@
 -- `root::low_end` meets its contract. Assumes nothing.
-use Rattle.std.proofs.Common.{◌+◌, ◌*◌, ◌≤◌, arith}
+use Prim.Native.Nat.{◌+◌, ◌*◌, ◌≤◌}
+use native.Mathlib.Omega.{arith}
 use Rattle.root.specs.Internal.Between.{part_small, one_more}
 use Rattle.root.proofs.low_end.Statement.{statement}
 use Rattle.root.proofs.low_end.Tie as tie

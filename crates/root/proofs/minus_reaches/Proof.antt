@@ -1,7 +1,10 @@
 -- `root::minus_reaches` meets its contract. Assumes nothing.
-use Rattle.std.proofs.Common.{leb, sym, ◌∙◌, ap₂, arith, rules}
+use mathlib.Core.Path.{sym, ap₂, ◌∙◌}
+use native.Mathlib.Omega.{arith}
+use lib.Dec.{leb}
 use Rattle.root.specs.Laws.Square.{minus-over, minus-second}
 use Rattle.root.specs.Internal.Between.{product_small}
+use borrow.Author.Rules.{rules}
 use Rattle.root.proofs.minus_reaches.Statement.{statement}
 use Rattle.root.proofs.minus_reaches.Tie as tie
 

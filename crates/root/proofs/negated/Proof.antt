@@ -1,6 +1,8 @@
 -- `root::negated` meets its contract. Assumes nothing.
-use Rattle.std.proofs.Common.{◌≡◌, ℕ, Bool, true, false, cond, not, pos, neg_ℤ, sym, refl}
-use lib.IntN.{neg_ℤ-neg_ℤ}
+use mathlib.Core.Path.{◌≡◌, refl, sym}
+use mathlib.Core.Bool.{Bool, true, false, not, cond}
+use Prim.Native.Nat.{ℕ}
+use lib.IntN.{pos, neg_ℤ, neg_ℤ-neg_ℤ}
 use Rattle.root.proofs.negated.Statement.{statement}
 use Rattle.root.proofs.negated.Tie as tie
 

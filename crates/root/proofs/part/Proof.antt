@@ -1,5 +1,7 @@
 -- `root::part` meets its contract. Assumes nothing.
-use Rattle.std.proofs.Common.{◌≡◌, ℕ, ap, ◌∙◌, rules}
+use mathlib.Core.Path.{◌≡◌, ap, ◌∙◌}
+use Prim.Native.Nat.{ℕ}
+use borrow.Author.Rules.{rules}
 use Rattle.wide.specs.High.{high_word}
 use Rattle.root.specs.Part.{part_of}
 use Rattle.root.specs.Laws.Part.{end_lt}

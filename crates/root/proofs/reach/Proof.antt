@@ -1,5 +1,7 @@
 -- `root::reach` meets its contract. Assumes nothing.
-use Rattle.std.proofs.Common.{ℕ, ◌*◌, ap, ◌∙◌, rules}
+use mathlib.Core.Path.{ap, ◌∙◌}
+use Prim.Native.Nat.{ℕ, ◌*◌}
+use borrow.Author.Rules.{rules}
 use Rattle.root.proofs.reach.Statement.{statement}
 use Rattle.root.proofs.reach.Tie as tie
 

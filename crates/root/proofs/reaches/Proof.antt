@@ -1,5 +1,11 @@
 -- `root::reaches` meets its contract: minus 0 is plus 0. Assumes nothing.
-use Rattle.std.proofs.Common.{◌≡◌, ℕ, zero, suc, ◌<◌, ◌≤◌, Bool, true, false, cond, ℤ, pos, neg_ℤ, sym, refl, ap, ◌∙◌, ⊎_elim, arith, rules}
+use mathlib.Core.Path.{◌≡◌, refl, sym, ap, ◌∙◌}
+use mathlib.Core.Bool.{Bool, true, false, cond}
+use mathlib.Core.Logic.{⊎_elim}
+use Prim.Native.Nat.{ℕ, zero, suc, ◌<◌, ◌≤◌}
+use native.Mathlib.Omega.{arith}
+use borrow.Author.Rules.{rules}
+use lib.IntN.{ℤ, pos, neg_ℤ}
 use Rattle.root.specs.Floor.{plus_at, minus_at, at_most}
 use Rattle.root.proofs.reaches.Statement.{statement}
 use Rattle.root.proofs.reaches.Tie as tie

@@ -1,48 +1,47 @@
--- `root::whole_root` meets its contract: what the guess's square is short by is at most twice the guess. Assumes nothing.
-use Rattle.std.proofs.Common.{◌≡◌, ℕ, ◌+◌, ◌*◌, ◌%◌, ◌^◌, ◌<◌, ◌≤◌, refl, add_assoc, add-mul, mul-le-mul, add_comm, one-mul, mul-one, mul-add, arith, rules}
-use native.Mathlib.Nat.{add_left_comm}
+-- `root::whole_root` meets its contract: the guess stays at or above the root and falls to it. Assumes nothing.
+use Prim.Native.Nat.{◌+◌, ◌*◌, ◌≤◌, ◌<◌}
+use native.Mathlib.Nat.{mul-le-mul, div-le_self}
+use native.Mathlib.Omega.{arith}
+use borrow.Author.Rules.{rules}
+use Rattle.root.proofs.Newton.{newton_above, newton_below, square-pos}
 use Rattle.root.proofs.whole_root.Statement.{statement}
 use Rattle.root.proofs.whole_root.Tie as tie
 
-square-fits : (x : ℕ) → x < 4294967296 → x * x ≤ 18446744065119617025
-square-fits x h = mul-le-mul {n₂ = 4294967295} {m₂ = 4294967295} (omega arith) (omega arith)
+abbrev invariant-loop : tie.invariant-loop
+invariant-loop radicand r₀ r = (radicand < (r + 1) * (r + 1)) × (r ≤ 1000000000)
 
-next-square : (r : ℕ) → (r + 1) * (r + 1) ≡ r * r + (r + r + 1)
-next-square r = simp (mul-add, add-mul, mul-one, one-mul, add_assoc, add_comm, add_left_comm) refl
+abbrev decreases-loop : tie.decreases-loop
+decreases-loop radicand r₀ r = r
 
--- around 2^64 there is no room for the square and so little
-whole : (t r short : ℕ) → r < 4294967296 → (short + r * r) % 2 ^ 64 ≡ t → short ≤ 2 * r → (r * r ≤ t) × (t < (r + 1) * (r + 1))
-whole t r short h e l =
-    let s = square-fits r h in
-    let n = next-square r in
-    let k : short + r * r ≡ t = omega arith in
-    (omega arith, omega arith)
+first-root-requires : tie.Need-first-root-requires invariant-loop decreases-loop
+first-root-requires c κs = search rules
 
-near-root-requires : tie.Need-near-root-requires
-near-root-requires c κs = search rules
+loop-holds : tie.Need-loop-init invariant-loop decreases-loop
+loop-holds c = c.first-root.ensures
 
-mul-wrapping-sub-u64 : tie.Need-overflow-mul-wrapping-sub-u64
-mul-wrapping-sub-u64 c = omega (arith, square-fits c.near-root.result c.near-root.ensures)
+mul-loop : tie.Need-overflow-mul-loop invariant-loop decreases-loop
+mul-loop c = omega (arith, mul-le-mul c.loop.invariant.1 c.loop.invariant.1)
 
-wrapping-sub-u64-requires : tie.Need-wrapping-sub-u64-requires
-wrapping-sub-u64-requires c κs = search rules
+div-r : tie.Need-nonzero-div-r invariant-loop decreases-loop
+div-r c = square-pos c.before.before.before.args.radicand c.before.loop.r c.loop-test.true
 
-mul-if1 : tie.Need-overflow-mul-if1
-mul-if1 c = search rules
+add_r : tie.Need-overflow-add-r invariant-loop decreases-loop
+add_r c = omega (arith, div-le_self c.before.before.before.args.radicand c.before.loop.r)
 
-returns : tie.Need-returns
-returns c =
-    let w = c.before in
-    let n = w.before in
-    whole n.before.args.radicand n.near-root.result w.wrapping-sub-u64.result n.near-root.ensures w.wrapping-sub-u64.ensures c.if1.true
+loop-less : tie.Need-loop-smaller invariant-loop decreases-loop
+loop-less c = omega (arith, newton_below c.before.before.before.args.radicand c.before.loop.r c.loop-test.true)
 
-stepped-root-requires : tie.Need-stepped-root-requires
-stepped-root-requires c κs = search rules
+loop-again : tie.Need-loop-preserved invariant-loop decreases-loop
+loop-again c =
+    let radicand = c.before.before.before.args.radicand in
+    let r = c.before.loop.r in
+    let h = newton_below radicand r c.loop-test.true in
+    (newton_above radicand r (square-pos radicand r c.loop-test.true), omega arith)
 
-returns-2 : tie.Need-returns-2
-returns-2 c = search rules
+returns : tie.Need-returns invariant-loop decreases-loop
+returns c = (c.loop-test.false, c.before.loop.invariant.0)
 
 pub whole-root-spec : {M : Type 1} → statement M
 whole-root-spec =
     tie.close
-    (tie.spec near-root-requires mul-wrapping-sub-u64 wrapping-sub-u64-requires mul-if1 returns stepped-root-requires returns-2)
+    (tie.spec invariant-loop decreases-loop first-root-requires loop-holds mul-loop div-r add_r loop-less loop-again returns)

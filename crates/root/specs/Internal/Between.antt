@@ -1,7 +1,9 @@
 -- The estimates by `root` and by `root + 1`, and that the floor lies between them. Assumes nothing.
-use Rattle.std.specs.Prelude.{◌≡◌, ℕ, zero, suc, ◌+◌, ◌-◌, ◌*◌, ◌^◌, ◌<◌, ◌≤◌, Bool, true, false, cond, pos, neg_ℤ, unsigned_abs}
+use Rattle.std.specs.Prelude.{◌≡◌, Bool, cond, pos, neg_ℤ, nat_abs}
 use Rattle.std.proofs.Common.{sym, ap, ◌∙◌, ⊎_elim, le_of_lt, lt_of_not-le, mul-le-mul, mul-add, mul-one, mul_assoc, div-lt_iff_lt-mul, arith, lit<}
 use Rattle.std.proofs.Math.Path.{subst}
+use Rattle.std.proofs.Math.Bool.{true, false}
+use Prim.Native.Nat.{ℕ, zero, suc, ◌+◌, ◌-◌, ◌*◌, ◌^◌, ◌≤◌, ◌<◌}
 use Rattle.std.proofs.Math.Nat.{mul-lt-mul_of_pos_left}
 use Rattle.logic.specs.Laws.Order.{lt-or}
 use Rattle.root.specs.declared.Axis.{Axis}
@@ -112,7 +114,7 @@ module _ {m radicand root : ℕ} {p : Axis} (v : Given m radicand root p) where
   pub low-lt : low < m
   low-lt = (div-lt_iff_lt-mul {k = 1800000000000000000} {x = m * low_part p.minus p.size root} {y = m} (lit< tt)).1 (mul-lt-mul_of_pos_left low_fits v.positive)
 
-  pub size_fits : unsigned_abs (axis_of p) ≤ 900000000
+  pub size_fits : nat_abs (axis_of p) ≤ 900000000
   size_fits = rw (axis-size p) v.size
 
   low_below : at_most m radicand (axis_of p) low ≡ true

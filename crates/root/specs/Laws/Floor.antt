@@ -1,9 +1,11 @@
 -- The floor over a root exists, there is one of it, and the resolutions agree on it. Assumes nothing.
-use Rattle.std.specs.Prelude.{◌≡◌, ℕ, zero, suc, ◌+◌, ◌-◌, ◌*◌, ◌/◌, ◌^◌, ◌<◌, ◌≤◌, Bool, true, false, cond, ◌&&◌, ◌||◌, leb, ◌⊎◌, ℤ, pos, negsuc, neg_ℤ, nat_le, unsigned_abs, refl}
+use Rattle.std.specs.Prelude.{◌≡◌, refl, Bool, true, false, cond, ◌⊎◌, ℕ, zero, suc, ◌+◌, ◌-◌, ◌*◌, ◌/◌, ◌^◌, ◌≤◌, ◌<◌, ℤ, pos, negsuc, neg_ℤ, nat_abs}
 use Rattle.std.proofs.Common.{sym, ◌∙◌, subst, inl, inr, ⊎_elim, le_refl, le_trans, le_of_eq, le_of_lt, lt_of_lt_of_le, eq-or-lt_of_le, mul-le-mul_left, mul-pos, mul-add, mul-one, mul_assoc, mul_comm, mul_left_comm, zero-mul, div-add-mod', mod-lt, arith, lit<, le-leb}
 use Rattle.std.proofs.Math.Path.{ap, ap₂}
+use Rattle.std.proofs.Math.Bool.{◌&&◌, ◌||◌}
 use Rattle.std.proofs.Math.Nat.{mul-lt-mul_of_pos_left, mul-sub}
 use Rattle.std.proofs.Math.Arith.{lt_of_le-ne}
+use Rattle.std.proofs.Math.Dec.{leb}
 use Rattle.std.proofs.lemmas.Bool.{lt-leb}
 use Rattle.logic.specs.Laws.Bools.{clash, by_cond}
 use Rattle.logic.specs.Laws.Order.{lt-or, three_ways}
@@ -95,21 +97,21 @@ strictly x (suc y) r radicand h p l =
 part : (m g : ℕ) → g ≤ 900000000 → m * g * 1000000000 ≤ 900000000000000000 * m
 part m g h = let k : m * g ≤ m * 900000000 = mul-le-mul_left m h in omega arith
 
-pub first-at-most : (m radicand : ℕ) (p : ℤ) → unsigned_abs p ≤ 900000000 → radicand < 10 ^ 18 → at_most m radicand p 0 ≡ true
+pub first-at-most : (m radicand : ℕ) (p : ℤ) → nat_abs p ≤ 900000000 → radicand < 10 ^ 18 → at_most m radicand p 0 ≡ true
 unfolding at_most
 first-at-most m radicand (pos g) hg ht = plus-under m radicand g 0 (omega arith)
 first-at-most m radicand (negsuc g) hg ht =
     let k = part m (suc g) hg in
     minus_is m radicand (suc g) 0 (omega arith) (over_root (m * suc g) 1000000000 radicand (omega arith) (le_of_lt ht))
 
-pub end-above : (m radicand : ℕ) (p : ℤ) → 0 < m → unsigned_abs p ≤ 900000000 → radicand < 10 ^ 18 → at_most m radicand p m ≡ false
+pub end-above : (m radicand : ℕ) (p : ℤ) → 0 < m → nat_abs p ≤ 900000000 → radicand < 10 ^ 18 → at_most m radicand p m ≡ false
 unfolding at_most
 end-above m radicand (pos g) m0 hg ht =
     let k = part m g hg in
     plus-not m radicand g m (omega arith) (strictly (900000000000000000 * (2 * m - m)) (m * g) 1000000000 radicand (omega arith) (omega arith) ht)
 end-above m radicand (negsuc g) m0 hg ht = minus-over m radicand (suc g) m (omega arith)
 
-module _ (m radicand : ℕ) (p : ℤ) (m0 : 0 < m) (hp : unsigned_abs p ≤ 900000000) (ht : radicand < 10 ^ 18) where
+module _ (m radicand : ℕ) (p : ℤ) (m0 : 0 < m) (hp : nat_abs p ≤ 900000000) (ht : radicand < 10 ^ 18) where
   pub floor-below : root_floor m radicand p < m
   unfolding root_floor
   floor-below =
@@ -127,7 +129,7 @@ module _ (m radicand : ℕ) (p : ℤ) (m0 : 0 < m) (hp : unsigned_abs p ≤ 9000
 
 -- ---- the resolutions agree: c times as many rows, c times the number, the same test
 
-leb-mul : (k a b : ℕ) → 0 < k → nat_le (k * a) (k * b) ≡ nat_le a b
+leb-mul : (k a b : ℕ) → 0 < k → leb (k * a) (k * b) ≡ leb a b
 leb-mul k a b h =
     ⊎_elim
     (λ l. lt-leb (k * a) (k * b) (mul-lt-mul_of_pos_left l h) ∙ sym (lt-leb a b l))
@@ -167,7 +169,7 @@ at-most-scaled c m radicand (pos g) w h = plus-scaled c m radicand g w h
 at-most-scaled c m radicand (negsuc g) w h = minus-scaled c m radicand (suc g) w h
 
 -- the c-th part of the floor in c times as many rows is the floor
-pub floor-part : (c m radicand : ℕ) (p : ℤ) → 0 < c → 0 < m → unsigned_abs p ≤ 900000000 → radicand < 10 ^ 18 → root_floor (c * m) radicand p / c ≡ root_floor m radicand p
+pub floor-part : (c m radicand : ℕ) (p : ℤ) → 0 < c → 0 < m → nat_abs p ≤ 900000000 → radicand < 10 ^ 18 → root_floor (c * m) radicand p / c ≡ root_floor m radicand p
 floor-part c m radicand p c0 m0 hp ht =
     let w : ℕ = root_floor (c * m) radicand p in
     let f : IsFloor (c * m) radicand p w = floor-is (c * m) radicand p (mul-pos c0 m0) hp ht in
@@ -183,15 +185,15 @@ floor-part c m radicand p c0 m0 hp ht =
     (floor-is m radicand p m0 hp ht)
 
 -- 3^(k+1) is 3^k * 3
-pub floor-third' : (m radicand : ℕ) (p : ℤ) → 0 < m → unsigned_abs p ≤ 900000000 → radicand < 10 ^ 18 → root_floor (m * 3) radicand p / 3 ≡ root_floor m radicand p
+pub floor-third' : (m radicand : ℕ) (p : ℤ) → 0 < m → nat_abs p ≤ 900000000 → radicand < 10 ^ 18 → root_floor (m * 3) radicand p / 3 ≡ root_floor m radicand p
 floor-third' m radicand p m0 hp ht = ap (λ (x : ℕ). root_floor x radicand p / 3) (mul_comm m 3) ∙ floor-part 3 m radicand p (lit< tt) m0 hp ht
 
 -- ---- the size of an axis
 
-pub axis-size : (x : Axis) → unsigned_abs (axis_of x) ≡ x.size
+pub axis-size : (x : Axis) → nat_abs (axis_of x) ≡ x.size
 axis-size x = go x.minus x.size
   where
-    go : (b : Bool) (g : ℕ) → unsigned_abs (cond b (neg_ℤ (pos g)) (pos g)) ≡ g
+    go : (b : Bool) (g : ℕ) → nat_abs (cond b (neg_ℤ (pos g)) (pos g)) ≡ g
     go false g = refl
     go true zero = refl
     go true (suc g) = refl

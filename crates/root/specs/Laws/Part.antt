@@ -1,6 +1,7 @@
 -- What a part of 2^56 says of the number that it was made of. Assumes nothing.
-use Rattle.std.specs.Prelude.{◌≡◌, ℕ, ◌+◌, ◌-◌, ◌*◌, ◌/◌, ◌%◌, ◌^◌, ◌<◌, ◌≤◌, Bool, true, ℤ, unsigned_abs}
+use Rattle.std.specs.Prelude.{◌≡◌, Bool, true, ℤ, nat_abs}
 use Rattle.std.proofs.Common.{sym, ap, ◌∙◌, le_refl, mul-one, mul_assoc, mul_comm, mul_right_comm, mul-le-mul_left, mul-le-mul_right, mul-lt-mul_of_pos_right, le_of_mul-le-mul_right, lt_of_mul-lt-mul_right, lit<, lit≤, ltb-true}
+use Prim.Native.Nat.{ℕ, ◌+◌, ◌-◌, ◌*◌, ◌/◌, ◌%◌, ◌^◌, ◌≤◌, ◌<◌}
 use Rattle.std.proofs.Math.Nat.{mul-add, mul-div-mul_right, mul-lt-mul_of_pos_left}
 use native.Mathlib.Omega.{arith}
 use Rattle.ternary.specs.Laws.Powers.{power_pos, power-add}
@@ -100,7 +101,7 @@ pub whole-root-lt : (root radicand : ℕ) → root * root ≤ radicand → radic
 whole-root-lt root radicand h l = root-small root radicand h l
 
 -- the first digits of the floor at resolution 15
-pub floor-coarser : (k radicand : ℕ) (p : ℤ) → k ≤ 15 → unsigned_abs p ≤ 900000000 → radicand < 10 ^ 18 → root_floor (3 ^ 15) radicand p * 3 ^ k / 3 ^ 15 ≡ root_floor (3 ^ k) radicand p
+pub floor-coarser : (k radicand : ℕ) (p : ℤ) → k ≤ 15 → nat_abs p ≤ 900000000 → radicand < 10 ^ 18 → root_floor (3 ^ 15) radicand p * 3 ^ k / 3 ^ 15 ≡ root_floor (3 ^ k) radicand p
 floor-coarser k radicand p h hp ht =
     let up : ℕ = 3 ^ (15 - k) in
     let f : 15 - k + k ≡ 15 = omega arith in

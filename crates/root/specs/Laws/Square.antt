@@ -1,6 +1,6 @@
 -- Squares compared, and what they say of the two tests of `Floor`: 01 "From a fix to a cell", "Both sides are decided by sign and by whole-number
 -- squares". Assumes nothing.
-use Rattle.std.specs.Prelude.{◌≡◌, ℕ, ◌-◌, ◌*◌, ◌<◌, ◌≤◌, Bool, true, false, ◌&&◌, ◌||◌, nat_le, refl}
+use Rattle.std.specs.Prelude.{◌≡◌, refl, Bool, true, false, ◌&&◌, ◌||◌, ℕ, ◌-◌, ◌*◌, ◌≤◌, ◌<◌, leb}
 use Rattle.std.proofs.Common.{sym, ◌∙◌, ⊎_elim, le_trans, le_of_eq, le_of_lt, lt_of_le_of_lt, lt_of_lt_of_le, mul-le-mul, mul-le-mul_left, mul-lt-mul_of_pos_right, arith}
 use Rattle.std.proofs.Math.Nat.{mul-mul-mul_comm}
 use borrow.Author.Tests.{le-leb, lt-leb, leb-true}
@@ -50,14 +50,14 @@ module _ (m radicand g : ℕ) where
 
   pub plus-square : (w : ℕ) → square (900000000000000000 * (2 * w - m)) ≤ square (m * g) * radicand → plus_at m radicand g w ≡ true
   unfolding plus_at
-  plus-square w h = or_yes (nat_le (2 * w) m) _ (le-leb _ _ h)
+  plus-square w h = or_yes (leb (2 * w) m) _ (le-leb _ _ h)
 
   pub plus-not : (w : ℕ) → m < 2 * w → square (m * g) * radicand < square (900000000000000000 * (2 * w - m)) → plus_at m radicand g w ≡ false
   unfolding plus_at
   plus-not w h l = rw (lt-leb (2 * w) m h) (lt-leb _ _ l)
 
   -- above the middle the squares decide
-  pub plus-second : (w : ℕ) → m < 2 * w → nat_le (square (900000000000000000 * (2 * w - m))) (square (m * g) * radicand) ≡ plus_at m radicand g w
+  pub plus-second : (w : ℕ) → m < 2 * w → leb (square (900000000000000000 * (2 * w - m))) (square (m * g) * radicand) ≡ plus_at m radicand g w
   unfolding plus_at
   plus-second w h = rw (lt-leb (2 * w) m h)
 
@@ -81,10 +81,10 @@ module _ (m radicand g : ℕ) where
 
   pub minus-not : (w : ℕ) → square (900000000000000000 * (m - 2 * w)) < square (m * g) * radicand → minus_at m radicand g w ≡ false
   unfolding minus_at
-  minus-not w h = and_no (nat_le (2 * w) m) _ (lt-leb _ _ h)
+  minus-not w h = and_no (leb (2 * w) m) _ (lt-leb _ _ h)
 
   -- up to the middle the squares decide
-  pub minus-second : (w : ℕ) → 2 * w ≤ m → nat_le (square (m * g) * radicand) (square (900000000000000000 * (m - 2 * w))) ≡ minus_at m radicand g w
+  pub minus-second : (w : ℕ) → 2 * w ≤ m → leb (square (m * g) * radicand) (square (900000000000000000 * (m - 2 * w))) ≡ minus_at m radicand g w
   unfolding minus_at
   minus-second w h = rw (le-leb (2 * w) m h)
 
@@ -92,4 +92,4 @@ module _ (m radicand g : ℕ) where
   unfolding minus_at
   minus-down i j h e =
       let l : 2 * j ≤ m = leb-true (2 * j) m (and_left _ _ e) in
-      minus_is i (omega arith) (le_trans (leb-true _ _ (and_right (nat_le (2 * j) m) _ e)) (square_le (mul-le-mul_left 900000000000000000 (omega arith))))
+      minus_is i (omega arith) (le_trans (leb-true _ _ (and_right (leb (2 * j) m) _ e)) (square_le (mul-le-mul_left 900000000000000000 (omega arith))))

@@ -1,10 +1,10 @@
 -- Laws of powers of three and of nine. Assumes nothing.
-use Rattle.std.specs.Prelude.{◌≡◌, refl, true, ℕ, zero, suc, ◌+◌, ◌-◌, ◌*◌, ◌/◌, ◌%◌, ◌^◌, ◌≤◌, ◌<◌, get_or}
-use Rattle.std.proofs.Common.{sym, ap, ap₂, ◌∙◌, add-one, div-add-mod', mod-lt, pow-suc, mul_assoc, mul_comm, mul_left_comm, zero-lt-suc, arith, pow-add}
+use Rattle.std.specs.Prelude.{◌≡◌, refl, true, ℕ, zero, suc, ◌+◌, ◌-◌, ◌*◌, ◌^◌, ◌≤◌, ◌<◌, get_or}
+use Rattle.std.proofs.Common.{sym, ap, ap₂, ◌∙◌, add-one, pow-suc, mul_assoc, mul_comm, mul_left_comm, zero-lt-suc, arith, pow-add}
 use Rattle.std.proofs.Math.Nat.{one-le-pow, pow-le-pow_right}
 use Rattle.logic.specs.Table.{follows}
 use Rattle.logic.specs.Laws.Table.{table-entry}
-use Rattle.ternary.specs.Internal.Powers.{powers, shares}
+use Rattle.ternary.specs.Internal.Powers.{powers}
 
 -- "Powers of three .. come from a short table, its rule shown once" (02, W-213): one test, computed over the whole table, gives each entry
 powers-follow : follows (λ (e : ℕ). 3 ^ e) 0 powers ≡ true
@@ -29,21 +29,6 @@ nine-le h = pow-le-pow_right (zero-lt-suc 8) h
 
 pub nine-pos : (i : ℕ) → 0 < 9 ^ i
 nine-pos i = one-le-pow i 9 (zero-lt-suc 8)
-
--- the table of `nine_share` likewise: each entry is 2^56 / 9^e, rounded up
-shares-follow : follows (λ (e : ℕ). (2 ^ 56 + 9 ^ e - 1) / 9 ^ e) 0 shares ≡ true
-unfolding follows shares
-shares-follow = refl
-
-pub share-entry : (e : ℕ) → e ≤ 15 → (2 ^ 56 ≤ get_or shares e 0 * 9 ^ e) × (get_or shares e 0 * 9 ^ e < 2 ^ 56 + 9 ^ e)
-unfolding shares
-share-entry e h =
-    let d : ℕ = 9 ^ e in
-    let x : ℕ = 2 ^ 56 + d - 1 in
-    let p : 0 < d = nine-pos e in
-    let s : x / d * d + x % d ≡ x = div-add-mod' x d in
-    let r : x % d < d = mod-lt x p in
-    rw (table-entry (λ (k : ℕ). (2 ^ 56 + 9 ^ k - 1) / 9 ^ k) shares shares-follow e (omega arith)) (omega arith)
 
 -- 9^15 is 9^k times 9^(15-k)
 pub nine-split : (k : ℕ) → k ≤ 15 → 9 ^ k * 9 ^ (15 - k) ≡ 9 ^ 15
