@@ -1,4 +1,5 @@
 // One cell more in a text, in place.
+#![tactic(auto)]
 ghost use Rattle.std.specs.Prelude.{◌≡◌, true, ◌++◌, ℕ, ◌+◌, ◌-◌, ◌≤◌, ◌<◌, eqb, length, take, drop, get_or};
 ghost use Rattle.std.proofs.lemmas.List.Edits.{sets};
 ghost use Rattle.std.proofs.Math.Seq.{paste};
@@ -21,7 +22,7 @@ use reading::Profile;
 
 // What makes a text cover a cell too: nothing, for it is covered; the name's bytes from the k-th on, each in the list of the one before it, put in
 // at a place; the bytes from one place to before another cut out. Or the nodes of a list are nine whole ones then, and they end at a place.
-#[derive(Drop)]
+#[derive(Clone, Copy)]
 pub enum Edit {
     Covered,
     Put(usize, usize),
@@ -30,7 +31,7 @@ pub enum Edit {
 }
 
 // The length of the text with the cell, or the refusal, with the place for 9.
-#[derive(Drop)]
+#[derive(Clone, Copy)]
 pub enum Added {
     Length(usize),
     Refused { refusal: u64, place: u64 },
@@ -97,7 +98,7 @@ fn put_from(text: &[u8], i: usize, k: usize, count: usize, wholes: usize) -> Edi
 }
 
 // Where nodes are passed over: the place behind them, and how many of them are whole.
-#[derive(Drop)]
+#[derive(Clone, Copy)]
 pub struct Skipped {
     pub place: usize,
     pub wholes: usize,
@@ -250,7 +251,7 @@ fn breaks(profile: Profile, face: u8, digits: u64, edit: Edit) -> bool
 }
 
 // A list of the text, by where it begins and how many letters and digits of a name lead to it; 0 is the text's faces.
-#[derive(Drop)]
+#[derive(Clone, Copy)]
 pub struct ListAt {
     pub place: usize,
     pub depth: usize,

@@ -1,4 +1,5 @@
 // Whether a cell's finest cells are all covered, and how many letters and digits of the text settle that.
+#![tactic(auto)]
 ghost use Rattle.std.specs.Prelude.{◌≡◌, true, false, cond, ◌+◌, ◌-◌, ◌≤◌, ◌<◌, ltb, length, drop};
 ghost use Rattle.code.specs.Code.{is_code, arrangement_of};
 ghost use Rattle.reading.specs.Letters.{is_letter, letter_count};
@@ -10,14 +11,14 @@ use cell::Arrangement;
 use reader::Checked;
 
 // Whether all of the asked cell's finest cells are covered, and how many letters and digits settle it; or the refusal, with the place for 9.
-#[derive(Drop)]
+#[derive(Clone, Copy)]
 pub enum Asked {
     Answer { covered: bool, settled: u64 },
     Refused { refusal: u64, place: u64 },
 }
 
 // How far asking reads: the answer, and the place behind the last letter or digit whose code is not above the asked one's.
-#[derive(Drop)]
+#[derive(Clone, Copy)]
 struct Reached {
     covered: bool,
     at: usize,

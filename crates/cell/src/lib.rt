@@ -1,4 +1,5 @@
 // Cells and arrangements by value, and the steps up and down the hierarchy.
+#![tactic(auto)]
 ghost use Rattle.std.specs.Prelude.{◌≡◌, ◌≤◌, ◌<◌};
 ghost use Rattle.cell.specs.Cell.{IsCell, cell_refusal, arrangement_refusal, found};
 ghost use Rattle.cell.specs.Hierarchy.{parent_refusal, parent_of, child_refusal, child_of};
@@ -6,7 +7,7 @@ ghost use Rattle.cell.specs.Hierarchy.{parent_refusal, parent_of, child_refusal,
 mod step;
 
 // A face (0 to 5 are N, O, P, Q, R, S), a resolution, a row from the top and a column from the left.
-#[derive(Drop)]
+#[derive(Clone, Copy)]
 pub struct Cell {
     pub face: u64,
     pub resolution: u64,
@@ -15,14 +16,14 @@ pub struct Cell {
 }
 
 // N lies above face `north` of O to R, and S below face `south`.
-#[derive(Drop)]
+#[derive(Clone, Copy)]
 pub struct Arrangement {
     pub north: u64,
     pub south: u64,
 }
 
 // A cell, or the number of the refusal.
-#[derive(Drop)]
+#[derive(Clone, Copy)]
 pub enum Found {
     At(Cell),
     Refused(u64),

@@ -1,4 +1,5 @@
 // Codes: a cell and the arrangement that it is of. How a code is made is known here only.
+#![tactic(auto)]
 ghost use Rattle.std.specs.Prelude.{◌≡◌, true, ◌+◌, ◌-◌, ◌*◌, ◌/◌, ◌^◌, ◌≤◌, ◌<◌};
 ghost use Rattle.logic.specs.Refusal.{◌otherwise◌};
 ghost use Rattle.ternary.specs.Weave.{weave};
@@ -14,14 +15,14 @@ use cell::{Arrangement, Cell, Found};
 pub const FACE_SIZE: u64 = 205_891_132_094_649;
 
 // A code, or the number of the refusal.
-#[derive(Drop)]
+#[derive(Clone, Copy)]
 pub enum Coded {
     Code(u64),
     Refused(u64),
 }
 
 // A code taken apart, or the number of the refusal.
-#[derive(Drop)]
+#[derive(Clone, Copy)]
 pub enum Split {
     Parts {
         face: u64,

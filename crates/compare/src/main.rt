@@ -1,4 +1,5 @@
 // compare FILE FILE: what the first text covers and the second does not, what the second covers and the first does not, and what both cover.
+#![tactic(auto)]
 ghost use Rattle.std.specs.Prelude.{◌≡◌, ◌≤◌, length};
 ghost use Rattle.comparing.specs.Compare.{lists, compare_refusal};
 ghost use Rattle.compare.specs.Printed.{ListingIn, ListingPrinted, Stopped, ThreePrinted, ListingsWritten};
@@ -9,7 +10,7 @@ use console::{BytesRead, Room};
 use reader::Checked;
 
 // Whether all was printed. How many bytes stand in each of the three rooms then; and the refusal that is to be said, 0 for none, with its place.
-#[derive(Drop)]
+#[derive(Clone, Copy)]
 struct Shown {
     done: bool,
     firsts: usize,

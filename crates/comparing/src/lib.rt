@@ -1,4 +1,5 @@
 // What two texts cover: only the first, only the second, and both. Both are gone over at once, and no list is held.
+#![tactic(auto)]
 ghost use Rattle.std.specs.Prelude.{◌≡◌, true, false, ◌||◌, ltb, ◌+◌, ◌-◌, ◌*◌, ◌^◌, ◌≤◌, ◌<◌, length, set};
 ghost use Rattle.cell.specs.Cell.{IsArrangement};
 ghost use Rattle.code.specs.Number.{code_as};
@@ -17,14 +18,14 @@ const WHOLE: u64 = 1;
 const LIST: u64 = 2;
 
 // How many cells a listing has, and the sum of their sizes.
-#[derive(Drop)]
+#[derive(Clone, Copy)]
 pub struct Listing {
     pub count: u64,
     pub size: u64,
 }
 
 // The three listings; or the refusal, with the place for 9.
-#[derive(Drop)]
+#[derive(Clone, Copy)]
 pub enum Compared {
     Listings {
         first: Listing,
@@ -38,14 +39,14 @@ pub enum Compared {
 }
 
 // How much of a cell a text covers, and the place of the next byte.
-#[derive(Drop)]
+#[derive(Clone, Copy)]
 struct Child {
     portion: u64,
     next: usize,
 }
 
 // Where the comparison stands: the places of the next bytes of the two texts, how many cells each listing has so far, and the sizes of those in both.
-#[derive(Drop)]
+#[derive(Clone, Copy)]
 struct Cursor {
     first: usize,
     second: usize,
@@ -56,7 +57,7 @@ struct Cursor {
 }
 
 // What the heading of a text that was accepted says of it, the sum of sizes, and where its body starts.
-#[derive(Drop)]
+#[derive(Clone, Copy)]
 struct Read {
     arrangement: Arrangement,
     size: u64,

@@ -1,4 +1,5 @@
 // What the programs share: words for people on standard error, arguments, and input and output that can fail.
+#![tactic(auto)]
 ghost use Rattle.std.specs.Prelude.{◌≡◌, true, ◌+◌, ◌≤◌, ◌<◌, length, take};
 ghost use Rattle.console.specs.Arguments.{latitude_given, setting_given, judged, OfWord, Usable};
 ghost use Rattle.console.specs.Beside.{beside_of, Folder};
@@ -15,28 +16,28 @@ use libc::{STDERR_FILENO, STDIN_FILENO, STDOUT_FILENO};
 use lines::Reached;
 
 // The arguments n, s, resolution and, if there is one, eccentricity.
-#[derive(Drop)]
+#[derive(Clone, Copy)]
 pub enum Arguments {
     Good(Setting),
     Wrong,
 }
 
 // The same of the fourth argument, or that there is none.
-#[derive(Drop)]
+#[derive(Clone, Copy)]
 enum LatitudeGiven {
     Good(Latitude),
     Wrong,
 }
 
 // A history that was read from a file, or that there is none.
-#[derive(Drop)]
+#[derive(Clone, Copy)]
 pub struct Loaded {
     pub done: bool,
     pub history: History,
 }
 
 // How many bytes were read. No byte is the end of the input.
-#[derive(Drop)]
+#[derive(Clone, Copy)]
 pub enum BytesRead {
     Count(usize),
     Failed,
@@ -44,7 +45,7 @@ pub enum BytesRead {
 
 // A line that ended: so many bytes of it stand in its room, and the bytes read behind it from one place up to another. Or the last line, which
 // has no end; or no further line; or reading failed.
-#[derive(Drop)]
+#[derive(Clone, Copy)]
 pub enum LineRead {
     Line {
         length: usize,
@@ -59,7 +60,7 @@ pub enum LineRead {
 }
 
 // From where on there is room, or writing failed.
-#[derive(Drop)]
+#[derive(Clone, Copy)]
 pub enum Room {
     From(usize),
     Failed,

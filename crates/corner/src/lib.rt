@@ -1,4 +1,5 @@
 // The cells that meet a cell at a corner only (02, W-204): how many they are, and their codes.
+#![tactic(auto)]
 ghost use Rattle.std.specs.Prelude.{◌≡◌, ◌≤◌, ◌<◌, length, take};
 ghost use Rattle.cell.specs.Cell.{IsCell, IsArrangement};
 ghost use Rattle.track.specs.Track.{Held};
@@ -9,7 +10,7 @@ use cell::{Arrangement, Cell, Found};
 use track::Added;
 
 // How many codes were listed, or the number of the refusal.
-#[derive(Drop)]
+#[derive(Clone, Copy)]
 pub enum Cornered {
     Count(u64),
     Refused(u64),

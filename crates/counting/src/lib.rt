@@ -1,1 +1,2 @@
 // No code: the definitions and laws of specs/, for sums and counts.
+#![tactic(auto)]

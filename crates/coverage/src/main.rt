@@ -1,5 +1,6 @@
 // coverage check FILE, coverage list FILE, coverage ask FILE NAME, coverage frame FILE SIDE, coverage summary FILE [NAME], coverage sheet FILE [SHEET],
 // coverage rescue FILE, coverage write n s [depth]: reads and writes coverage texts.
+#![tactic(auto)]
 ghost use Rattle.std.specs.Prelude.{◌≡◌, ◌≤◌, length, take};
 ghost use Rattle.cell.specs.Cell.{IsArrangement};
 ghost use Rattle.reader.specs.Check.{checked_of};
@@ -28,7 +29,7 @@ use sheet::Judged;
 use writing::Written;
 
 // What the first argument asks for.
-#[derive(Drop)]
+#[derive(Clone, Copy)]
 enum Command {
     Check,
     List,
@@ -43,14 +44,14 @@ enum Command {
 }
 
 // How many codes there are after a name, or its refusal.
-#[derive(Drop)]
+#[derive(Clone, Copy)]
 enum Taken {
     Count(usize),
     Refused(u64),
 }
 
 // How many codes are held of the names read; or a line stopped the reading; or the input failed.
-#[derive(Drop)]
+#[derive(Clone, Copy)]
 enum NamesRead {
     Count(usize),
     Stopped(u64),
@@ -58,7 +59,7 @@ enum NamesRead {
 }
 
 // How many bytes of a text stand in front; or the list is refused; or no list was read.
-#[derive(Drop)]
+#[derive(Clone, Copy)]
 enum Text {
     Length(usize),
     Refused(u64),
@@ -66,7 +67,7 @@ enum Text {
 }
 
 // What text is asked for: its version, its depth, n and s.
-#[derive(Drop)]
+#[derive(Clone, Copy)]
 struct Form {
     version: u64,
     depth: u64,
@@ -74,7 +75,7 @@ struct Form {
 }
 
 // A line that waits in front of its room up to `end`; and the refusal that is to be said with it, 0 for none, with its place.
-#[derive(Drop)]
+#[derive(Clone, Copy)]
 struct Shown {
     end: usize,
     refusal: u64,
@@ -82,7 +83,7 @@ struct Shown {
 }
 
 // What a rescue left in front of its rooms: so many bytes of the text, and so many numbers of what was changed; or a refusal, with its place.
-#[derive(Drop)]
+#[derive(Clone, Copy)]
 struct RescueRooms {
     end: usize,
     numbers: usize,

@@ -1,31 +1,32 @@
 // Whole numbers and fixes as people write them, in decimal digits.
+#![tactic(auto)]
 ghost use Rattle.std.specs.Prelude.{◌≡◌, ◌++◌, ◌+◌, ◌^◌, ◌≤◌, ◌<◌, length, take, drop};
 ghost use Rattle.decimal.specs.Fraction.{whole_fraction, fraction_in};
 ghost use Rattle.decimal.specs.Decimal.{whole_in, number_in, fix_in, signed_number, ahead, trimmed, printed};
 
 // A whole number that some bytes write.
-#[derive(Drop)]
+#[derive(Clone, Copy)]
 pub enum Whole {
     Is(u64),
     Not,
 }
 
 // The same with a sign.
-#[derive(Drop)]
+#[derive(Clone, Copy)]
 pub enum Number {
     Is(i64),
     Not,
 }
 
 // A fraction that some bytes write: a whole number over a power of ten.
-#[derive(Drop)]
+#[derive(Clone, Copy)]
 pub enum Fraction {
     Is(u64, u64),
     Not,
 }
 
 // The fix that a line writes: longitude and z.
-#[derive(Drop)]
+#[derive(Clone, Copy)]
 pub enum FixLine {
     Fix(i64, i64),
     Not,

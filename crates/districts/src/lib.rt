@@ -1,4 +1,5 @@
 // What `coverage summary` prints: the districts that have anything, or the answer to a question by name.
+#![tactic(auto)]
 ghost use Rattle.std.specs.Prelude.{◌≡◌, ◌+◌, ◌≤◌, ◌<◌, ◌^◌, length, get_or};
 ghost use Rattle.cell.specs.Cell.{IsArrangement};
 ghost use Rattle.reader.specs.Check.{text_refusal, place_with};
@@ -13,7 +14,7 @@ use code::Coded;
 use summary::{Questioned, Summarized};
 
 // Where lines end; and their refusal, 0 for none, with the place.
-#[derive(Drop)]
+#[derive(Clone, Copy)]
 pub struct LinesPut {
     pub end: usize,
     pub refusal: u64,

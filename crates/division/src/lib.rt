@@ -1,9 +1,10 @@
 // Long division: quotients of numbers that no machine word holds.
+#![tactic(auto)]
 ghost use Rattle.std.specs.Prelude.{◌*◌, ◌^◌, ◌<◌};
 ghost use Rattle.division.specs.Division.{Divided};
 
 // A whole part and the rest.
-#[derive(Drop)]
+#[derive(Clone, Copy)]
 pub struct Quotient {
     pub whole: u64,
     pub rest: u64,

@@ -1,4 +1,5 @@
 // A history as bytes, for a file: the mark `JGS`, the version, the newest revision, and the 32 places, 8 bytes each.
+#![tactic(auto)]
 ghost use Rattle.std.specs.Prelude.{◌≡◌, ◌++◌, ◌+◌, ◌≤◌, ◌<◌, ◌^◌, length, drop};
 ghost use Rattle.std.proofs.lemmas.List.Edits.{sets};
 ghost use Rattle.fields.specs.Number.{number_at};
@@ -15,14 +16,14 @@ pub const LENGTH: usize = 263;
 const MARK: u64 = 0x4A_47_53_00_01;
 
 // The settings at a place, or the first byte that is wrong.
-#[derive(Drop)]
+#[derive(Clone, Copy)]
 enum SettingsRead {
     Is(Settings),
     Wrong(usize),
 }
 
 // The history; or 9, with the place of the first byte that is wrong. (An enum cannot hold its array.)
-#[derive(Drop)]
+#[derive(Clone, Copy)]
 pub struct Decoded {
     pub refusal: u64,
     pub place: u64,

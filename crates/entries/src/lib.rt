@@ -1,13 +1,14 @@
 // What the public entries answer: a struct for each shape of answer, `refusal` first. The definitions and laws of the answers are in specs/.
+#![tactic(auto)]
 #[repr(C)]
-#[derive(Drop)]
+#[derive(Clone, Copy)]
 pub struct CodeAnswer {
     pub refusal: u64,
     pub code: u64,
 }
 
 #[repr(C)]
-#[derive(Drop)]
+#[derive(Clone, Copy)]
 pub struct CellAnswer {
     pub refusal: u64,
     pub n: u64,
@@ -19,7 +20,7 @@ pub struct CellAnswer {
 }
 
 #[repr(C)]
-#[derive(Drop)]
+#[derive(Clone, Copy)]
 pub struct NameAnswer {
     pub refusal: u64,
     pub n: u64,
@@ -28,35 +29,35 @@ pub struct NameAnswer {
 }
 
 #[repr(C)]
-#[derive(Drop)]
+#[derive(Clone, Copy)]
 pub struct LengthAnswer {
     pub refusal: u64,
     pub length: u64,
 }
 
 #[repr(C)]
-#[derive(Drop)]
+#[derive(Clone, Copy)]
 pub struct SizeAnswer {
     pub refusal: u64,
     pub size: u64,
 }
 
 #[repr(C)]
-#[derive(Drop)]
+#[derive(Clone, Copy)]
 pub struct ShapeAnswer {
     pub refusal: u64,
     pub shape: u64,
 }
 
 #[repr(C)]
-#[derive(Drop)]
+#[derive(Clone, Copy)]
 pub struct CountAnswer {
     pub refusal: u64,
     pub count: u64,
 }
 
 #[repr(C)]
-#[derive(Drop)]
+#[derive(Clone, Copy)]
 pub struct SquareAnswer {
     pub refusal: u64,
     pub left: i64,
@@ -65,7 +66,7 @@ pub struct SquareAnswer {
 }
 
 #[repr(C)]
-#[derive(Drop)]
+#[derive(Clone, Copy)]
 pub struct PointAnswer {
     pub refusal: u64,
     pub x: i64,
@@ -73,14 +74,14 @@ pub struct PointAnswer {
 }
 
 #[repr(C)]
-#[derive(Drop)]
+#[derive(Clone, Copy)]
 pub struct ZAnswer {
     pub refusal: u64,
     pub z: i64,
 }
 
 #[repr(C)]
-#[derive(Drop)]
+#[derive(Clone, Copy)]
 pub struct FixAnswer {
     pub refusal: u64,
     pub longitude: i64,
@@ -88,7 +89,7 @@ pub struct FixAnswer {
 }
 
 #[repr(C)]
-#[derive(Drop)]
+#[derive(Clone, Copy)]
 pub struct VerticesAnswer {
     pub refusal: u64,
     pub x: [i64; 4],
@@ -96,7 +97,7 @@ pub struct VerticesAnswer {
 }
 
 #[repr(C)]
-#[derive(Drop)]
+#[derive(Clone, Copy)]
 pub struct CheckAnswer {
     pub refusal: u64,
     pub place: u64,
@@ -109,7 +110,7 @@ pub struct CheckAnswer {
 }
 
 #[repr(C)]
-#[derive(Drop)]
+#[derive(Clone, Copy)]
 pub struct ListAnswer {
     pub refusal: u64,
     pub place: u64,
@@ -117,7 +118,7 @@ pub struct ListAnswer {
 }
 
 #[repr(C)]
-#[derive(Drop)]
+#[derive(Clone, Copy)]
 pub struct AskAnswer {
     pub refusal: u64,
     pub place: u64,
@@ -126,7 +127,7 @@ pub struct AskAnswer {
 }
 
 #[repr(C)]
-#[derive(Drop)]
+#[derive(Clone, Copy)]
 pub struct MarkAnswer {
     pub refusal: u64,
     pub kind: u64,
@@ -134,7 +135,7 @@ pub struct MarkAnswer {
 }
 
 #[repr(C)]
-#[derive(Drop)]
+#[derive(Clone, Copy)]
 pub struct FrameAnswer {
     pub refusal: u64,
     pub left: f64,
@@ -144,7 +145,7 @@ pub struct FrameAnswer {
 }
 
 #[repr(C)]
-#[derive(Drop)]
+#[derive(Clone, Copy)]
 pub struct AddAnswer {
     pub refusal: u64,
     pub place: u64,
@@ -152,7 +153,7 @@ pub struct AddAnswer {
 }
 
 #[repr(C)]
-#[derive(Drop)]
+#[derive(Clone, Copy)]
 pub struct CompareAnswer {
     pub refusal: u64,
     pub place: u64,
@@ -165,7 +166,7 @@ pub struct CompareAnswer {
 }
 
 #[repr(C)]
-#[derive(Drop)]
+#[derive(Clone, Copy)]
 pub struct SheetAnswer {
     pub refusal: u64,
     pub place: u64,
@@ -174,7 +175,7 @@ pub struct SheetAnswer {
 }
 
 #[repr(C)]
-#[derive(Drop)]
+#[derive(Clone, Copy)]
 pub struct RescueAnswer {
     pub refusal: u64,
     pub place: u64,
@@ -183,7 +184,7 @@ pub struct RescueAnswer {
 }
 
 #[repr(C)]
-#[derive(Drop)]
+#[derive(Clone, Copy)]
 pub struct SheetLengthAnswer {
     pub refusal: u64,
     pub place: u64,
@@ -191,7 +192,7 @@ pub struct SheetLengthAnswer {
 }
 
 #[repr(C)]
-#[derive(Drop)]
+#[derive(Clone, Copy)]
 pub struct SummaryAnswer {
     pub refusal: u64,
     pub place: u64,
@@ -201,7 +202,7 @@ pub struct SummaryAnswer {
 }
 
 #[repr(C)]
-#[derive(Drop)]
+#[derive(Clone, Copy)]
 pub struct SummaryAskAnswer {
     pub refusal: u64,
     pub covered: u64,

@@ -1,11 +1,12 @@
 // Numbers of fixed widths in bytes, high byte first: read between limits, up to the first byte that is wrong, and written.
+#![tactic(auto)]
 ghost use Rattle.std.specs.Prelude.{◌≡◌, ◌+◌, ◌^◌, ◌≤◌, ◌<◌, length};
 ghost use Rattle.std.proofs.lemmas.List.Edits.{sets};
 ghost use Rattle.ternary.specs.Digits.{digits};
 ghost use Rattle.fields.specs.Number.{number_at};
 
 // A number, or the place of the first byte that is wrong: one that no number between the limits goes on with, or the end of the bytes.
-#[derive(Drop)]
+#[derive(Clone, Copy)]
 pub enum NumberRead {
     Is(u64),
     Wrong(usize),

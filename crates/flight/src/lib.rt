@@ -1,4 +1,5 @@
 // A line of a flight: the code of its fix, and the text with its cell.
+#![tactic(auto)]
 ghost use Rattle.std.specs.Prelude.{◌≡◌, true, [], ◌≤◌, length, take};
 ghost use Rattle.cell.specs.Cell.{IsArrangement, found};
 ghost use Rattle.code.specs.Code.{is_code, found_code};
@@ -19,7 +20,7 @@ use writing::Written;
 
 // What the second number of a line is: z, the sine of the authalic latitude; or the sine of the geodetic latitude on an ellipsoid with this squared
 // eccentricity (02 W-203).
-#[derive(Drop)]
+#[derive(Clone, Copy)]
 pub enum Latitude {
     Authalic,
     Geodetic(u64),
@@ -38,7 +39,7 @@ impl Latitude {
 }
 
 // What a flight is recorded in.
-#[derive(Drop)]
+#[derive(Clone, Copy)]
 pub struct Setting {
     pub arrangement: Arrangement,
     pub resolution: u64,
@@ -99,14 +100,14 @@ pub fn line_code(setting: Setting, line: &[u8]) -> Coded
 }
 
 // A flight recorded in a text: the text's length, and the code of the fix that was taken last, or a number that is no code.
-#[derive(Drop)]
+#[derive(Clone, Copy)]
 pub struct Recording {
     pub length: usize,
     pub last: u64,
 }
 
 // The recording with the line's fix, or the line is refused.
-#[derive(Drop)]
+#[derive(Clone, Copy)]
 pub enum Taken {
     Fix(Recording),
     Refused(u64),

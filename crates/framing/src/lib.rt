@@ -1,4 +1,5 @@
 // What `coverage frame` reads and prints: the face side as people write it, and a frame's edges.
+#![tactic(auto)]
 ghost use Rattle.std.specs.Prelude.{◌≡◌, false, [], ◌∷◌, ◌++◌, ◌+◌, ◌≤◌, length};
 ghost use Rattle.std.specs.Float.Ieee.{is_nan};
 ghost use Rattle.logic.specs.Refusal.{given};
@@ -64,7 +65,7 @@ pub fn put_around(around: Around, out: &mut [u8]) -> usize
 }
 
 // Where a line ends; and its refusal, 0 for none, with the place.
-#[derive(Drop)]
+#[derive(Clone, Copy)]
 pub struct LinePut {
     pub end: usize,
     pub refusal: u64,

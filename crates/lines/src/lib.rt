@@ -1,10 +1,11 @@
 // The lines of an input, one at a time, in whatever parts its bytes come in.
+#![tactic(auto)]
 ghost use Rattle.std.specs.Prelude.{◌≡◌, ◌⊎◌, ◌++◌, ◌-◌, ◌≤◌, length, take, drop};
 ghost use Rattle.lines.specs.Next.{Hands};
 
 // A line ended: so many bytes of it stand in the room, and the part goes on at `at`. Or the part is used up, and so many bytes of the line that
 // has begun stand in the room.
-#[derive(Drop)]
+#[derive(Clone, Copy)]
 pub enum Reached {
     LineEnd { length: usize, at: usize },
     PartEnd { kept: usize },

@@ -1,4 +1,5 @@
 // The codes of a text's whole cells.
+#![tactic(auto)]
 ghost use Rattle.std.specs.Prelude.{◌≡◌, true, ◌++◌, ◌≤◌, length, drop};
 ghost use Rattle.reading.specs.TextReading.{is_text, text_arrangement, body_start};
 ghost use Rattle.logic.specs.Refusal.{given};
@@ -9,7 +10,7 @@ use reader::Checked;
 use walk::Spot;
 
 // How many codes were listed; or the refusal, with the place for 9.
-#[derive(Drop)]
+#[derive(Clone, Copy)]
 pub enum Listed {
     Count(u64),
     Refused { refusal: u64, place: u64 },

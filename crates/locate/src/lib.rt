@@ -1,5 +1,6 @@
 // The code of a fix's cell (01 "From a fix to a cell"). Computed in unsigned numbers: how far east of -1,800,000,000, and z by its sign and size. Row and
 // column are found as parts of a face, of 2^56, from which their digits are woven; the cell itself is found only where a part leaves a digit open.
+#![tactic(auto)]
 ghost use Rattle.std.specs.Prelude.{◌≡◌, true, false, cond, ◌+◌, ◌-◌, ◌*◌, ◌/◌, ◌%◌, ◌^◌, ◌≤◌, ◌<◌, pos, neg_ℤ, nat_abs, ◌+ℤ◌};
 ghost use Rattle.std.proofs.Math.IntN.{sub_ℕ};
 ghost use Rattle.std.specs.Int.Signed.{le_z};
@@ -41,7 +42,7 @@ const BY_BELT: u64 = 332_306_998_946_228_968;
 const BELT_ROOM: u64 = 14_349_345;
 
 // A point of a cap, in multiples of h / 1,800,000,000.
-#[derive(Drop)]
+#[derive(Clone, Copy)]
 struct End {
     p: Axis,
     q: Axis,

@@ -1,1 +1,2 @@
 // No code: the definitions and laws of specs/, which every other crate shares.
+#![tactic(auto)]

@@ -1,4 +1,5 @@
 // The looser text of a hand-edited body: whether bytes are one, and the place where they are not.
+#![tactic(auto)]
 ghost use Rattle.std.specs.Prelude.{◌≡◌, false, ◌+◌, ◌≤◌, ◌<◌, length, drop};
 ghost use Rattle.loose.specs.LooseScan.{lead_one, is_name, scan, depth};
 ghost use Rattle.loose.specs.Look.{loose_refusal, looked};
@@ -7,7 +8,7 @@ ghost use Rattle.loose.specs.declared.Looked.TheVariants.{Refused as RefusedWith
 use cell::Arrangement;
 
 // The place where the scan of a body stops, and how many lists are open there.
-#[derive(Drop)]
+#[derive(Clone, Copy)]
 struct Stop {
     place: usize,
     lists: u64,
@@ -85,7 +86,7 @@ fn heading(text: &[u8]) -> usize
 }
 
 // A looser text and its arrangement; or the refusal, with the place for 9.
-#[derive(Drop)]
+#[derive(Clone, Copy)]
 pub enum Looked {
     Loose(Arrangement),
     Refused { refusal: u64, place: u64 },

@@ -1,4 +1,5 @@
 // Planar numbers in metres, as doubles.
+#![tactic(auto)]
 ghost use Rattle.std.specs.Prelude.{◌≡◌, ◌^◌, ◌≤◌, nat_abs};
 ghost use Rattle.metres.specs.Metres.{is_side, metres_of};
 

@@ -1,4 +1,5 @@
 // Names of cells: a face letter, N to S, and a digit 0 to 8 for each resolution.
+#![tactic(auto)]
 ghost use Rattle.std.specs.Prelude.{◌≡◌, not, ◌∷◌, ◌++◌, ◌+◌, ◌≤◌, ◌<◌, length, take, drop};
 ghost use Rattle.logic.specs.Refusal.{refuse, given};
 ghost use Rattle.ternary.specs.Digits.{value, digits};
@@ -10,7 +11,7 @@ use cell::Arrangement;
 use code::{Coded, Split};
 
 // The length of a name that was written, or the number of the refusal.
-#[derive(Drop)]
+#[derive(Clone, Copy)]
 pub enum Named {
     Length(u64),
     Refused(u64),

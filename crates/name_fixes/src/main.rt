@@ -1,6 +1,7 @@
 // name_fixes n s resolution [eccentricity]: reads a line `longitude z` for each fix, and writes for each the name of its cell, or the refusal number.
 // With an eccentricity the lines are `longitude sine` (02 W-203). name_fixes settings FILE [REVISION]: the same with the settings of a revision, the
 // newest if none is given (02 W-209).
+#![tactic(auto)]
 ghost use Rattle.std.specs.Prelude.{◌≤◌, length};
 ghost use Rattle.name_fixes.specs.Answers.{Answered, AllAnswered};
 
@@ -8,7 +9,7 @@ use console::{Arguments, LineRead, Room};
 use flight::Setting;
 
 // How many bytes wait in front to be printed, or printing failed.
-#[derive(Drop)]
+#[derive(Clone, Copy)]
 enum Waiting {
     Count(usize),
     Failed,

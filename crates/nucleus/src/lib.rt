@@ -1,5 +1,6 @@
 // The ground nucleus of a cell, in whole numbers: the fractions that the rules send to the cell's middle, floored. A coarser cell's fractions are
 // taken with both numbers 3^(15-k) times as great: then the divisors are known beforehand, and dividing by them is multiplying.
+#![tactic(auto)]
 ghost use Rattle.std.specs.Prelude.{◌≡◌, cond, ◌+◌, ◌-◌, ◌*◌, ◌/◌, ◌^◌, ◌≤◌, ◌<◌, eqb, pos, neg_ℤ};
 ghost use Rattle.std.proofs.Math.IntN.{sub_ℕ};
 ghost use Rattle.cell.specs.Cell.{IsCell, IsArrangement};
@@ -12,14 +13,14 @@ use division::Quotient;
 use ternary::FINEST_ROWS;
 
 // A longitude, in ten-millionths of a degree, and the sine of the authalic latitude, in units of 10^-18.
-#[derive(Drop)]
+#[derive(Clone, Copy)]
 pub struct Fix {
     pub longitude: i64,
     pub z: i64,
 }
 
 // How often a cap's start was turned, its height, and the place along it from its western end.
-#[derive(Drop)]
+#[derive(Clone, Copy)]
 struct Start {
     turn: u64,
     height: u64,

@@ -1,5 +1,6 @@
 // The plane: the square, the nucleus and the vertices of a cell, and the cell of a point. Computed in unsigned numbers: how far a point is right of
 // the left edge of O, and how deep below the top of N.
+#![tactic(auto)]
 ghost use Rattle.std.specs.Prelude.{◌≡◌, ◌+◌, ◌*◌, ◌≤◌, ◌<◌, ◌^◌};
 ghost use Rattle.cell.specs.Cell.{IsCell, IsArrangement, found};
 ghost use Rattle.plane.specs.Plane.{face_side, side_of, face_left, cell_at, square_of, nucleus_of, vertices_of, point_refusal, point_cell};
@@ -17,21 +18,21 @@ const SOUTH: u64 = 57_395_628;
 const TOP: u64 = 43_046_721;
 
 // A cell's left and top edge, and the length of its sides.
-#[derive(Drop)]
+#[derive(Clone, Copy)]
 pub struct Square {
     pub left: i64,
     pub top: i64,
     pub side: i64,
 }
 
-#[derive(Drop)]
+#[derive(Clone, Copy)]
 pub struct Point {
     pub x: i64,
     pub y: i64,
 }
 
 // Top left, top right, bottom right, bottom left.
-#[derive(Drop)]
+#[derive(Clone, Copy)]
 pub struct Vertices {
     pub x: [i64; 4],
     pub y: [i64; 4],

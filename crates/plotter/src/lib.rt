@@ -1,4 +1,5 @@
 // Marks and frames for the plotter, in metres.
+#![tactic(auto)]
 ghost use Rattle.std.specs.Prelude.{◌≡◌, true};
 ghost use Rattle.std.specs.Float.Ieee.{is_nan};
 ghost use Rattle.cell.specs.Cell.{IsCell, IsArrangement};
@@ -8,7 +9,7 @@ ghost use Rattle.plotter.specs.Plotter.{mark_of_point, box_of, mark_of_code, fir
 use cell::{Arrangement, Cell, Found};
 
 // "either a point in metres, a box with its four edges, or nothing with the refusal": x and y; left, bottom, right and top.
-#[derive(Drop)]
+#[derive(Clone, Copy)]
 pub enum Mark {
     Point(f64, f64),
     Box(f64, f64, f64, f64),
@@ -17,7 +18,7 @@ pub enum Mark {
 
 // Four edges in metres.
 #[repr(C)]
-#[derive(Drop)]
+#[derive(Clone, Copy)]
 pub struct Frame {
     pub left: f64,
     pub bottom: f64,
@@ -26,14 +27,14 @@ pub struct Frame {
 }
 
 // A frame, or the refusal.
-#[derive(Drop)]
+#[derive(Clone, Copy)]
 pub enum Framed {
     Edges(Frame),
     Refused(u64),
 }
 
 // The frame around some cells: none where there are no cells.
-#[derive(Drop)]
+#[derive(Clone, Copy)]
 pub enum Around {
     Edges(Frame),
     Nothing,

@@ -1,4 +1,5 @@
 // Checking a coverage text: node reader and list reader call each other.
+#![tactic(auto)]
 ghost use Rattle.std.specs.Prelude.{◌≡◌, ◌*◌, ◌^◌, ◌≤◌, ◌<◌, eqb, length, get_or};
 ghost use Rattle.reading.specs.Text.{heading_length};
 ghost use Rattle.reading.specs.Heading.{least, greatest, lead, profile_in};
@@ -10,7 +11,7 @@ use reading::{Level, Profile};
 
 // What checking answers: the heading's version and depth, n and s, the number of whole cells and the sum of their sizes, and where the body starts; or the refusal, with
 // the place for 9.
-#[derive(Drop)]
+#[derive(Clone, Copy)]
 pub enum Checked {
     Text {
         profile: Profile,
@@ -27,7 +28,7 @@ pub enum Checked {
 }
 
 // What reading nodes hands back: the place of the next byte, the number of whole cells, the sum of their sizes, and how many of the nodes stand whole.
-#[derive(Drop)]
+#[derive(Clone, Copy)]
 pub enum NodesRead {
     Bad,
     Read(usize, u64, u64, u64),

@@ -1,4 +1,5 @@
 // What the parts of a coverage text are: the letters of faces and the digits of nodes.
+#![tactic(auto)]
 ghost use Rattle.std.specs.Prelude.{◌≡◌, eqb, length, get_or};
 ghost use Rattle.reading.specs.Heading.{lead};
 ghost use Rattle.reading.specs.Reading.{first, many, room as room_of};
@@ -8,7 +9,7 @@ ghost use Rattle.reading.specs.Text.{version_of, level_of, depth_of, heading_len
 pub const LONGEST: usize = 65_536;
 
 // What nodes side by side are: faces of which each may hold a list, faces of which N and S stand only whole, or digits.
-#[derive(Drop)]
+#[derive(Clone, Copy)]
 pub enum Level {
     Faces,
     Belt,
@@ -16,7 +17,7 @@ pub enum Level {
 }
 
 // What a text may hold: version 1, or version 2, the handheld profile, with its greatest depth.
-#[derive(Drop)]
+#[derive(Clone, Copy)]
 pub enum Profile {
     Full,
     Handheld(u64),

@@ -1,6 +1,7 @@
 // record n s resolution [eccentricity] [to FILE]: reads a flight, a line `longitude z` for each fix, and writes the coverage text of the cells flown.
 // With an eccentricity the lines are `longitude sine` (02 W-203). With a file the text so far is in it too, after each minute's worth of lines. The
 // text is all that is held of it. record settings FILE [REVISION] [to FILE]: the same with the settings of a revision, the newest if none is given (02 W-209).
+#![tactic(auto)]
 ghost use Rattle.std.specs.Prelude.{◌≡◌, ◌⊎◌, false, ◌+◌, ◌≤◌, ◌<◌, length, take};
 ghost use Rattle.lines.specs.Fold.{OfBytes};
 ghost use Rattle.adding.specs.InMind.{InMind};
@@ -18,7 +19,7 @@ const MINUTE: u64 = 1_200;
 
 // A flight so far: its text, how many fixes were taken, how many lines were refused, with 13 and with another number; and whether the text has
 // changed since it was kept.
-#[derive(Drop)]
+#[derive(Clone, Copy)]
 struct Flight {
     recording: Recording,
     fixes: u64,
@@ -28,7 +29,7 @@ struct Flight {
 }
 
 // A file's path of so many bytes; or there is none, or none that can be used.
-#[derive(Drop)]
+#[derive(Clone, Copy)]
 enum File {
     Path(usize),
     None,

@@ -1,4 +1,5 @@
 // What the programs print, as bytes in lent memory.
+#![tactic(auto)]
 ghost use Rattle.std.specs.Prelude.{◌≡◌, [], ◌∷◌, ◌++◌, ◌+◌, ◌≤◌, ◌<◌, length, drop, get_or};
 ghost use Rattle.decimal.specs.Decimal.{printed};
 ghost use Rattle.report.specs.Put.{Put};
@@ -84,7 +85,7 @@ fn put_four(a: u64, b: u64, c: u64, d: u64, byte: u8, out: &mut [u8], at: usize)
 }
 
 // How many names were put, and where they end.
-#[derive(Drop)]
+#[derive(Clone, Copy)]
 pub struct Names {
     pub count: usize,
     pub end: usize,

@@ -1,5 +1,6 @@
 // The rescue of a hand-edited text: its proper text, and the list of what was changed. One pass marks each byte with its kinds of change; counting
 // and writing only read the marks.
+#![tactic(auto)]
 ghost use Rattle.std.specs.Prelude.{◌≡◌, true, false, cond, [], ◌++◌, ◌+◌, ◌-◌, ◌*◌, ◌/◌, ◌%◌, ◌≤◌, ◌<◌, eqb, length, take, drop};
 ghost use Rattle.logic.specs.Rise.{Rise};
 ghost use Rattle.track.specs.Track.{number_below};
@@ -367,7 +368,7 @@ fn find(
 }
 
 // The length of the proper text, and how many changes there are; or the refusal, with the place for 9.
-#[derive(Drop)]
+#[derive(Clone, Copy)]
 pub enum Rescued {
     Done { length: u64, changes: u64 },
     Refused { refusal: u64, place: u64 },

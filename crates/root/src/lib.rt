@@ -1,4 +1,5 @@
 // Floors over a root, decided exactly (01 "From a fix to a cell": "A floor over the root is the whole number w with w <= value < w + 1").
+#![tactic(auto)]
 ghost use Rattle.std.specs.Prelude.{◌≡◌, ◌+◌, ◌*◌, ◌^◌, ◌≤◌, ◌<◌, neg_ℤ};
 ghost use Rattle.wide.specs.Value.{three};
 ghost use Rattle.root.specs.Floor.{square, plus_at, minus_at, at_most, root_floor, axis_of};
@@ -11,7 +12,7 @@ use wide::Three;
 mod guess;
 
 // A signed whole number: the part of the root that a floor adds or takes away.
-#[derive(Drop)]
+#[derive(Clone, Copy)]
 pub struct Axis {
     pub minus: bool,
     pub size: u64,
@@ -141,7 +142,7 @@ const STEP: u64 = 125_445_094_878;
 const OVER: u64 = 10_598_346;
 
 // A whole part, or one less, and the rest.
-#[derive(Drop)]
+#[derive(Clone, Copy)]
 struct Parted {
     whole: u64,
     rest: u64,

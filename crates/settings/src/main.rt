@@ -1,6 +1,7 @@
 // settings FILE fresh n s resolution eccentricity | change REVISION n s resolution eccentricity | back REVISION WANTED | read REVISION | list: keeps
 // the settings of the office, with their last 32 revisions, in a file (02 W-209). A new history is written beside the old one, brought to the disk and
 // then put in its place, so that a failure at any moment leaves the one or the other.
+#![tactic(auto)]
 ghost use Rattle.std.specs.Prelude.{◌≡◌, true, ◌≤◌, length};
 ghost use Rattle.encoding.specs.Encoding.{encoding_of};
 ghost use Rattle.console.specs.Beside.{beside_of};
@@ -13,7 +14,7 @@ use decimal::Whole;
 use history::{History, HistoryAnswer, Settings};
 
 // A change of a history, with the revision that it was made from; a fresh one has none.
-#[derive(Drop)]
+#[derive(Clone, Copy)]
 enum Change {
     Fresh(Settings),
     To { from: u64, settings: Settings },
@@ -21,7 +22,7 @@ enum Change {
 }
 
 // What is asked for.
-#[derive(Drop)]
+#[derive(Clone, Copy)]
 enum Asked {
     Changed(Change),
     Read(u64),
@@ -30,7 +31,7 @@ enum Asked {
 }
 
 // Four words as settings.
-#[derive(Drop)]
+#[derive(Clone, Copy)]
 enum SettingsGiven {
     Good(Settings),
     Wrong,

@@ -1,11 +1,12 @@
 // The shape of a cell.
+#![tactic(auto)]
 ghost use Rattle.std.specs.Prelude.{◌≡◌, ◌≤◌, ◌<◌};
 ghost use Rattle.cell.specs.Cell.{IsCell};
 ghost use Rattle.shape.specs.Shape.{shape_of, cap_shape, shape_number};
 
 use cell::Cell;
 
-#[derive(Drop)]
+#[derive(Clone, Copy)]
 pub enum Shape {
     Quad,
     Cap,

@@ -1,4 +1,5 @@
 // A partner's neighbour sheet (02, W-211): for each whole cell of a coverage text a record of five numbers.
+#![tactic(auto)]
 ghost use Rattle.std.specs.Prelude.{◌≡◌, true, ◌+◌, ◌≤◌, ◌<◌, leb, length, drop};
 ghost use Rattle.std.proofs.lemmas.List.Edits.{sets};
 ghost use Rattle.logic.specs.Refusal.{given};
@@ -18,7 +19,7 @@ use reader::Checked;
 use walk::Spot;
 
 // A whole cell's code, and its neighbours' codes in direction order.
-#[derive(Drop)]
+#[derive(Clone, Copy)]
 pub struct Record {
     pub code: u64,
     pub up: u64,
@@ -28,7 +29,7 @@ pub struct Record {
 }
 
 // What checking a sheet answers: yes; no, with the number of the first wrong record; or the text's refusal, with the place for 9.
-#[derive(Drop)]
+#[derive(Clone, Copy)]
 pub enum Judged {
     Right,
     Wrong(u64),
@@ -36,14 +37,14 @@ pub enum Judged {
 }
 
 // How many bytes were written; or the refusal, with the place for 9.
-#[derive(Drop)]
+#[derive(Clone, Copy)]
 pub enum Written {
     Length(u64),
     Refused { refusal: u64, place: u64 },
 }
 
 // The next whole cell and the place behind its letter or digit; or there is none.
-#[derive(Drop)]
+#[derive(Clone, Copy)]
 enum Next {
     Whole(Spot, usize),
     End,
@@ -51,7 +52,7 @@ enum Next {
 
 // Where a sheet stands that comes or goes in parts: how many records lie behind, where the walk over the text is behind their cells, and whether a
 // wrong record was met.
-#[derive(Drop)]
+#[derive(Clone, Copy)]
 pub struct Standing {
     pub spot: Spot,
     pub at: usize,

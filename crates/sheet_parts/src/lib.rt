@@ -1,4 +1,5 @@
 // What `coverage sheet` reads and prints: a neighbour sheet part by part, since the longest has more bytes than a program holds at once.
+#![tactic(auto)]
 ghost use Rattle.std.specs.Prelude.{◌≡◌, true, ◌*◌, ◌%◌, ◌≤◌, ◌<◌, length};
 ghost use Rattle.reading.specs.Ground.{whole_cells};
 ghost use Rattle.reading.specs.TextReading.{nodes_of, is_text, text_arrangement, body_start};
@@ -13,7 +14,7 @@ use reader::Checked;
 use sheet::Judged;
 
 // Where the bytes that wait end; and the refusal that is to be said, 0 for none, with its place.
-#[derive(Drop)]
+#[derive(Clone, Copy)]
 pub struct SheetPut {
     pub end: usize,
     pub refusal: u64,

@@ -1,4 +1,5 @@
 // A summary kept beside a text: for each cell of resolution 2, a district, the number of covered finest cells inside it.
+#![tactic(auto)]
 ghost use Rattle.std.specs.Prelude.{◌≡◌, true, ◌+◌, ◌≤◌};
 ghost use Rattle.cell.specs.Cell.{IsArrangement};
 ghost use Rattle.reading.specs.Ground.{whole_cells};
@@ -15,14 +16,14 @@ use walk::Spot;
 pub const DISTRICT_SIZE: u64 = 2_541_865_828_329;
 
 // The heading's n and s, which are kept with the counters; or the refusal, with the place for 9.
-#[derive(Drop)]
+#[derive(Clone, Copy)]
 pub enum Summarized {
     Kept { north: u64, south: u64 },
     Refused { refusal: u64, place: u64 },
 }
 
 // Whether a cell's finest cells are all covered, by the counters; or the refusal.
-#[derive(Drop)]
+#[derive(Clone, Copy)]
 pub enum Questioned {
     Answer(bool),
     Refused(u64),

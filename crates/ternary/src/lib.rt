@@ -1,6 +1,7 @@
 // Powers of three and of nine, and a row and a column woven to digits of base nine and taken from them again. To weave, five digits at a time are
 // looked up. To take apart, two digits at a time are looked up, and the row and the column stand in one number. A batch takes a table of three
 // digits once and lends it on (02, W-202).
+#![tactic(auto)]
 ghost use Rattle.std.specs.Prelude.{◌≡◌, ◌*◌, ◌/◌, ◌%◌, ◌^◌, ◌≤◌, ◌<◌};
 ghost use Rattle.ternary.specs.Threes.{Apart, Woven};
 ghost use Rattle.ternary.specs.Weave.{weave, row_in, column_in, both_in};
@@ -79,7 +80,7 @@ pub fn woven(row: u64, column: u64) -> u64
 }
 
 // A row and a column.
-#[derive(Drop)]
+#[derive(Clone, Copy)]
 pub struct Pair {
     pub row: u64,
     pub column: u64,

@@ -1,10 +1,11 @@
 // The walk over the body of a text that was accepted: the cell that each letter and digit stands for.
+#![tactic(auto)]
 ghost use Rattle.std.specs.Prelude.{◌≡◌, true, ◌+◌, ◌^◌, ◌≤◌, ◌<◌, length, drop};
 ghost use Rattle.walk.specs.Walk.{Fits, number_in, after, goes_on, whole_at};
 ghost use Rattle.walk.specs.Past.{open_past, shut_in, node_in};
 
 // Where the walk stands: a cell, by its resolution and by its face and digits read in base nine; and the number of the first of the cells beside it.
-#[derive(Drop)]
+#[derive(Clone, Copy)]
 pub struct Spot {
     pub resolution: u64,
     pub number: u64,

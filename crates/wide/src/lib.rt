@@ -1,16 +1,17 @@
 // Whole numbers of two and of three words of 64 bits, by value: the squares that decide a floor over a root stay below 2^168. And the upper word
 // of a product, for the one sum that is rounded (02 W-203).
+#![tactic(auto)]
 ghost use Rattle.std.specs.Prelude.{◌≡◌, ◌+◌, ◌*◌, ◌^◌, ◌≤◌, leb};
 ghost use Rattle.wide.specs.High.{high_word};
 ghost use Rattle.wide.specs.Value.{two, three};
 
-#[derive(Drop)]
+#[derive(Clone, Copy)]
 pub struct Two {
     pub high: u64,
     pub low: u64,
 }
 
-#[derive(Drop)]
+#[derive(Clone, Copy)]
 pub struct Three {
     pub high: u64,
     pub middle: u64,

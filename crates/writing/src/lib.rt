@@ -1,4 +1,5 @@
 // The accepted text of a list of cells.
+#![tactic(auto)]
 ghost use Rattle.std.specs.Prelude.{◌≡◌, true, not, map, ◌+◌, ◌-◌, ◌*◌, ◌^◌, ◌≤◌, ◌<◌, length, set};
 ghost use Rattle.std.proofs.lemmas.List.Edits.{sets};
 ghost use Rattle.writing.specs.Internal.Measure.{cell_start, StartAtPlace, NodeMeasured, ListMeasured};
@@ -17,14 +18,14 @@ use cell::Arrangement;
 use reading::Profile;
 
 // The length of a text that was written, or the number of the refusal.
-#[derive(Drop)]
+#[derive(Clone, Copy)]
 pub enum Written {
     Length(u64),
     Refused(u64),
 }
 
 // What was measured: the place of the next code, the bytes that the nodes make, how many of them are whole, and the least depth of version 2 that they keep to.
-#[derive(Drop)]
+#[derive(Clone, Copy)]
 struct Measure {
     next: usize,
     bytes: u64,
@@ -199,7 +200,7 @@ fn put(text: &mut [u8], place: usize, byte: u8)
 }
 
 // Where writing ends: the place of the next code, and the place of the next byte.
-#[derive(Drop)]
+#[derive(Clone, Copy)]
 struct WrittenTo {
     next: usize,
     place: usize,
@@ -312,7 +313,7 @@ fn list_refusal(arrangement: Arrangement, codes: &[u64]) -> u64
 }
 
 // The length of the text of a list, and the least depth of version 2 that its nodes keep to.
-#[derive(Drop)]
+#[derive(Clone, Copy)]
 struct Extent {
     length: u64,
     depth: u64,

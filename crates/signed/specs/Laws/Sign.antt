@@ -17,7 +17,7 @@ back f = to_z-of_z f
 
 -- of a call's result, whose bound the call gives as `.ok`
 pub back-result : (x : ℤ) → mag x < 2 ^ 63 → to_z w64 (of_z w64 x) ≡ x
-back-result x h = to_z-of_z (record { sfits = h })
+back-result x h = to_z-of_z {w = w64} (record { sfits = h })
 
 -- and where the call says what it is
 pub back_as : {x z : ℤ} → mag x < 2 ^ 63 → x ≡ z → to_z w64 (of_z w64 x) ≡ z
