@@ -38,7 +38,7 @@ returns c =
     let t = is-cell a p.allowed in
     ap At
     (λ i. record {
-      face = p.face-1 i;
+      face = p.face i;
       resolution = p.resolution i;
       row = (c.unwoven-place.ensures.0 ∙ ap (row_in 16) p.path ∙ row-sixteen (a / 16) t) i;
       column = (c.unwoven-place.ensures.1 ∙ ap (column_in 16) p.path ∙ column-sixteen (a / 16) t) i;

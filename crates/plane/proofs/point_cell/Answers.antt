@@ -17,7 +17,7 @@ use Rattle.plane.specs.Plane.{in_image, point_cell, point_refusal}
 use Rattle.plane.specs.Internal.Depth.{depth_below, found_at}
 use Rattle.plane.specs.Internal.ImageLaws.{image-west, refusal_is, found-is}
 use Rattle.plane.proofs.point_cell.Goals as goal
-use Rattle.plane.proofs.point_cell.Goals.{Else-refusal-ne0}
+use Rattle.plane.proofs.point_cell.Goals.{After-is_negative, Else-refusal-ne0}
 
 -- a good arrangement and resolution leave the image to decide
 decides : {a : Arrangement} {k : ℕ} (x y : ℤ) → IsArrangement a → k ≤ 15 → found (refuse (not (in_image a x y)) 7) (point_cell a k x y) ≡ found (point_refusal a k x y) (point_cell a k x y)
@@ -36,6 +36,9 @@ east a k (negsuc n) y e = absurd (true≢false e)
 arranged : (c : Else-refusal-ne0) → IsArrangement c.args.arrangement
 arranged c = is-arrangement (sym c.refusal-refusal.ensures ∙ c.if-refusal-ne0.false)
 
+sign-is : (c : After-is_negative) → c.is_negative.result ≡ negative c.args.x
+sign-is c = c.is_negative.ensures ∙ ap negative (back c.ranges.x)
+
 pub returns-then-refusal-ne0 : goal.returns-then-refusal-ne0
 unfolding point_refusal
 returns-then-refusal-ne0 c = refused _ _ c.refusal-refusal.ensures c.if-refusal-ne0.true
@@ -48,7 +51,7 @@ pub returns-then-is_negative : goal.returns-then-is_negative
 returns-then-is_negative c =
     let e = c in
     let s = e in
-    west s.args.arrangement s.args.resolution s.args.x s.args.y (sym (sign-is c) ∙ c.if-is_negative.true) ∙ decides s.args.x s.args.y (arranged (goal.at.returns-then-is_negative c).Else-refusal-ne0) (omega arith)
+    west s.args.arrangement s.args.resolution s.args.x s.args.y (sym (sign-is (goal.at.returns-then-is_negative c).After-is_negative) ∙ c.if-is_negative.true) ∙ decides s.args.x s.args.y (arranged (goal.at.returns-then-is_negative c).Else-refusal-ne0) (omega arith)
 
 pub cell_at_depth-requires : goal.cell_at_depth-requires
 cell_at_depth-requires c = let e = c in record { arrangement = arranged (goal.at.cell_at_depth-requires c).Else-refusal-ne0; resolution_bound = omega arith }
@@ -61,5 +64,5 @@ returns c =
     c.cell_at_depth.ensures
     ∙ ap₂ (found_at s.args.arrangement s.args.resolution) (c.magnitude.ensures ∙ ap nat_abs (back s.ranges.x))
     (c.depth_below.ensures ∙ ap depth_below (back s.ranges.y))
-    ∙ east s.args.arrangement s.args.resolution s.args.x s.args.y (sym (sign-is f) ∙ f.if-is_negative.false)
+    ∙ east s.args.arrangement s.args.resolution s.args.x s.args.y (sym (sign-is (goal.at.returns c).After-is_negative) ∙ f.if-is_negative.false)
     ∙ decides s.args.x s.args.y (arranged (goal.at.returns c).Else-refusal-ne0) (omega arith)
