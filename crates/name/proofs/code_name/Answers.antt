@@ -15,15 +15,13 @@ use Rattle.name.proofs.code_name.Goals as goal
 pub returns-in_default : goal.returns-in_default
 returns-in_default c =
     let n = c in
-    let a = n.args in
-    nothing_written 3 _ _ a.name.now (refused-4 a.code (length a.name.now) (unparted a.code n.parts_of.ensures c.in_default.is))
+    let a = n.args in let r = nothing_written 3 _ _ a.name.now (refused-4 a.code (length a.name.now) (unparted a.code n.parts_of.ensures c.in_default.is)) in record { value = r.0; name_after = r.1 }
 
 pub returns-then-name-count : goal.returns-then-name-count
 returns-then-name-count c =
     let n = c in
     let a = n.args in
-    let p = parted a.code n.parts_of.ensures c.in-Parts.is in
-    nothing_written 7 _ _ a.name.now (refused-8 a.code (length a.name.now) p.allowed (omega (arith, p.resolution, c.if-name-count.true)))
+    let p = parted a.code n.parts_of.ensures c.in-Parts.is in let r = nothing_written 7 _ _ a.name.now (refused-8 a.code (length a.name.now) p.allowed (omega (arith, p.resolution, c.if-name-count.true))) in record { value = r.0; name_after = r.1 }
 
 pub put_name-requires : goal.put_name-requires
 put_name-requires c =
@@ -43,5 +41,4 @@ returns c =
     let room = not-refused a.code (length a.name.now) p.allowed (omega (arith, p.resolution, w.if-name-count.false)) in
     let written = w.put_name.ensures
     ∙ ap₂ (λ (x y : ℕ). (78 + x) ∷ (digit_bytes (digits 9 f.in-Parts.resolution y) ++ drop (f.in-Parts.resolution + 1) a.name.now)) p.face p.path
-    ∙ ap (λ (x : ℕ). (78 + (cell_of a.code).face) ∷ (digit_bytes (digits 9 x (path_in (a.code / 16))) ++ drop (x + 1) a.name.now)) p.resolution in
-    name-written a.name.now room (omega (arith, p.resolution)) (written ∙ ap₂ (λ (l : List ℕ) (x : ℕ). l ++ drop x a.name.now) (sym (code-name-is a.code)) (sym l))
+    ∙ ap (λ (x : ℕ). (78 + (cell_of a.code).face) ∷ (digit_bytes (digits 9 x (path_in (a.code / 16))) ++ drop (x + 1) a.name.now)) p.resolution in let r = name-written a.name.now room (omega (arith, p.resolution)) (written ∙ ap₂ (λ (l : List ℕ) (x : ℕ). l ++ drop x a.name.now) (sym (code-name-is a.code)) (sym l)) in record { value = r.0; name_after = r.1 }

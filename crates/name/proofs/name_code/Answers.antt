@@ -4,7 +4,7 @@ use mathlib.Core.Bool.{true}
 use Prim.Native.Nat.{ℕ, ◌-◌}
 use native.Mathlib.Omega.{arith}
 use lib.ListN.{length, drop}
-use borrow.Author.Tests.{not-true, not-false, lt-ltb, le-ltb}
+use borrow.Author.Tests.{lt-ltb, le-ltb}
 use Rattle.logic.specs.Refusal.{◌otherwise◌}
 use Rattle.ternary.specs.Digits.{value}
 use Rattle.code.specs.declared.Coded.TheVariants.{Code}
@@ -13,22 +13,22 @@ use Rattle.name.specs.Name.{first_letter, all_digits, digits_in, name_refusal, n
 use Rattle.name.specs.Laws.Name.{letter-bounds, path-below, not-refused}
 use Rattle.name.proofs.Laws.{read-bad, read-good}
 use Rattle.name.proofs.name_code.Goals as goal
-use Rattle.name.proofs.name_code.Goals.{Else-not-first_letter, In-Code-2}
+use Rattle.name.proofs.name_code.Goals.{Else-not-first_letter, In-Code}
 
 -- a short name that starts with a letter
 lettered : (c : Else-not-first_letter) → first_letter c.args.name.now ≡ true
-lettered c = sym c.first_letter.ensures ∙ not-false _ c.if-not-first_letter.false
+lettered c = sym c.first_letter.ensures ∙ c.if-not-first_letter.false
 
 -- with all its digits read
-read-in : (c : In-Code-2) → let s = c.args.name.now in (all_digits (drop 1 s) ≡ true) ×
+read-in : (c : In-Code) → let s = c.args.name.now in (all_digits (drop 1 s) ≡ true) ×
     (c.in-Code.path ≡ value 9 (digits_in s))
 read-in c = read-good _ _ _ (sym c.in-Code.is ∙ c.read_path.ensures)
 
 -- the name is one
-named : (c : In-Code-2) → NameForm c.args.name.now
+named : (c : In-Code) → NameForm c.args.name.now
 named c =
     let e = c in
-    record { short = e.if-name-gt16.false; lettered = lettered c.before.before.before; digital = (read-in c).0 }
+    record { short = e.if-name-gt16.false; lettered = lettered (goal.at.In-Code c).Else-not-first_letter; digital = (read-in c).0 }
 
 pub returns-then-name-gt16 : goal.returns-then-name-gt16
 unfolding name_refusal ◌otherwise◌ coded
@@ -36,7 +36,7 @@ returns-then-name-gt16 c = simp (lt-ltb _ _ c.if-name-gt16.true)
 
 pub returns-then-not-first_letter : goal.returns-then-not-first_letter
 unfolding name_refusal ◌otherwise◌ coded
-returns-then-not-first_letter c = simp (le-ltb _ _ c.if-name-gt16.false, sym c.first_letter.ensures ∙ not-true _ c.if-not-first_letter.true)
+returns-then-not-first_letter c = simp (le-ltb _ _ c.if-name-gt16.false, sym c.first_letter.ensures ∙ c.if-not-first_letter.true)
 
 pub read_path-requires : goal.read_path-requires
 read_path-requires c = let l = letter-bounds _ (lettered (goal.at.read_path-requires c).Else-not-first_letter) in (l.0, omega arith)
@@ -64,7 +64,7 @@ code_at-requires c =
     let p = c in
     let l = letter-bounds _ (lettered (goal.at.code_at-requires c).Else-not-first_letter) in
     let s = p in
-    record { arrangement = s.requires; face_bound = (omega (arith, c.wide-face.ensures), omega (arith, (named (goal.at.code_at-requires c).In-Code-2).short), rw (read-in (goal.at.code_at-requires c).In-Code-2).1 (path-below _ (named (goal.at.code_at-requires c).In-Code-2))) }
+    record { arrangement = s.requires; face_bound = (omega (arith, c.wide-face.ensures), omega (arith, (named (goal.at.code_at-requires c).In-Code).short), rw (read-in (goal.at.code_at-requires c).In-Code).1 (path-below _ (named (goal.at.code_at-requires c).In-Code))) }
 
 pub returns : goal.returns
 unfolding coded name_code
@@ -72,5 +72,5 @@ returns c =
     let p = c in
     let a = p.args in
     let s = a.name.now in
-    let code = c.code_at.ensures ∙ ap₂ (λ (x y : ℕ). code_at a.arrangement x (length s - 1) y) c.wide-face.ensures (read-in (goal.at.returns c).In-Code-2).1 in
-    ap Code code ∙ sym (ap (λ (x : ℕ). coded x (name_code a.arrangement s)) (not-refused s (named (goal.at.returns c).In-Code-2)))
+    let code = c.code_at.ensures ∙ ap₂ (λ (x y : ℕ). code_at a.arrangement x (length s - 1) y) c.wide-face.ensures (read-in (goal.at.returns c).In-Code).1 in
+    ap Code code ∙ sym (ap (λ (x : ℕ). coded x (name_code a.arrangement s)) (not-refused s (named (goal.at.returns c).In-Code)))
