@@ -9,8 +9,8 @@ use Rattle.place.proofs.may_open.Goals as goal
 
 pub returns-then-not-named : goal.returns-then-not-named
 unfolding may_open
-returns-then-not-named c = rw (not-true c.args.named c.if-not-named.true)
+returns-then-not-named c = rw (not-true c.args.named c.if-not-named.true-raw)
 
 pub returns : goal.returns
 unfolding may_open
-returns c = rw (not-false c.args.named c.if-not-named.false) (ap (λ (x : ℕ). not (eqb x 0)) c.under.ensures)
+returns c = rw (not-false c.args.named c.if-not-named.false-raw) (ap (λ (x : ℕ). not (eqb x 0)) c.under.ensures)

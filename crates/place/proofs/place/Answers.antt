@@ -17,17 +17,17 @@ opened :
     let v = c.scan in
     let a = c.args in
     may_open a.level a.depth v.k (get_or v.lo v.k 0) v.named ≡ true
-opened c = sym c.may_open.ensures ∙ not-false c.may_open.result c.if-not-may_open.false
+opened c = sym c.may_open.ensures ∙ not-false c.may_open.result c.if-not-may_open.false-raw
 
 shut : (c : Else-not-may_shut ) → let v = c.scan in may_shut v.k (get_or v.lo v.k 0) (get_or v.whole v.k 0) ≡ true
-shut c = sym c.may_shut.ensures ∙ not-false c.may_shut.result c.if-not-may_shut.false
+shut c = sym c.may_shut.ensures ∙ not-false c.may_shut.result c.if-not-may_shut.false-raw
 
 stood :
     (c : Else-not-may_stand ) →
     let v = c.scan in
     let a = c.args in
     may_stand a.level a.depth v.k (get_or v.lo v.k 0) (get_or v.whole v.k 0) (get_or a.text.now v.i 0) ≡ true
-stood c = sym c.may_stand.ensures ∙ not-false c.may_stand.result c.if-not-may_stand.false
+stood c = sym c.may_stand.ensures ∙ not-false c.may_stand.result c.if-not-may_stand.false-raw
 
 pub overflow_sub-whole : goal.overflow_sub-whole
 overflow_sub-whole c = c.scan.invariant.one (open-named _ _ _ _ _ (opened (goal.at.overflow_sub-whole c).Else-not-may_open))
@@ -61,14 +61,14 @@ returns-then-i-text c = at-end c.scan.invariant c.if-i-text.true
 pub returns-then-not-may_open : goal.returns-then-not-may_open
 returns-then-not-may_open c =
     stop-open c.scan.invariant (omega arith) c.if-b-eq40.true
-    (sym c.may_open.ensures ∙ not-true c.may_open.result c.if-not-may_open.true)
+    (sym c.may_open.ensures ∙ not-true c.may_open.result c.if-not-may_open.true-raw)
 
 pub returns-then-not-may_shut : goal.returns-then-not-may_shut
 returns-then-not-may_shut c =
     stop-shut c.scan.invariant (omega arith) c.if-b-eq41.true
-    (sym c.may_shut.ensures ∙ not-true c.may_shut.result c.if-not-may_shut.true)
+    (sym c.may_shut.ensures ∙ not-true c.may_shut.result c.if-not-may_shut.true-raw)
 
 pub returns-then-not-may_stand : goal.returns-then-not-may_stand
 returns-then-not-may_stand c =
     stop-stand c.scan.invariant (omega arith) c.if-b-eq40.false c.if-b-eq41.false
-    (sym c.may_stand.ensures ∙ not-true c.may_stand.result c.if-not-may_stand.true)
+    (sym c.may_stand.ensures ∙ not-true c.may_stand.result c.if-not-may_stand.true-raw)
