@@ -1,6 +1,5 @@
 -- Assumes nothing.
 use native.Mathlib.Omega.{arith}
-use borrow.Author.Tests.{not-true}
 use mathlib.Core.Path.{sym, ◌∙◌}
 use Prim.Native.Nat.{◌-◌}
 use Rattle.loose.specs.Internal.Stop.{tied_on, tied-stop, tied-end, open-on, open-unnamed, open-deep, shut-on, shut_none, name-on, name-not}
@@ -28,7 +27,7 @@ pub returns-then-i-text : goal.returns-then-i-text
 returns-then-i-text c = tied-end c.scan.invariant c.if-i-text.true
 
 pub returns-then-not-named : goal.returns-then-not-named
-returns-then-not-named c = tied-stop c.scan.invariant c.if-i-text.false (open-unnamed _ _ _ c.if-b-eq40.true (not-true _ c.if-not-named.true))
+returns-then-not-named c = tied-stop c.scan.invariant c.if-i-text.false (open-unnamed _ _ _ c.if-b-eq40.true (c.if-not-named.true))
 
 pub returns-then-lists-ge15 : goal.returns-then-lists-ge15
 returns-then-lists-ge15 c =
@@ -44,4 +43,4 @@ pub returns-then-not-is_name : goal.returns-then-not-is_name
 returns-then-not-is_name c =
     let a = c in
     tied-stop a.scan.invariant a.if-i-text.false
-    (name-not _ _ _ c.if-b-eq40.false c.if-b-eq41.false (sym c.is_name.ensures ∙ not-true _ c.if-not-is_name.true))
+    (name-not _ _ _ c.if-b-eq40.false c.if-b-eq41.false (sym c.is_name.ensures ∙ c.if-not-is_name.true))
