@@ -11,7 +11,7 @@ use lib.ListN.{length, length-map, length-drop}
 use borrow.Author.Tests.{lt-leb, le-leb, leb-true, eq-eqb, ne_eqb}
 use Rattle.logic.specs.Laws.Bools.{and_left, and_right, clash}
 use Rattle.ternary.specs.Digits.{value, Below}
-use Rattle.ternary.specs.Laws.Digits.{value-below}
+use Rattle.ternary.proofs.Laws.Digits.{value-below}
 use Rattle.decimal.specs.Decimal.{is_decimal, all_decimal, decimal_value, whole_in, ahead, behind}
 use Rattle.decimal.specs.Fraction.{as_fraction, whole_fraction, with_places, point_fraction, fraction_in}
 use Rattle.decimal.specs.declared.Whole.{Whole}

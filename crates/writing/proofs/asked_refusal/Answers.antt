@@ -1,9 +1,9 @@
 -- `writing::asked_refusal` meets its contract: the refusals in their order. Assumes nothing.
 use mathlib.Core.Path.{◌≡◌, sym, ◌∙◌}
 use Rattle.cell.specs.Cell.{arrangement_refusal}
-use Rattle.cell.specs.Laws.Cell.{is-arrangement}
+use Rattle.cell.proofs.Laws.Cell.{is-arrangement}
 use Rattle.writing.specs.Write.{codes_refusal}
-use Rattle.writing.specs.Internal.AskedLaws.{asked-five, asked-two, asked-four, asked-ten, asked-list}
+use Rattle.writing.proofs.Internal.AskedLaws.{asked-five, asked-two, asked-four, asked-ten, asked-list}
 use native.Mathlib.Omega.{arith}
 use Rattle.writing.proofs.asked_refusal.Goals as goal
 use Rattle.writing.proofs.asked_refusal.Goals.{Else-refused-eq4, Else-wrong-ne0}

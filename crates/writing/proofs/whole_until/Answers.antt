@@ -2,7 +2,7 @@
 use native.Mathlib.Omega.{arith}
 use mathlib.Core.Path.{sym, ◌∙◌}
 use Prim.Native.Nat.{◌-◌}
-use Rattle.code.specs.Laws.Inside.{size_small}
+use Rattle.code.proofs.Laws.Inside.{size_small}
 use Rattle.writing.specs.Internal.Measure.{next_cell}
 use Rattle.writing.specs.Internal.MeasureLaws.{code-at}
 use Rattle.writing.proofs.WholeSteps as ws
