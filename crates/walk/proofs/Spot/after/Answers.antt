@@ -4,7 +4,7 @@ use mathlib.Core.Bool.{true}
 use Prim.Native.Nat.{ℕ, ◌+◌, ◌*◌, ◌/◌, ◌^◌, ◌≤◌, ◌<◌}
 use native.Mathlib.Omega.{arith}
 use borrow.Author.Tests.{eq-eqb, ne_eqb}
-use Rattle.ternary.proofs.Laws.Powers.{nine-le}
+use Rattle.ternary.specs.Laws.Powers.{nine-le}
 use Rattle.walk.specs.declared.Spot.{Spot}
 use Rattle.walk.specs.Walk.{spot, Fits, number_in, after}
 use Rattle.walk.proofs.Spot.after.Goals as goal
