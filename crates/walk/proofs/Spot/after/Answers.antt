@@ -3,10 +3,10 @@ use mathlib.Core.Path.{◌≡◌, refl}
 use mathlib.Core.Bool.{true}
 use Prim.Native.Nat.{ℕ, ◌+◌, ◌*◌, ◌/◌, ◌^◌, ◌≤◌, ◌<◌}
 use native.Mathlib.Omega.{arith}
-use borrow.Author.Tests.{eq-eqb, ne_eqb}
-use Rattle.ternary.specs.Laws.Powers.{nine-le}
+use borrow.Author.Tests.{eq-eqb, ne_eqb, ltb-true}
+use Rattle.ternary.proofs.Laws.Powers.{nine-le}
 use Rattle.walk.specs.declared.Spot.{Spot}
-use Rattle.walk.specs.Walk.{spot, Fits, number_in, after}
+use Rattle.walk.specs.Walk.{spot, Fits, number_in, after, goes_on}
 use Rattle.walk.proofs.Spot.after.Goals as goal
 use Rattle.walk.proofs.Spot.after.Goals.{After-number_in}
 
@@ -14,6 +14,16 @@ small : (s : Spot) → Fits s → s.number < 1853020188851841
 small s f =
     let g : 9 ^ (s.resolution + 1) ≤ 9 ^ 16 = nine-le {i = s.resolution + 1} {j = 16} (omega (arith, f.fine)) in
     omega (arith, f.small)
+
+-- what is allowed at each byte
+module _ (s : Spot) (b : ℕ) where
+  at-shut : b ≡ 41 → goes_on s b ≡ true → 0 < s.resolution
+  unfolding goes_on
+  at-shut e g = ltb-true 0 s.resolution (rw e at g)
+
+  at_name : (b ≡ 40 → ⊥) → (b ≡ 41 → ⊥) → goes_on s b ≡ true → number_in b < 9
+  unfolding goes_on
+  at_name e f g = ltb-true (number_in b) 9 (rw (ne_eqb b 40 e, ne_eqb b 41 f) at g)
 
 -- the first cell beside it has that number
 stands : (k n f m : ℕ) → n ≡ m → f ≡ m / 9 * 9 → ◌≡◌ {A = Spot} (record { resolution = k; number = n; first = f }) (spot k m)
