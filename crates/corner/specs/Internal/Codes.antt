@@ -15,12 +15,7 @@ use Rattle.logic.specs.Rise.{Rise}
 use Rattle.cell.specs.declared.Cell.{Cell}
 use Rattle.cell.specs.declared.Arrangement.{Arrangement}
 use Rattle.cell.specs.Cell.{IsCell, IsArrangement}
-<<<<<<< HEAD
-use Rattle.cell.specs.Neighbour.{rows}
 use Rattle.cell.proofs.Laws.Turns.{four-cases}
-=======
-use Rattle.cell.proofs.Laws.Turns.{four-cases}
->>>>>>> 2a64aa6a1bb2711f90cdf5e03003c6600c6bf94a
 use Rattle.code.specs.Code.{code_of}
 use Rattle.code.proofs.Laws.Code.{code_one}
 use Rattle.track.specs.Track.{inserted}

@@ -14,15 +14,9 @@ use Rattle.plotter.specs.declared.Frame.{Frame}
 use Rattle.plotter.specs.declared.Framed.{Framed}
 use Rattle.plotter.specs.declared.Framed.TheVariants.{Edges, Refused}
 use Rattle.plotter.specs.declared.Around.TheVariants as around-as
-<<<<<<< HEAD:crates/plotter/proofs/Laws/Around.antt
-use Rattle.plotter.specs.Plotter.{box_in, box_of, box_refusal, framed, first_frame, grown, grow_refusal, grown_frame, has_nan, frame_over, grown_by, as_around, no_cells, frame_around}
-use Rattle.plotter.proofs.Laws.Frame.{grown-numbers}
-use Rattle.plotter.proofs.Laws.Box.{code-box}
-=======
 use Rattle.plotter.specs.Plotter.{box_in, box_refusal, framed, first_frame, grown, grow_refusal, grown_frame, has_nan, frame_over, grown_by, as_around, no_cells, frame_around}
 use Rattle.plotter.proofs.Laws.Frame.{grown-numbers}
 use Rattle.plotter.proofs.Laws.Box.{code-box}
->>>>>>> 2a64aa6a1bb2711f90cdf5e03003c6600c6bf94a:crates/plotter/proofs/Laws/Around.antt
 
 module _ (side : Float) (e : is_side side ≡ true) where
   side-taken : side_refusal side ≡ 0

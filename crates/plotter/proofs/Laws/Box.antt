@@ -8,18 +8,6 @@ use Rattle.logic.specs.Lists.{All}
 use Rattle.cell.specs.declared.Cell.{Cell}
 use Rattle.cell.specs.declared.Arrangement.{Arrangement}
 use Rattle.cell.specs.Cell.{IsCell, IsArrangement}
-<<<<<<< HEAD:crates/plotter/proofs/Laws/Box.antt
-use Rattle.code.specs.Code.{cell_of, arrangement_of, is_code, code_refusal}
-use Rattle.code.proofs.Laws.Code.{a-code, code-is-cell, code-arranged}
-use Rattle.plane.proofs.Laws.Small.{left-within, right-within, top_within, bottom-within}
-use Rattle.metres.specs.Metres.{is_side, side_refusal, metres_of}
-use Rattle.metres.proofs.Laws.Metres.{metres-near}
-use Rattle.plotter.specs.declared.Frame.{Frame}
-use Rattle.plotter.specs.declared.Framed.{Framed}
-use Rattle.plotter.specs.declared.Framed.TheVariants.{Edges, Refused}
-use Rattle.plotter.specs.Plotter.{box_of, box_in, box_refusal, framed, first_frame, grown, grow_refusal, grown_frame, has_nan, frame_over, Holds, EdgesOf}
-use Rattle.plotter.proofs.Laws.Frame.{grown-numbers, over-own, over-each, over-edges}
-=======
 use Rattle.code.specs.Code.{cell_of, arrangement_of, is_code}
 use Rattle.code.proofs.Laws.Code.{code-is-cell, code-arranged}
 use Rattle.plane.proofs.Laws.Small.{left-within, right-within, top_within, bottom-within}
@@ -28,7 +16,6 @@ use Rattle.metres.proofs.Laws.Metres.{metres-near}
 use Rattle.plotter.specs.declared.Frame.{Frame}
 use Rattle.plotter.specs.Plotter.{box_of, box_in, has_nan, frame_over, Holds, EdgesOf}
 use Rattle.plotter.proofs.Laws.Frame.{over-own, over-each, over-edges}
->>>>>>> 2a64aa6a1bb2711f90cdf5e03003c6600c6bf94a:crates/plotter/proofs/Laws/Box.antt
 
 finite : (r : Float) (s : Bool) (a c : ℕ) → HasValue r s a c → is_nan r ≡ false
 unfolding is_nan
