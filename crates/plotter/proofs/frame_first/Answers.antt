@@ -6,7 +6,7 @@ use Rattle.code.specs.Code.{cell_of, code_refusal}
 use Rattle.code.proofs.Laws.Code.{code-arranged}
 use Rattle.code.proofs.Laws.Decoded.{decoded}
 use Rattle.plotter.specs.Plotter.{box_of, box_in, box_refusal, first_frame}
-use Rattle.plotter.proofs.Laws.{side-refused, side-passes, framed-edges, framed-refused, nineteen}
+use Rattle.plotter.proofs.Facts.{side-refused, side-passes, framed-edges, framed-refused, nineteen}
 use Rattle.plotter.proofs.frame_first.Goals as goal
 
 pub returns-then-not-is_side : goal.returns-then-not-is_side

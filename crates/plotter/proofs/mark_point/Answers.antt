@@ -12,7 +12,7 @@ use Rattle.signed.specs.Laws.Sign.{back}
 use Rattle.metres.specs.Metres.{metres_of}
 use Rattle.plotter.specs.declared.Mark.TheVariants.{Point}
 use Rattle.plotter.specs.Plotter.{point_mark, mark_of_point}
-use Rattle.plotter.proofs.Laws.{read_small, side-refused, side-passes, marked, marked-nothing, nineteen, point-within}
+use Rattle.plotter.proofs.Facts.{read_small, side-refused, side-passes, marked, marked-nothing, nineteen, point-within}
 use Rattle.plotter.proofs.mark_point.Goals as goal
 use Rattle.plotter.proofs.mark_point.Goals.{After-point_cell}
 
