@@ -3,6 +3,7 @@ use mathlib.Core.Path.{◌≡◌, sym, subst, ◌∙◌}
 use mathlib.Core.Bool.{true}
 use Rattle.cell.specs.Cell.{IsArrangement}
 use Rattle.code.specs.Code.{is_code}
+use Rattle.code.proofs.Laws.Code.{code-passes, code-stops, of-arrangement}
 use Rattle.reading.proofs.Laws.TextReading.{text-arranged}
 use Rattle.reader.specs.Laws.Answer.{TextChecked, checked-arrangement, text-checked, text-refused}
 use Rattle.asking.proofs.Answers.{no_code, not-read, another, answered}
@@ -16,8 +17,8 @@ a-code c = sym c.is_code.ensures ∙ c.if-not-is_code.false
 -- the text was read
 read-in :
     (c : In-Text) →
-    let t = c.args.text.now in let g = c.north-1.given.0 in
-    TextChecked t g.0 g.1.0 g.1.1.0 g.1.1.1.0 g.1.1.1.1.0 g.1.1.1.1.1.0
+    let t = c.args.text.now in 
+    TextChecked t c.in-Text.profile c.in-Text.north c.in-Text.south c.in-Text.cells c.in-Text.size c.in-Text.body
 read-in c = text-checked _ (sym c.in-Text.is ∙ c.check.ensures)
 
 pub returns-then-not-is_code : goal.returns-then-not-is_code

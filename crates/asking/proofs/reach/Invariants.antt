@@ -1,10 +1,18 @@
 -- `asking::reach` meets its contract: the nodes from here on decide. Assumes nothing.
-use Prim.Native.Nat.{◌-◌, ◌^◌}
+use Prim.Native.Nat.{ℕ, ◌-◌, ◌^◌}
 use lib.ListN.{length}
 use Rattle.reading.specs.TextReading.{nodes_of}
 use Rattle.asking.specs.Internal.AskNodes.{any_in}
 use Rattle.asking.proofs.Laws.{Asks, above_in}
+use Rattle.code.specs.Code.{cell_of}
+use Rattle.code.specs.Inside.{start_of, end_of}
 use Rattle.asking.proofs.reach.Given as goal
+
+abbrev from : ℕ → ℕ
+from code = start_of (cell_of code)
+
+abbrev to : ℕ → ℕ
+to code = end_of (cell_of code)
 
 abbrev pub invariant-loop-i : goal.invariant-loop-i
 invariant-loop-i l = Asks l.text (from l.code) (to l.code) (any_in (from l.code) (to l.code) 0 (9 ^ 15) (nodes_of l.text)) (above_in l.text (from l.code) (to l.code)) l.base l.before l.size l.i
