@@ -1,0 +1,28 @@
+-- The proof of the cycle of calls {put_list, put_node}. The measures are twice the size, and one more for the list. What each hands back, and how far the
+-- list has come, is said by the laws of PutSteps. Assumes nothing.
+use native.Mathlib.Omega.{arith}
+use Prim.Native.Nat.{◌-◌}
+use mathlib.Core.Logic.{⊎_elim}
+use Rattle.writing.proofs.MeasureSteps as ms
+use Rattle.writing.proofs.PutSteps as ps
+use Rattle.writing.proofs.+put_list_put_node.Goals as goal
+
+pub put_list-loop-more-preserved : goal.put_list-loop-more-preserved
+put_list-loop-more-preserved t c =
+    let v = c.loop-more.invariant in
+    ⊎_elim (λ x. ps.put_in v (λ e. omega arith) x.0.taken x.2.ensures (omega (arith, x.3.given)) x.5.ensures x.6 x.7 x.8 x.9)
+    (λ x. ps.put-out v (λ e. omega arith) (λ l. omega (arith, x.0.left)) x.1 x.2 x.3 x.4)
+    c.if-first-end.branch
+
+pub put_list-returns : goal.put_list-returns
+put_list-returns t c = ps.put-ends c.loop-more.invariant (omega arith)
+
+pub put_node-returns-then-next-at : goal.put_node-returns-then-next-at
+put_node-returns-then-next-at t c = ps.whole-put (omega arith) c.whole_until-next.ensures c.if-next-at.true c.put.ensures
+
+pub put_node-returns : goal.put_node-returns
+put_node-returns t c =
+    let l = c in
+    let w = l in
+    ps.held-put w.requires.1 w.whole_until-next.ensures l.if-next-at.false
+    w.put.ensures l.put-2.ensures l.put_list-list.ensures c.put-3.ensures
