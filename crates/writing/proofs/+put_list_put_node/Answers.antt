@@ -6,13 +6,16 @@ use mathlib.Core.Logic.{⊎_elim}
 use Rattle.writing.proofs.MeasureSteps as ms
 use Rattle.writing.proofs.PutSteps as ps
 use Rattle.writing.proofs.+put_list_put_node.Goals as goal
+use Rattle.writing.proofs.+put_list_put_node.Goals.{put_list-then-first-end, put_list-else-first-end}
 
 pub put_list-loop-more-preserved : goal.put_list-loop-more-preserved
 put_list-loop-more-preserved t c =
     let v = c.loop-more.invariant in
-    ⊎_elim (λ x. ps.put_in v (λ e. omega arith) x.0.taken x.2.ensures (omega (arith, x.3.given)) x.5.ensures x.6 x.7 x.8 x.9)
-    (λ x. ps.put-out v (λ e. omega arith) (λ l. omega (arith, x.0.left)) x.1 x.2 x.3 x.4)
-    c.if-first-end.branch
+    elim c.if-first-end.branch [
+      put_list-then-first-end w ↦ ps.put_in v (λ e. omega arith) w.if-first-end.true w.put_node-node.ensures (omega (arith, w.put_node-node.auto.text))
+        w.start_at-first-then-first-end.ensures w.text-is w.next-is w.first-is w.ends-is
+    | put_list-else-first-end w ↦ ps.put-out v (λ e. omega arith) (λ l. omega (arith, w.if-first-end.false)) w.text-is w.next-is w.first-is w.ends-is
+    ]
 
 pub put_list-returns : goal.put_list-returns
 put_list-returns t c = ps.put-ends c.loop-more.invariant (omega arith)

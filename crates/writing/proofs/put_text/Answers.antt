@@ -20,7 +20,7 @@ returns c =
     let a = s.args in
     let w =
     (rw c.heading_length-body.ensures at
-    (c.put_list-end.ensures.is Faces [] 0 15 refl (top-at a.codes.now (good-list _ _ s.requires.2).coded (in-turn _ _ s.requires.2)))) in let r = (
-      top-ends a.profile a.arrangement a.codes.now _ _ _ w,
-      top-text a.profile a.arrangement a.codes.now a.text.now _ _ _ s.requires.3 c.put_heading.ensures w,
-    ) in record { value = r.0; text_after = r.1 }
+    (c.put_list-end.ensures.is Faces [] 0 15 refl (top-at a.codes.now (good-list _ _ s.requires.2).coded (in-turn _ _ s.requires.2)))) in record {
+      value = top-ends a.profile a.arrangement a.codes.now _ _ _ w;
+      text_after = top-text a.profile a.arrangement a.codes.now a.text.now _ _ _ s.requires.3 c.put_heading.ensures w;
+    }

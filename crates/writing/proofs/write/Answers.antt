@@ -29,7 +29,7 @@ pub returns-then-version-eq1 : goal.returns-then-version-eq1
 returns-then-version-eq1 c =
     let i = c in
     let a = i.args in let r = es.fit-answered a.version a.depth a.arrangement a.codes.now a.text.now Full
-    (ap (λ (b : Bool). cond b Full (Handheld a.depth)) (eq-eqb a.version 1 i.if-version-eq1.true)) (asked (goal.at.returns-then-version-eq1 c).Else-refused-ne0) c.write_good.ensures in record { value = r.0; text_after = r.1 }
+    (ap (λ (b : Bool). cond b Full (Handheld a.depth)) (eq-eqb a.version 1 i.if-version-eq1.true)) (asked (goal.at.returns-then-version-eq1 c).Else-refused-ne0) (c.write_good.ensures.value, c.write_good.ensures.text_after) in record { value = r.0; text_after = r.1 }
 
 pub write_good-requires-2 : goal.write_good-requires-2
 write_good-requires-2 c =
@@ -42,4 +42,4 @@ pub returns : goal.returns
 returns c =
     let i = c in
     let a = i.args in let r = es.fit-answered a.version a.depth a.arrangement a.codes.now a.text.now (Handheld a.depth)
-    (ap (λ (b : Bool). cond b Full (Handheld a.depth)) (ne_eqb a.version 1 i.if-version-eq1.false)) (asked (goal.at.returns c).Else-refused-ne0) c.write_good-2.ensures in record { value = r.0; text_after = r.1 }
+    (ap (λ (b : Bool). cond b Full (Handheld a.depth)) (ne_eqb a.version 1 i.if-version-eq1.false)) (asked (goal.at.returns c).Else-refused-ne0) (c.write_good-2.ensures.value, c.write_good-2.ensures.text_after) in record { value = r.0; text_after = r.1 }
