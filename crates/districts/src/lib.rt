@@ -29,7 +29,7 @@ fn put_share(count: u64, out: &mut [u8], at: usize) -> usize
     ensures upper_bound { result ≤ at + 22 }
 {
     if count == summary::DISTRICT_SIZE {
-        return at + bytes::copy(b"done\n", &mut out[at..]);
+        return at + copying::copy(b"done\n", &mut out[at..]);
     }
     let end = report::put_number(count * 100 / summary::DISTRICT_SIZE, b'%', out, at);
     out[end] = b'\n';
@@ -126,9 +126,9 @@ fn put_word(yes: bool, out: &mut [u8]) -> usize
     ensures upper_bound { result ≤ 21 }
 {
     if yes {
-        return bytes::copy(b"yes\n", out);
+        return copying::copy(b"yes\n", out);
     }
-    bytes::copy(b"no\n", out)
+    copying::copy(b"no\n", out)
 }
 
 // Puts `yes`, `no` or the refusal number on a line, in front.

@@ -32,7 +32,7 @@ fn put_edge(edge: f64, byte: u8, out: &mut [u8], at: usize) -> usize
 {
     let mut digits = [0u8; 16];
     let count = io::hex(f64::to_bits(edge), 16, &mut digits);
-    let end = at + bytes::copy(&digits[..count], &mut out[at..]);
+    let end = at + copying::copy(&digits[..count], &mut out[at..]);
     out[end] = byte;
     end + 1
 }

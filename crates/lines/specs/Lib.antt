@@ -1,3 +1,4 @@
+pub mod Find
 pub mod Fold
 pub mod Laws
 pub mod Lines

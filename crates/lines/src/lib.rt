@@ -1,6 +1,7 @@
 // The lines of an input, one at a time, in whatever parts its bytes come in.
 #![tactic(auto)]
-ghost use Rattle.std.specs.Prelude.{◌≡◌, ◌⊎◌, ◌++◌, ◌-◌, ◌≤◌, length, take, drop};
+ghost use Rattle.std.specs.Prelude.{◌≡◌, ◌⊎◌, ◌++◌, ◌+◌, ◌-◌, ◌≤◌, length, take, drop};
+ghost use Rattle.lines.specs.Find.{index_of};
 ghost use Rattle.lines.specs.Next.{Hands};
 
 // A line ended: so many bytes of it stand in the room, and the part goes on at `at`. Or the part is used up, and so many bytes of the line that
@@ -32,12 +33,28 @@ fn put(part: &[u8], at: usize, end: usize, room: &mut [u8], kept: usize) -> usiz
     kept + count
 }
 
+// Where a byte stands first in a part, from `at` on; the part's end where it does not.
+fn find(part: &[u8], at: usize, byte: u8) -> usize
+    requires { at ≤ length part.now }
+    ensures place { result ≡ at + index_of byte (drop at part.now) }
+    ensures upper_bound { result ≤ length part.now }
+{
+    let mut i = at;
+    while i < part.len() {
+        if part[i] == byte {
+            return i;
+        }
+        i = i + 1;
+    }
+    i
+}
+
 // The rest of the line at hand, from `at` on in a part; `kept` bytes of it came before and stand in the room.
 pub fn next(part: &[u8], at: usize, room: &mut [u8], kept: usize) -> Reached
     requires { (at ≤ length part.now) × (kept ≤ length room.old) }
     ensures { Hands (drop at part.now) (take kept room.old) part.now room.new result }
 {
-    let end = bytes::scan::find(part, at, part.len(), b'\n');
+    let end = find(part, at, b'\n');
     let length = put(part, at, end, room, kept);
     if end == part.len() {
         return Reached::PartEnd { kept: length };
