@@ -1,5 +1,6 @@
 // compare FILE FILE: what the first text covers and the second does not, what the second covers and the first does not, and what both cover.
 #![tactic(auto)]
+
 ghost use Rattle.std.specs.Prelude.{◌≡◌, ◌≤◌, length};
 ghost use Rattle.comparing.specs.Compare.{lists, compare_refusal};
 ghost use Rattle.compare.specs.Printed.{ListingIn, ListingPrinted, Stopped, ThreePrinted, ListingsWritten};
@@ -22,7 +23,10 @@ struct Shown {
 
 fn usage(rt: &HostRuntime) {
     console::say(rt, b"usage: compare FILE FILE\n");
-    console::say(rt, b"  lists the cells only in the first text, only in the second, and in both\n");
+    console::say(
+        rt,
+        b"  lists the cells only in the first text, only in the second, and in both\n",
+    );
 }
 
 // A listing: its names, one a line, and an empty line. What is left of it stands in front, behind what was printed.
@@ -153,7 +157,12 @@ fn say_refused(rt: &HostRuntime, first: &[u8], refusal: u64, place: u64) {
         return;
     }
     match reader::check(first) {
-        Checked::Refused { .. } => console::say_text(rt, b"compare: the first file", refusal, place),
+        Checked::Refused { .. } => console::say_text(
+            rt,
+            b"compare: the first file",
+            refusal,
+            place,
+        ),
         Checked::Text { .. } => console::say_text(rt, b"compare: the second file", refusal, place),
     }
 }

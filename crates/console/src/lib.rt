@@ -1,5 +1,6 @@
 // What the programs share: words for people on standard error, arguments, and input and output that can fail.
 #![tactic(auto)]
+
 ghost use Rattle.std.specs.Prelude.{◌≡◌, true, ◌+◌, ◌≤◌, ◌<◌, length, take, IfOk};
 ghost use Rattle.console.specs.Arguments.{latitude_given, setting_given, judged, OfWord, Usable};
 ghost use Rattle.console.specs.Beside.{beside_of, Folder};
@@ -215,15 +216,33 @@ fn say_meaning(rt: &HostRuntime, refusal: u64) {
         6 => say(rt, b": no fix, or a fix or an eccentricity out of range\n"),
         8 => say(rt, b": more cells than there is room for\n"),
         9 => say(rt, b": not a coverage text\n"),
-        10 => say(rt, b": a coverage text of a version that is neither 1 nor 2\n"),
-        11 => say(rt, b": the names do not rise, or one cell lies inside another\n"),
+        10 => say(
+            rt,
+            b": a coverage text of a version that is neither 1 nor 2\n",
+        ),
+        11 => say(
+            rt,
+            b": the names do not rise, or one cell lies inside another\n",
+        ),
         13 => say(rt, b": the text or the list is too long\n"),
         14 => say(rt, b": the two texts differ in n or s\n"),
-        15 => say(rt, b": the cells do not keep to the profile: N or S in part, or a cell too deep\n"),
-        16 => say(rt, b": the change was made from a revision that is not the newest\n"),
+        15 => say(
+            rt,
+            b": the cells do not keep to the profile: N or S in part, or a cell too deep\n",
+        ),
+        16 => say(
+            rt,
+            b": the change was made from a revision that is not the newest\n",
+        ),
         17 => say(rt, b": there is no revision past 65535\n"),
-        18 => say(rt, b": the revision is not made yet, or it is dropped: the last 32 are kept\n"),
-        19 => say(rt, b": a face's side in metres is 1 to 1073741824, with at most 15 digits\n"),
+        18 => say(
+            rt,
+            b": the revision is not made yet, or it is dropped: the last 32 are kept\n",
+        ),
+        19 => say(
+            rt,
+            b": a face's side in metres is 1 to 1073741824, with at most 15 digits\n",
+        ),
         _ => say(rt, b"\n"),
     }
 }
@@ -366,13 +385,7 @@ pub fn beside(path: &[u8], room: &mut [u8]) -> usize
 }
 
 // Whether the bytes are in the file and on the disk. Where that fails, standard error says why.
-fn on_disk(
-    rt: &HostRuntime,
-    program: &[u8],
-    path: &[u8],
-    file: &mut File,
-    bytes: &[u8],
-) -> bool {
+fn on_disk(rt: &HostRuntime, program: &[u8], path: &[u8], file: &mut File, bytes: &[u8]) -> bool {
     if let Err(error) = file.write_all(bytes) {
         say_failure(rt, program, path, &error);
         return false;
@@ -694,7 +707,13 @@ fn setting_at(history: History, revision: u64) -> Arguments
 }
 
 // The setting of a history's revision. Standard error says which revision is used, or why there is none.
-fn setting_of(rt: &HostRuntime, program: &[u8], path: &[u8], history: History, wanted: Whole) -> Arguments
+fn setting_of(
+    rt: &HostRuntime,
+    program: &[u8],
+    path: &[u8],
+    history: History,
+    wanted: Whole,
+) -> Arguments
     ensures { result ≡ setting_wanted history wanted }
 {
     let Whole::Is(revision) = wanted else {
@@ -786,7 +805,13 @@ pub fn given_setting(rt: &HostRuntime, program: &[u8]) -> Arguments
 }
 
 // The file that the argument with this number names, as much of it as there is room for. Where it cannot be read, standard error says why.
-pub fn load(rt: &HostRuntime, program: &[u8], i: usize, path: &mut [u8], text: &mut [u8]) -> BytesRead
+pub fn load(
+    rt: &HostRuntime,
+    program: &[u8],
+    i: usize,
+    path: &mut [u8],
+    text: &mut [u8],
+) -> BytesRead
     ensures { Fits text.new result }
 {
     match argument(rt, i, path) {

@@ -1,5 +1,6 @@
 // Bytes put in front of a room.
 #![tactic(auto)]
+
 ghost use Rattle.std.specs.Prelude.{◌≡◌, ◌++◌, ◌≤◌, length, drop};
 
 // Puts bytes in front of a room that is long enough: how many they are.

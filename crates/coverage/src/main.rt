@@ -1,6 +1,7 @@
 // coverage check FILE, coverage list FILE, coverage ask FILE NAME, coverage frame FILE SIDE, coverage summary FILE [NAME], coverage sheet FILE [SHEET],
 // coverage rescue FILE, coverage write n s [depth]: reads and writes coverage texts.
 #![tactic(auto)]
+
 ghost use Rattle.std.specs.Prelude.{◌≡◌, ◌≤◌, length, take};
 ghost use Rattle.cell.specs.Cell.{IsArrangement};
 ghost use Rattle.reader.specs.Check.{checked_of};
@@ -92,16 +93,31 @@ struct RescueRooms {
 }
 
 fn usage(rt: &HostRuntime) {
-    console::say(rt, b"usage: coverage check FILE | list FILE | ask FILE NAME | frame FILE SIDE\n");
-    console::say(rt, b"       coverage sheet FILE > sheet | sheet FILE SHEET\n");
-    console::say(rt, b"       coverage summary FILE [NAME] | rescue FILE > text\n");
+    console::say(
+        rt,
+        b"usage: coverage check FILE | list FILE | ask FILE NAME | frame FILE SIDE\n",
+    );
+    console::say(
+        rt,
+        b"       coverage sheet FILE > sheet | sheet FILE SHEET\n",
+    );
+    console::say(
+        rt,
+        b"       coverage summary FILE [NAME] | rescue FILE > text\n",
+    );
     console::say(rt, b"       coverage write n s [depth] < names > text\n");
-    console::say(rt, b"  n and s are 0 to 3; names stand one a line, rising, none inside another;\n");
+    console::say(
+        rt,
+        b"  n and s are 0 to 3; names stand one a line, rising, none inside another;\n",
+    );
     console::say(
         rt,
         b"  with a depth, 0 to 15, the text is for handhelds: N and S whole, nothing deeper\n",
     );
-    console::say(rt, b"  SIDE is a face's side in metres, 1 to 1073741824, such as 10007557.2\n");
+    console::say(
+        rt,
+        b"  SIDE is a face's side in metres, 1 to 1073741824, such as 10007557.2\n",
+    );
     console::say(
         rt,
         b"  a sheet has for each cell its code and its neighbours' up, right, down, left\n",
@@ -350,11 +366,14 @@ fn write_depth(rt: &HostRuntime, arrangement: Arrangement)
     requires { IsArrangement arrangement }
 {
     if console::argument_count(rt) == 4 {
-        write_text(rt, Form {
-            version: 1,
-            depth: 15,
-            arrangement,
-        });
+        write_text(
+            rt,
+            Form {
+                version: 1,
+                depth: 15,
+                arrangement,
+            },
+        );
         return;
     }
     let Whole::Is(depth) = console::whole_argument(rt, 4) else {
@@ -366,11 +385,14 @@ fn write_depth(rt: &HostRuntime, arrangement: Arrangement)
         usage(rt);
         return;
     }
-    write_text(rt, Form {
-        version: 2,
-        depth,
-        arrangement,
-    });
+    write_text(
+        rt,
+        Form {
+            version: 2,
+            depth,
+            arrangement,
+        },
+    );
 }
 
 // coverage write n s [depth].
@@ -565,7 +587,10 @@ fn say_changes(rt: &HostRuntime, list: &[u64], lines: &mut [u8]) -> usize
 // Why there is no proper text. Rescue takes version 1 only.
 fn say_unrescued(rt: &HostRuntime, refusal: u64, place: u64) {
     if refusal == 10 {
-        console::say(rt, b"coverage: refusal 10: rescue takes texts of version 1 only\n");
+        console::say(
+            rt,
+            b"coverage: refusal 10: rescue takes texts of version 1 only\n",
+        );
         return;
     }
     console::say_text(rt, b"coverage", refusal, place);

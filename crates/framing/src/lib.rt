@@ -1,5 +1,6 @@
 // What `coverage frame` reads and prints: the face side as people write it, and a frame's edges.
 #![tactic(auto)]
+
 ghost use Rattle.std.specs.Prelude.{◌≡◌, false, [], ◌∷◌, ◌++◌, ◌+◌, ◌≤◌, length};
 ghost use Rattle.std.specs.Float.Ieee.{is_nan};
 ghost use Rattle.logic.specs.Refusal.{given};

@@ -1,5 +1,6 @@
 // The lines of an input, one at a time, in whatever parts its bytes come in.
 #![tactic(auto)]
+
 ghost use Rattle.std.specs.Prelude.{◌≡◌, ◌⊎◌, ◌++◌, ◌+◌, ◌-◌, ◌≤◌, length, take, drop};
 ghost use Rattle.lines.specs.Find.{index_of};
 ghost use Rattle.lines.specs.Next.{Hands};

@@ -2,6 +2,7 @@
 // With an eccentricity the lines are `longitude sine` (02 W-203). name_fixes settings FILE [REVISION]: the same with the settings of a revision, the
 // newest if none is given (02 W-209).
 #![tactic(auto)]
+
 ghost use Rattle.std.specs.Prelude.{◌≤◌, length};
 ghost use Rattle.name_fixes.specs.Answers.{Answered, AllAnswered};
 
@@ -16,7 +17,13 @@ enum Waiting {
 }
 
 // One line: its answer waits behind what waited before, or behind nothing where all of that was printed to make room.
-fn answer_line(rt: &HostRuntime, setting: Setting, line: &[u8], out: &mut [u8], waiting: usize) -> Waiting
+fn answer_line(
+    rt: &HostRuntime,
+    setting: Setting,
+    line: &[u8],
+    out: &mut [u8],
+    waiting: usize,
+) -> Waiting
     requires { (waiting ≤ length out.old) × (21 ≤ length out.old) }
     ensures { Answered setting line.now waiting out.old out.new result }
 {
@@ -27,7 +34,13 @@ fn answer_line(rt: &HostRuntime, setting: Setting, line: &[u8], out: &mut [u8], 
 }
 
 // All lines of the input. Where reading fails, the lines that ended before are answered. No input has so many lines.
-fn answer_all(rt: &HostRuntime, setting: Setting, bytes: &mut [u8], room: &mut [u8], out: &mut [u8]) -> Waiting
+fn answer_all(
+    rt: &HostRuntime,
+    setting: Setting,
+    bytes: &mut [u8],
+    room: &mut [u8],
+    out: &mut [u8],
+) -> Waiting
     requires { (43 ≤ length room.old) × (21 ≤ length out.old) }
     ensures { AllAnswered setting out.new result }
 {

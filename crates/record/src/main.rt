@@ -2,6 +2,7 @@
 // With an eccentricity the lines are `longitude sine` (02 W-203). With a file the text so far is in it too, after each minute's worth of lines. The
 // text is all that is held of it. record settings FILE [REVISION] [to FILE]: the same with the settings of a revision, the newest if none is given (02 W-209).
 #![tactic(auto)]
+
 ghost use Rattle.std.specs.Prelude.{◌≡◌, ◌⊎◌, false, ◌+◌, ◌≤◌, ◌<◌, length, take};
 ghost use Rattle.lines.specs.Fold.{OfBytes};
 ghost use Rattle.adding.specs.InMind.{InMind};
@@ -12,9 +13,9 @@ ghost use Rattle.record.specs.Recorded.{changed_by, fix_added, refused_added, No
 
 use console::{Arguments, LineRead};
 use flight::{Recording, Setting, Taken};
-use std::fs::File as OpenFile;
-use std::io::{IsTerminal, Seek};
-use std::os::fd::AsFd;
+use std::fs;
+use std::io::IsTerminal;
+use std::os::unix::fs::FileTypeExt;
 
 // So many lines are a minute of a flight, at twenty fixes a second.
 const MINUTE: u64 = 1_200;
@@ -226,7 +227,16 @@ fn record_all(
                 end = stop;
             }
             LineRead::Last { length } => {
-                return record_line(rt, setting, &room[..length], number, text, flight, near, waits);
+                return record_line(
+                    rt,
+                    setting,
+                    &room[..length],
+                    number,
+                    text,
+                    flight,
+                    near,
+                    waits,
+                );
             }
             LineRead::End => return flight,
             LineRead::Failed => return flight,
@@ -235,16 +245,16 @@ fn record_all(
     flight
 }
 
-// Whether words cannot end the program, as they do where standard error is a pipe that nobody reads any more: it is a terminal, or has a place to write at.
+// Whether words cannot end the program, as they do where standard error is a pipe that nobody reads any more: it is a terminal, or another device, or a file.
 fn says_at_once(rt: &HostRuntime) -> bool {
-    let words = rt.stderr();
-    if words.is_terminal() {
+    if rt.stderr().is_terminal() {
         return true;
     }
-    let Ok(same) = words.as_fd().try_clone_to_owned() else {
+    let Ok(words) = fs::metadata(rt, "/proc/self/fd/2") else {
         return false;
     };
-    OpenFile::from(same).stream_position().is_ok()
+    let kind = words.file_type();
+    kind.is_file() || kind.is_char_device() || kind.is_block_device()
 }
 
 // Room for 256 refused lines to wait in until the text is written, or none.
@@ -354,8 +364,7 @@ fn record_flight(rt: &HostRuntime, setting: Setting, path: &[u8], waits: &mut [u
     let mut near = [0u64; 3];
     let first = begin(setting, &mut text, &mut near);
     let flight = record_all(
-        rt,
-        setting, path, &mut bytes, &mut room, &mut text, first, &mut near, waits,
+        rt, setting, path, &mut bytes, &mut room, &mut text, first, &mut near, waits,
     );
     keep_text(rt, path, &text, flight);
     console::print_first(rt, &text, flight.recording.length);

@@ -2,6 +2,7 @@
 // the settings of the office, with their last 32 revisions, in a file (02 W-209). A new history is written beside the old one, brought to the disk and
 // then put in its place, so that a failure at any moment leaves the one or the other.
 #![tactic(auto)]
+
 ghost use Rattle.std.specs.Prelude.{◌≡◌, true, ◌≤◌, length};
 ghost use Rattle.encoding.specs.Encoding.{encoding_of};
 ghost use Rattle.console.specs.Beside.{beside_of};
@@ -39,8 +40,14 @@ enum SettingsGiven {
 }
 
 fn usage(rt: &HostRuntime) {
-    console::say(rt, b"usage: settings FILE fresh n s resolution eccentricity\n");
-    console::say(rt, b"       settings FILE change REVISION n s resolution eccentricity\n");
+    console::say(
+        rt,
+        b"usage: settings FILE fresh n s resolution eccentricity\n",
+    );
+    console::say(
+        rt,
+        b"       settings FILE change REVISION n s resolution eccentricity\n",
+    );
     console::say(rt, b"       settings FILE back REVISION WANTED\n");
     console::say(rt, b"       settings FILE read REVISION\n");
     console::say(rt, b"       settings FILE list\n");
@@ -141,7 +148,10 @@ fn asked_for(rt: &HostRuntime, word: &[u8], words: usize) -> Asked {
         return asked_change(console::whole_argument(rt, 3), settings_from(rt, 4));
     }
     if check::same(word, b"back") && words == 5 {
-        return asked_back(console::whole_argument(rt, 3), console::whole_argument(rt, 4));
+        return asked_back(
+            console::whole_argument(rt, 3),
+            console::whole_argument(rt, 4),
+        );
     }
     if check::same(word, b"read") && words == 4 {
         return asked_read(console::whole_argument(rt, 3));
@@ -193,7 +203,10 @@ fn no_file(rt: &HostRuntime, path: &[u8]) -> Loaded {
         Ok(_) => {
             console::say(rt, b"settings: ");
             console::say(rt, path);
-            console::say(rt, b": it is there already, and a fresh history would destroy it\n");
+            console::say(
+                rt,
+                b": it is there already, and a fresh history would destroy it\n",
+            );
             Loaded {
                 done: false,
                 history: history::no_history(),

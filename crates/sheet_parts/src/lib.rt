@@ -1,5 +1,6 @@
 // What `coverage sheet` reads and prints: a neighbour sheet part by part, since the longest has more bytes than a program holds at once.
 #![tactic(auto)]
+
 ghost use Rattle.std.specs.Prelude.{◌≡◌, true, ◌*◌, ◌%◌, ◌≤◌, ◌<◌, length};
 ghost use Rattle.reading.specs.Ground.{whole_cells};
 ghost use Rattle.reading.specs.TextReading.{nodes_of, is_text, text_arrangement, body_start};
@@ -114,7 +115,13 @@ fn judge_parts(
 }
 
 // The same of any bytes as a text: 13, 10, 9 where they are none.
-pub fn judge_file(rt: &HostRuntime, text: &[u8], file: &mut File, path: &[u8], part: &mut [u8]) -> Judged
+pub fn judge_file(
+    rt: &HostRuntime,
+    text: &[u8],
+    file: &mut File,
+    path: &[u8],
+    part: &mut [u8],
+) -> Judged
     requires { (0 < length part.old) × (length part.old % 40 ≡ 0) }
     ensures { JudgesText (text_refusal text.now) text.now part.new result }
 {
