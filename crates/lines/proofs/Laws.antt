@@ -8,9 +8,9 @@ use native.Mathlib.Numerals.{add-one}
 use native.Mathlib.Omega.{arith}
 use lib.Dec.{eqb}
 use lib.ListN.{length, take, drop, get_or, set, length-drop}
-use lib.Seq.{take_all, take-take, take-length, take-suc, take-suc-set, take-append-add, get_or-drop, drop-drop}
+use lib.Seq.{take_all, take-take, take-suc, take-suc-set, take-append-add, get_or-drop, drop-drop}
 use borrow.Author.Tests.{eqb-true, eqb-false}
-use Rattle.bytes.specs.Bytes.{slice, index_of, index_after}
+use Rattle.lines.specs.Find.{index_of, index_after}
 use Rattle.lines.specs.Lines.{Unended}
 
 -- one byte more
@@ -49,6 +49,34 @@ cut-there front xs kept count n room f h e a b =
     some : count ≡ room - kept → take (room - kept) (take n xs) ≡ take count xs
     some z = take-take (room - kept) n xs (omega arith) ∙ ap (λ (j : ℕ). take j xs) (sym z)
 
+-- a byte that is not the one looked for is passed over; nothing is left at the end
+pub passed_over : (part : List ℕ) (i b : ℕ) → i < length part → eqb (get_or part i 0) b ≡ false → i + index_of b (drop i part) ≡ (i + 1) + index_of b (drop (i + 1) part)
+unfolding index_of index_after
+passed_over [] i b h e = absurd (omega arith)
+passed_over (x ∷ xs) zero b h e =
+    let z : index_after (eqb x b) (index_of b xs) ≡ suc (index_of b xs) = ap (λ (t : Bool). index_after t (index_of b xs)) e in omega (arith, z)
+passed_over (x ∷ xs) (suc i) b h e =
+    let z : i + index_of b (drop i xs) ≡ (i + 1) + index_of b (drop (i + 1) xs) = passed_over xs i b (omega arith) e in
+    let k : suc i + 1 ≡ suc (i + 1) = omega arith in
+    let n : drop (suc i + 1) (x ∷ xs) ≡ drop (i + 1) xs = ap (λ (j : ℕ). drop j (x ∷ xs)) k in
+    let m : index_of b (drop (suc i + 1) (x ∷ xs)) ≡ index_of b (drop (i + 1) xs) = ap (index_of b) n in
+    omega (arith, z, m)
+
+pub found_there : (part : List ℕ) (i b : ℕ) → i < length part → eqb (get_or part i 0) b ≡ true → i + index_of b (drop i part) ≡ i
+unfolding index_of index_after
+found_there [] i b h e = absurd (omega arith)
+found_there (x ∷ xs) zero b h e =
+    let z : index_after (eqb x b) (index_of b xs) ≡ 0 = ap (λ (t : Bool). index_after t (index_of b xs)) e in omega (arith, z)
+found_there (x ∷ xs) (suc i) b h e =
+    let z : i + index_of b (drop i xs) ≡ i = found_there xs i b (omega arith) e in omega (arith, z)
+
+pub found_nowhere : (part : List ℕ) (i b : ℕ) → length part ≤ i → index_of b (drop i part) ≡ 0
+unfolding index_of
+found_nowhere [] zero b h = refl
+found_nowhere [] (suc i) b h = refl
+found_nowhere (x ∷ xs) zero b h = absurd (omega arith)
+found_nowhere (x ∷ xs) (suc i) b h = found_nowhere xs i b (omega arith)
+
 -- up to the first line feed there is none
 pub unended-front : (xs : List ℕ) → Unended (take (index_of 10 xs) xs)
 unfolding index_of index_after
@@ -73,10 +101,9 @@ ends_there (x ∷ xs) h = go (eqb x 10) refl (λ k. ends_there xs k) h
     go false e f k = ap (λ (l : List ℕ). x ∷ l) (f (omega arith))
 
 -- a part from a place on, where the next line feed was looked for
-module _ (part : List ℕ) (at : ℕ) (h : at ≤ length part) {end : ℕ} (e : end ≡ at + index_of 10 (slice at (length part) part)) where
+module _ (part : List ℕ) (at : ℕ) (h : at ≤ length part) {end : ℕ} (e : end ≡ at + index_of 10 (drop at part)) where
   here : end ≡ at + index_of 10 (drop at part)
-  unfolding slice
-  here = e ∙ ap (λ (l : List ℕ). at + index_of 10 (drop at l)) (take-length part)
+  here = e
 
   count : end - at ≡ index_of 10 (drop at part)
   count = let z : end ≡ at + index_of 10 (drop at part) = here in omega arith

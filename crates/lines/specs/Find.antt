@@ -1,5 +1,5 @@
 -- Where a byte stands first. Assumes nothing.
-use Rattle.std.specs.Prelude.{Bool, true, false, List, [], ◌∷◌, ℕ, zero, suc, eqb}
+use Rattle.std.specs.Prelude.{Bool, true, false, List, [], ◌∷◌, ℕ, suc, eqb}
 
 -- one place on, where the byte at hand is not the one that is looked for
 unfoldable pub index_after : Bool → ℕ → ℕ
