@@ -1,0 +1,16 @@
+-- `batch::put_codes` meets its contract: before each cell the codes put, and those still to be put, are the whole. Assumes nothing.
+use Prim.Native.Nat.{◌-◌}
+use Rattle.batch.proofs.Batches.{codes-start, codes-on, codes-end}
+use native.Mathlib.Omega.{arith}
+use Rattle.batch.proofs.put_codes.Goals as goal
+
+pub loop-i-init : goal.loop-i-init
+loop-i-init c = codes-start c.requires.1
+
+pub loop-i-preserved : goal.loop-i-preserved
+loop-i-preserved c =
+    let t = c in
+    codes-on t.loop-i.invariant t.loop-i-test.true c.put_at.ensures
+
+pub returns : goal.returns
+returns c = codes-end c.loop-i.invariant (omega arith)

@@ -1,0 +1,22 @@
+-- `Cell::out_of_north` meets its contract: each arm is the case that its key picks. Assumes nothing.
+use mathlib.Core.Path.{◌∙◌}
+use native.Mathlib.Omega.{arith}
+use Rattle.cell.specs.Neighbour.{out_of_north}
+use Rattle.cell.proofs.Laws.{fourth, unturned}
+use Rattle.cell.proofs.Cell.out_of_north.Goals as goal
+
+pub returns-in-0 : goal.returns-in-0
+unfolding out_of_north
+returns-in-0 c = c.at.ensures ∙ simp (c.in-0.is, c.requires.last_value)
+
+pub returns-in-1 : goal.returns-in-1
+unfolding out_of_north
+returns-in-1 c = c.at-in-1.ensures ∙ simp (c.in-1.is, c.requires.last_value)
+
+pub returns-in-2 : goal.returns-in-2
+unfolding out_of_north
+returns-in-2 c = let s = c in c.at-in-2.ensures ∙ simp (c.in-2.is, unturned s.args.arrangement.north s.requires.arrangement.northern)
+
+pub returns-in_default : goal.returns-in_default
+unfolding out_of_north
+returns-in_default c = c.at-in_default.ensures ∙ rw (fourth c.args.direction (omega arith))
