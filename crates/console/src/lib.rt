@@ -134,12 +134,14 @@ fn say_failed(rt: &HostRuntime, what: &[u8], error: &io::Error) {
     say(rt, b"\n");
 }
 
-// Whether all of it went to standard output. Where that fails, standard error says why.
+// Whether all of it went to standard output. Where that fails, standard error says why, unless it is a pipe and whoever read it has left.
 fn printed(rt: &HostRuntime, text: &[u8]) -> bool {
     match Print::write_all(rt, text) {
         Ok(()) => true,
         Err(error) => {
-            say_failed(rt, b"standard output", &error);
+            if error.kind() != ErrorKind::BrokenPipe {
+                say_failed(rt, b"standard output", &error);
+            }
             false
         }
     }
