@@ -1,5 +1,6 @@
 // The authalic sine of a geodetic latitude (02 W-203): two values of one series, and their quotient.
 #![tactic(auto)]
+
 ghost use Rattle.std.specs.Prelude.{◌≡◌, true, ◌+◌, ◌-◌, ◌*◌, ◌^◌, ◌≤◌, ◌<◌};
 ghost use Rattle.wide.specs.High.{high_word};
 ghost use Rattle.authalic.specs.Authalic.{is_geodetic, eccentricity_refusal};

@@ -1,5 +1,6 @@
 // Floors over a root, decided exactly (01 "From a fix to a cell": "A floor over the root is the whole number w with w <= value < w + 1").
 #![tactic(auto)]
+
 ghost use Rattle.std.specs.Prelude.{◌≡◌, ◌+◌, ◌*◌, ◌^◌, ◌≤◌, ◌<◌, neg_ℤ};
 ghost use Rattle.wide.specs.Value.{three};
 ghost use Rattle.root.specs.Floor.{square, plus_at, minus_at, at_most, root_floor, axis_of};
