@@ -1,23 +1,14 @@
 -- What stands ahead of a decimal point and behind it. Assumes nothing.
-use mathlib.Core.Path.{◌≡◌, refl, sym, ap, ◌∙◌, subst}
-use mathlib.Core.Bool.{Bool, true, false, ◌&&◌, cond}
-use mathlib.Core.List.{List, [], ◌∷◌, map}
-use Prim.Native.Nat.{ℕ, suc, ◌+◌, ◌-◌, ◌*◌, ◌^◌, ◌≤◌, ◌<◌}
-use native.Mathlib.Nat.{add-mul, mul-le-mul_right}
-use native.Mathlib.Omega.{arith}
-use lib.Dec.{leb, eqb}
-use lib.Pow.{pow-add}
-use lib.ListN.{length, length-map, length-drop}
-use borrow.Author.Tests.{lt-leb, le-leb, leb-true, eq-eqb, ne_eqb}
-use Rattle.logic.specs.Laws.Bools.{and_left, and_right, clash}
-use Rattle.ternary.specs.Digits.{value, Below}
-use Rattle.ternary.specs.Laws.Digits.{value-below}
-use Rattle.decimal.specs.Decimal.{is_decimal, all_decimal, decimal_value, whole_in, ahead, behind}
+use mathlib.Core.Path.{◌≡◌, sym, ap, ◌∙◌}
+use mathlib.Core.List.{List}
+use Prim.Native.Nat.{ℕ, ◌+◌, ◌-◌, ◌≤◌, ◌<◌}
+use lib.ListN.{length, length-drop}
+use borrow.Author.Tests.{lt-leb, le-leb, eq-eqb, ne_eqb}
+use Rattle.decimal.specs.Decimal.{whole_in, ahead, behind}
 use Rattle.decimal.specs.Fraction.{as_fraction, whole_fraction, with_places, point_fraction, fraction_in}
 use Rattle.decimal.specs.declared.Whole.{Whole}
-use Rattle.decimal.specs.declared.Whole.TheVariants as Wholes
 use Rattle.decimal.specs.declared.Fraction.TheVariants as Fractions
-use Rattle.decimal.proofs.Laws.{ten-le, drop-ahead}
+use Rattle.decimal.proofs.Laws.{drop-ahead}
 
 -- ---- digits alone
 

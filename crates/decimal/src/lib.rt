@@ -1,5 +1,6 @@
 // Whole numbers and fixes as people write them, in decimal digits.
 #![tactic(auto)]
+
 ghost use Rattle.std.specs.Prelude.{◌≡◌, ◌++◌, ◌+◌, ◌^◌, ◌≤◌, ◌<◌, length, take, drop};
 ghost use Rattle.decimal.specs.Fraction.{whole_fraction, fraction_in};
 ghost use Rattle.decimal.specs.Decimal.{whole_in, number_in, fix_in, signed_number, ahead, trimmed, printed};

@@ -15,7 +15,6 @@ use Rattle.decimal.specs.Fraction.{as_fraction, whole_fraction, with_places, poi
 use Rattle.decimal.specs.Laws.Decimal.{Free, free-digits, ahead-free, behind-free}
 use Rattle.decimal.specs.declared.Whole.{Whole}
 use Rattle.decimal.specs.declared.Whole.TheVariants as Wholes
-use Rattle.decimal.specs.declared.Fraction.{Fraction}
 use Rattle.decimal.specs.declared.Fraction.TheVariants as Fractions
 
 ten-up : (i j : ℕ) → i ≤ j → 10 ^ i ≤ 10 ^ j

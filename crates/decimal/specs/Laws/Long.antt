@@ -5,7 +5,6 @@ use Rattle.std.proofs.lemmas.Bool.{lt-leb}
 use Rattle.logic.specs.Laws.Bools.{by_cond}
 use Rattle.logic.specs.Laws.Order.{lt-or}
 use Rattle.decimal.specs.Decimal.{whole_in, signed_number, number_in, ahead, behind, trimmed, fix_of, fix_in}
-use Rattle.decimal.specs.declared.Whole.{Whole}
 use Rattle.decimal.specs.declared.Whole.TheVariants as Wholes
 use Rattle.decimal.specs.declared.Number.{Number}
 use Rattle.decimal.specs.declared.Number.TheVariants as Numbers
