@@ -1,6 +1,7 @@
 // The ground nucleus of a cell, in whole numbers: the fractions that the rules send to the cell's middle, floored. A coarser cell's fractions are
 // taken with both numbers 3^(15-k) times as great: then the divisors are known beforehand, and dividing by them is multiplying.
 #![tactic(auto)]
+
 ghost use Rattle.std.specs.Prelude.{◌≡◌, cond, ◌+◌, ◌-◌, ◌*◌, ◌/◌, ◌^◌, ◌≤◌, ◌<◌, eqb, pos, neg_ℤ};
 ghost use Rattle.std.proofs.Math.IntN.{sub_ℕ};
 ghost use Rattle.cell.specs.Cell.{IsCell, IsArrangement};
