@@ -1,19 +1,17 @@
 -- What each number that is read makes of the answer, and what stands at each turn of the loops. Assumes nothing.
-use mathlib.Core.Path.{◌≡◌, refl, sym, ap, ap₂, ◌∙◌}
+use mathlib.Core.Path.{◌≡◌, sym, ap, ap₂, ◌∙◌}
 use mathlib.Core.Bool.{Bool}
-use mathlib.Core.List.{List, [], ◌∷◌, ◌++◌}
-use Prim.Native.Nat.{ℕ, zero, suc, ◌+◌, ◌-◌, ◌*◌, ◌≤◌, ◌<◌}
+use mathlib.Core.List.{List, ◌++◌}
+use Prim.Native.Nat.{ℕ, suc, ◌+◌, ◌-◌, ◌*◌, ◌≤◌, ◌<◌}
 use native.Mathlib.Numerals.{add-one}
 use native.Mathlib.Omega.{arith}
-use lib.ListN.{length, get_or, set, take, drop}
+use lib.ListN.{length, get_or, drop}
 use lib.Seq.{sets, sets-eq}
 use Rattle.logic.specs.Laws.Stores.{sets-append}
 use Rattle.ternary.specs.Digits.{digits}
 use Rattle.ternary.specs.Laws.Digits.{length_digits}
-use Rattle.fields.specs.declared.NumberRead.{NumberRead}
 use Rattle.fields.specs.declared.NumberRead.TheVariants as number-as
 use Rattle.fields.specs.Number.{number_at}
-use Rattle.encoding.specs.declared.SettingsRead.{SettingsRead}
 use Rattle.encoding.specs.declared.SettingsRead.TheVariants.{Is, Wrong}
 use Rattle.history.specs.declared.Settings.{Settings}
 use Rattle.history.specs.declared.History.{History}

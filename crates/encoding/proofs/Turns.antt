@@ -2,7 +2,7 @@
 use mathlib.Core.Path.{◌≡◌, refl, sym, ap, ap₂, ◌∙◌}
 use mathlib.Core.Bool.{Bool}
 use mathlib.Core.List.{List, [], ◌∷◌, ◌++◌, append-nil, append_assoc}
-use Prim.Native.Nat.{ℕ, zero, suc, ◌+◌, ◌-◌, ◌*◌, ◌≤◌, ◌<◌}
+use Prim.Native.Nat.{ℕ, suc, ◌+◌, ◌-◌, ◌*◌, ◌≤◌, ◌<◌}
 use native.Mathlib.Numerals.{add-one}
 use native.Mathlib.Omega.{arith}
 use lib.Dec.{leb}
@@ -11,14 +11,12 @@ use lib.Seq.{take_all, take-suc-set}
 use Rattle.fields.specs.declared.NumberRead.{NumberRead}
 use Rattle.fields.specs.declared.NumberRead.TheVariants as number-as
 use Rattle.fields.specs.Form.{Form, done, number}
-use Rattle.fields.specs.Read.{Read, said, wrong, behind, read_as}
+use Rattle.fields.specs.Read.{Read, wrong, behind, read_as}
 use Rattle.fields.specs.Number.{number_at, by_number}
 use Rattle.fields.specs.Laws.Places.{behind-none, number_read, end_read, more-read}
 use Rattle.history.specs.declared.Settings.{Settings}
 use Rattle.history.specs.declared.History.{History}
-use Rattle.encoding.specs.declared.SettingsRead.{SettingsRead}
 use Rattle.encoding.specs.declared.SettingsRead.TheVariants.{Is, Wrong}
-use Rattle.encoding.specs.declared.Decoded.{Decoded}
 use Rattle.encoding.specs.Decoding.{up_to, settings, settings_form, places_form, history_form, refused_at, answer_to, decoded_of, with_number, settings_at, by_settings, then_number, newest_in}
 
 abbrev history : ℕ → List Settings → History

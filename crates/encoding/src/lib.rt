@@ -1,5 +1,6 @@
 // A history as bytes, for a file: the mark `JGS`, the version, the newest revision, and the 32 places, 8 bytes each.
 #![tactic(auto)]
+
 ghost use Rattle.std.specs.Prelude.{◌≡◌, ◌++◌, ◌+◌, ◌≤◌, ◌<◌, ◌^◌, length, drop};
 ghost use Rattle.std.proofs.lemmas.List.Edits.{sets};
 ghost use Rattle.fields.specs.Number.{number_at};

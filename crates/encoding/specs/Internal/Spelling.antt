@@ -1,5 +1,5 @@
 -- The bytes that the form of a history allows are the encodings of valid histories. Assumes nothing.
-use Rattle.std.specs.Prelude.{◌≡◌, Bool, ℕ, zero, suc, ◌+◌, ◌^◌, ◌≤◌, ◌<◌, leb, length, get_or}
+use Rattle.std.specs.Prelude.{◌≡◌, Bool, ℕ, zero, suc, ◌+◌, ◌≤◌, ◌<◌, leb, length, get_or}
 use Rattle.std.proofs.Math.Path.{refl, sym, ap}
 use Rattle.std.proofs.Common.{ap₂, subst, ◌∙◌, leb-true, leb-false, le-leb}
 use Rattle.std.proofs.Math.Bool.{true, false}
@@ -9,7 +9,7 @@ use native.Mathlib.Omega.{arith}
 use Rattle.std.proofs.lemmas.Bool.{lt-leb}
 use Rattle.logic.specs.Laws.Bools.{clash}
 use Rattle.ternary.specs.Digits.{digits}
-use Rattle.fields.specs.Form.{Form, done, number, Spells, Sound}
+use Rattle.fields.specs.Form.{Form, done, Spells, Sound}
 use Rattle.history.specs.declared.Settings.{Settings}
 use Rattle.history.specs.declared.History.{History}
 use Rattle.history.specs.Settings.{none, settings_refusal, GoodSettings}

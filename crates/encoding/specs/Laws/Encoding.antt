@@ -3,7 +3,7 @@ use Rattle.std.specs.Prelude.{◌≡◌, ◌↔◌, ◌⊎◌, List, [], ◌∷�
 use Rattle.std.proofs.Math.Path.{refl}
 use Rattle.std.proofs.Common.{sym, ap, subst, ◌∙◌, ⊎_elim, append_assoc, arith, length-append, take_at, drop_at, drop-drop}
 use Rattle.std.proofs.Math.Logic.{inl, inr}
-use Rattle.logic.specs.Longest.{BeginsOne, LongestOf}
+use Rattle.logic.specs.Longest.{LongestOf}
 use Rattle.ternary.specs.Digits.{digits, Below}
 use Rattle.ternary.specs.Laws.Digits.{length_digits, digits-below}
 use Rattle.fields.specs.Form.{Spells, Spelled}
