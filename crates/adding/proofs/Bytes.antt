@@ -14,7 +14,7 @@ use Rattle.logic.specs.Laws.Order.{lt-or}
 use Rattle.reading.specs.declared.Level.{Level}
 use Rattle.reading.specs.declared.Level.TheVariants.{Digits}
 use Rattle.reading.specs.Reading.{Nodes, end, whole, listed, first, many, render, Good}
-use Rattle.reading.specs.Laws.Parse.{Stop}
+use Rattle.reading.proofs.Laws.Parse.{Stop}
 use Rattle.walk.specs.Walk.{opens, whole_at}
 use Rattle.walk.specs.Laws.Walk.{not-shut, whole-name, opens-nodes, byte_at}
 use Rattle.walk.specs.Past.{node_in}

@@ -15,7 +15,7 @@ use Rattle.ternary.specs.Digits.{Below}
 use Rattle.reading.specs.declared.Level.{Level}
 use Rattle.reading.specs.declared.Level.TheVariants.{Digits}
 use Rattle.reading.specs.Reading.{Nodes, end, whole, listed, first, many, room, wholes, render, Good}
-use Rattle.reading.specs.Laws.Reading.{first-big}
+use Rattle.reading.proofs.Laws.Reading.{first-big}
 use Rattle.reading.specs.Prefix.{Name}
 use Rattle.walk.specs.Walk.{whole_at}
 use Rattle.walk.specs.Past.{node_in}

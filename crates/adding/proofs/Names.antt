@@ -13,7 +13,7 @@ use Rattle.logic.specs.Laws.Refusal.{passes, both, allowed}
 use Rattle.cell.specs.declared.Cell.{Cell}
 use Rattle.cell.specs.Cell.{IsCell}
 use Rattle.code.specs.Code.{is_code, cell_of}
-use Rattle.code.specs.Laws.Code.{code-passes, code-is-cell}
+use Rattle.code.proofs.Laws.Code.{code-passes, code-is-cell}
 use Rattle.name.specs.declared.Named.{Named}
 use Rattle.name.specs.declared.Named.TheVariants.{Length as Letters, Refused as Nameless}
 use Rattle.name.specs.Name.{name_of, code_name_refusal, named, name_in}
@@ -25,7 +25,7 @@ use Rattle.adding.specs.declared.Added.{Added}
 use Rattle.adding.specs.declared.Added.TheVariants.{Length, Refused}
 use Rattle.adding.specs.declared.Edit.{Edit}
 use Rattle.adding.specs.Add.{text_with, keeps_with, size_refusal, with_refusal, resized, placed, length_after, Holding, Gains}
-use Rattle.adding.specs.Laws.Add.{with-text, with-heading}
+use Rattle.adding.proofs.Laws.Add.{with-text, with-heading}
 use Rattle.adding.specs.Internal.Become.{Becomes}
 use Rattle.adding.specs.Internal.Edit.{edited, EditFits}
 use Rattle.adding.specs.Internal.Fit.{breaks}

@@ -20,12 +20,12 @@ use Rattle.reading.specs.Reading.{Nodes, first}
 use Rattle.reading.specs.Prefix.{Name, numbers_of}
 use Rattle.reading.specs.Text.{heading_length}
 use Rattle.reading.specs.TextReading.{nodes_of, profile_of, is_text, body_start}
-use Rattle.reading.specs.Laws.TextReading.{read-nodes, read-profile}
+use Rattle.reading.proofs.Laws.TextReading.{read-nodes, read-profile}
 use Rattle.adding.specs.declared.Added.{Added}
 use Rattle.adding.specs.declared.Edit.{Edit}
 use Rattle.adding.specs.declared.ListAt.{ListAt}
 use Rattle.adding.specs.Add.{text_with, keeps_with, with_refusal, resized, placed, length_after, Gains}
-use Rattle.adding.specs.Laws.Add.{with-reads}
+use Rattle.adding.proofs.Laws.Add.{with-reads}
 use Rattle.adding.specs.InMind.{LeadsTo, InMind}
 use Rattle.adding.specs.Internal.Grow.{grow}
 use Rattle.adding.specs.Internal.Edit.{name_bytes, edit_of}

@@ -1,4 +1,3 @@
 pub mod Add
 pub mod Internal
-pub mod Laws
 pub mod InMind

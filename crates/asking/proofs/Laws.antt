@@ -1,3 +1,6 @@
+pub mod Ask
+pub mod Settle
+
 -- The answer and the count along the nodes of a text: the nodes from here on decide. Assumes nothing.
 use mathlib.Core.Path.{◌≡◌, refl, sym, ap, ap₂, ◌∙◌}
 use mathlib.Core.Logic.{◌⊎◌, inl, inr, ⊎_elim}
@@ -12,20 +15,20 @@ use lib.Dec.{leb, eqb}
 use borrow.Author.Tests.{le-leb, lt-leb}
 use Rattle.logic.specs.Laws.Bools.{clash, and_none}
 use Rattle.logic.specs.Laws.Order.{lt-or}
-use Rattle.ternary.specs.Laws.Powers.{nine-pos, nine-add, nine-le}
+use Rattle.ternary.proofs.Laws.Powers.{nine-pos, nine-add, nine-le}
 use Rattle.code.specs.Code.{cell_of, arrangement_of, is_code, size_of}
-use Rattle.code.specs.Laws.Code.{code-is-cell}
+use Rattle.code.proofs.Laws.Code.{code-is-cell}
 use Rattle.code.specs.Inside.{start_of, end_of}
 use Rattle.code.specs.Number.{number_of, start_as}
-use Rattle.code.specs.Laws.Number.{start-as}
+use Rattle.code.proofs.Laws.Number.{start-as}
 use Rattle.reading.specs.declared.Level.{Level}
 use Rattle.reading.specs.declared.Level.TheVariants.{Faces, Digits}
 use Rattle.reading.specs.Reading.{Nodes, end, whole, listed, first, many, room, render, Good}
-use Rattle.reading.specs.Laws.Reading.{many-most, room-le}
+use Rattle.reading.proofs.Laws.Reading.{many-most, room-le}
 use Rattle.reading.specs.Letters.{letter_count}
-use Rattle.reading.specs.Laws.Parse.{Stop}
+use Rattle.reading.proofs.Laws.Parse.{Stop}
 use Rattle.reading.specs.TextReading.{is_text, nodes_of, body_start, text_arrangement}
-use Rattle.reading.specs.Laws.TextReading.{good-nodes, body-nodes}
+use Rattle.reading.proofs.Laws.TextReading.{good-nodes, body-nodes}
 use Rattle.walk.specs.Walk.{opens, whole_at}
 use Rattle.walk.specs.Past.{node_in}
 use Rattle.walk.specs.Laws.Walk.{not-shut, whole-name, opens-nodes, byte_at}

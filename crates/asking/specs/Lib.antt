@@ -1,4 +1,3 @@
 pub mod Ask
 pub mod Internal
-pub mod Laws
 pub mod Settle

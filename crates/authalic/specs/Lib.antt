@@ -1,5 +1,4 @@
 pub mod Authalic
 pub mod Computed
 pub mod Internal
-pub mod Laws
 pub mod Sums

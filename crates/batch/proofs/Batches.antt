@@ -19,7 +19,7 @@ use Rattle.cell.specs.Cell.{found}
 use Rattle.code.specs.Code.{cell_of, arrangement_of, code_refusal}
 use Rattle.batch.specs.declared.Batched.TheVariants.{Count, Refused}
 use Rattle.batch.specs.Batch.{seven_good, seven_bad, seven_in, seven_of, cells_of, cells_refusal, coded_at, two_in, first_codes, cells_in, codes_of, codes_refusal, batched}
-use Rattle.batch.specs.Laws.Batch.{seven-long}
+use Rattle.batch.proofs.Laws.Batch.{seven-long}
 
 -- stores from the start are numbers in front
 front : (l xs : List ℕ) {m : List ℕ} → m ≡ sets l 0 xs → length xs ≤ length l → m ≡ in_front xs l

@@ -3,14 +3,14 @@ use mathlib.Core.Path.{◌≡◌, sym, ap, ◌∙◌}
 use mathlib.Core.Bool.{true}
 use Prim.Native.Nat.{ℕ, ◌+◌, ◌-◌, ◌/◌, ◌%◌, ◌^◌, ◌≤◌, ◌<◌}
 use native.Mathlib.Omega.{arith}
-use Rattle.ternary.specs.Laws.Powers.{nine-le}
+use Rattle.ternary.proofs.Laws.Powers.{nine-le}
 use Rattle.ternary.specs.Weave.{weave, row_in, column_in}
-use Rattle.ternary.specs.Laws.Weave.{weave_more, row_more, column-more}
+use Rattle.ternary.proofs.Laws.Weave.{weave_more, row_more, column-more}
 use Rattle.cell.specs.declared.Cell.{Cell}
 use Rattle.cell.specs.declared.Arrangement.{Arrangement}
 use Rattle.cell.specs.Cell.{IsCell}
 use Rattle.code.specs.Code.{is_cell_code, is_code, code_refusal, path_of, path_in, cell_code, code_at, code_of}
-use Rattle.code.specs.Laws.Code.{a-code, path-weave, path-in-small}
+use Rattle.code.proofs.Laws.Code.{a-code, path-weave, path-in-small}
 
 fifteen : (k : ℕ) → k ≤ 15 → 15 ≡ k + (15 - k)
 fifteen k h = omega arith

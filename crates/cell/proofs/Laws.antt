@@ -1,3 +1,14 @@
+pub mod Cell
+pub mod Course
+pub mod Crossing
+pub mod Faces
+pub mod Found
+pub mod Hierarchy
+pub mod Line
+pub mod Neighbour
+pub mod Towards
+pub mod Turns
+
 -- Small laws of numbers for the step. Assumes nothing.
 use mathlib.Core.Path.{◌≡◌, refl, sym, ◌∙◌}
 use mathlib.Core.Bool.{Bool, true, false}

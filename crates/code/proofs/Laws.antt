@@ -1,3 +1,11 @@
+pub mod Code
+pub mod Coded
+pub mod Decoded
+pub mod Exact
+pub mod Inside
+pub mod Number
+pub mod Size
+
 -- What taking a code apart answers, and what is woven. Assumes nothing.
 use mathlib.Core.Path.{◌≡◌, refl, sym, ap, ap₂, ◌∙◌}
 use mathlib.Core.Bool.{Bool, true, false, ◌&&◌}
@@ -6,15 +14,15 @@ use native.Mathlib.Nat.{div-add-mod', dvd-mul_right, mod-mod_of_dvd, mul_assoc, 
 use native.Mathlib.Omega.{arith}
 use lib.Dec.{eqb, ltb}
 use borrow.Author.Tests.{lt-ltb, le-ltb, eq-eqb, ne_eqb, eqb-true, eqb-false}
-use Rattle.ternary.specs.Laws.Powers.{power-add, power_le, power_pos, nine-le, nine-split}
+use Rattle.ternary.proofs.Laws.Powers.{power-add, power_le, power_pos, nine-le, nine-split}
 use Rattle.ternary.specs.Weave.{weave, row_in, column_in}
-use Rattle.ternary.specs.Laws.Weave.{weave-shift, cell-part, row_more, column-more}
+use Rattle.ternary.proofs.Laws.Weave.{weave-shift, cell-part, row_more, column-more}
 use Rattle.cell.specs.declared.Cell.{Cell}
 use Rattle.cell.specs.declared.Arrangement.{Arrangement}
 use Rattle.cell.specs.Cell.{IsCell, IsArrangement}
 use Rattle.code.specs.declared.Split.TheVariants as split-as
 use Rattle.code.specs.Code.{cell_split, arrangement_of, is_of, is_cell_code, cell_code_refusal, path_in, cell_code, cell_code_at, code_at, code_of}
-use Rattle.code.specs.Laws.Code.{path-weave, path-in-small, cell-code-passes, cell-code-stops}
+use Rattle.code.proofs.Laws.Code.{path-weave, path-in-small, cell-code-passes, cell-code-stops}
 
 -- a face has a whole number of cells of each size, so the face need not be taken off
 pub rest-cut : (n j : ℕ) → j ≤ 15 → n % 9 ^ 15 % 9 ^ j ≡ n % 9 ^ j

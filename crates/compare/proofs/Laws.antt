@@ -14,9 +14,9 @@ use Rattle.console.specs.Input.{Fits}
 use Rattle.console.specs.Names.{NamesWritten}
 use Rattle.report.specs.Put.{Put}
 use Rattle.report.specs.Lines.{number_line}
-use Rattle.report.specs.Laws.Put.{put-taken}
+use Rattle.report.proofs.Laws.Put.{put-taken}
 use Rattle.comparing.specs.Compare.{ThreeLists, lists, shared_codes, compare_place}
-use Rattle.comparing.specs.Laws.Answer.{AllInFront}
+use Rattle.comparing.proofs.Laws.Answer.{AllInFront}
 use Rattle.compare.specs.Loaded.{bytes_of}
 use Rattle.compare.specs.declared.Shown.{Shown}
 use Rattle.compare.specs.Printed.{ListingWritten, ThreePrinted, ListingsWritten}

@@ -16,7 +16,7 @@ use Rattle.cell.specs.declared.Cell.{Cell}
 use Rattle.code.specs.Code.{code_of}
 use Rattle.reading.specs.Ground.{size_sum}
 use Rattle.reading.specs.TextReading.{nodes_of, north_of, south_of, text_arrangement}
-use Rattle.reading.specs.Laws.TextReading.{good-nodes}
+use Rattle.reading.proofs.Laws.TextReading.{good-nodes}
 use Rattle.reading.specs.declared.Profile.{Profile}
 use Rattle.reader.specs.Check.{text_refusal, place_with}
 use Rattle.reader.specs.Laws.Answer.{TextChecked, TextRefused, checked-arrangement}
@@ -26,7 +26,7 @@ use Rattle.comparing.specs.declared.Compared.{Compared}
 use Rattle.comparing.specs.declared.Compared.TheVariants.{Listings, Refused}
 use Rattle.comparing.specs.Compare.{first_only, second_only, in_both, ThreeLists, codes_for, shared_codes, with_codes, Compares}
 use Rattle.comparing.specs.Compare.{arrangements_differ, room_short, compare_refusal, compare_place, compared}
-use Rattle.comparing.specs.Laws.Compare.{first-tie, second-tie}
+use Rattle.comparing.proofs.Laws.Compare.{first-tie, second-tie}
 use Rattle.comparing.specs.Internal.Found.{WasRead, TextsMeasured, TextsFound, tied_up}
 
 -- ---- refused: nothing is changed

@@ -6,7 +6,7 @@ use Prim.Native.Nat.{ℕ, ◌+◌, ◌-◌, ◌^◌}
 use native.Mathlib.Omega.{arith}
 use lib.ListN.{set}
 use Rattle.logic.specs.Laws.Bools.{clash}
-use Rattle.ternary.specs.Laws.Powers.{nine-pos}
+use Rattle.ternary.proofs.Laws.Powers.{nine-pos}
 use Rattle.cell.specs.declared.Arrangement.{Arrangement}
 use Rattle.code.specs.Number.{code_as}
 use Rattle.walk.specs.Walk.{spot}

@@ -10,8 +10,8 @@ use Rattle.logic.specs.Laws.Order.{lt-or}
 use Rattle.reading.specs.declared.Level.{Level}
 use Rattle.reading.specs.declared.Level.TheVariants.{Digits}
 use Rattle.reading.specs.Reading.{Nodes, end, whole, listed, first, many, render}
-use Rattle.reading.specs.Laws.Reading.{first-big}
-use Rattle.reading.specs.Laws.Parse.{Stop}
+use Rattle.reading.proofs.Laws.Reading.{first-big}
+use Rattle.reading.proofs.Laws.Parse.{Stop}
 use Rattle.walk.specs.Laws.Walk.{byte_at}
 use Rattle.comparing.specs.declared.Child.{Child}
 use Rattle.comparing.specs.Shared.{Portion, none, all, some, portion_number, of_child, past_child}

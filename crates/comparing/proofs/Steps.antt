@@ -10,15 +10,15 @@ use lib.Dec.{eqb}
 use lib.Seq.{sets}
 use Rattle.logic.specs.Laws.Bools.{by_cond, clash, or_right}
 use Rattle.logic.specs.Laws.Stores.{sets-append}
-use Rattle.ternary.specs.Laws.Powers.{nine-le, nine-add}
+use Rattle.ternary.proofs.Laws.Powers.{nine-le, nine-add}
 use Rattle.cell.specs.declared.Arrangement.{Arrangement}
 use Rattle.reading.specs.declared.Level.{Level}
 use Rattle.reading.specs.declared.Level.TheVariants.{Digits}
 use Rattle.reading.specs.Reading.{Nodes, end, whole, listed, many, room}
-use Rattle.reading.specs.Laws.Reading.{room-le}
+use Rattle.reading.proofs.Laws.Reading.{room-le}
 use Rattle.walk.specs.declared.Spot.{Spot}
 use Rattle.walk.specs.Walk.{spot, spots_in}
-use Rattle.listing.specs.Laws.List.{spot_code}
+use Rattle.listing.proofs.Laws.List.{spot_code}
 use Rattle.comparing.specs.declared.Child.{Child}
 use Rattle.comparing.specs.declared.Cursor.{Cursor}
 use Rattle.comparing.specs.Shared.{Portion, none, all, some, portion_number, of_child, past_child, divides, divided, wanted, holding, node_shared, side_shared, below_shared}

@@ -12,12 +12,12 @@ use Rattle.reading.specs.declared.Level.TheVariants.{Faces}
 use Rattle.reading.specs.Reading.{Nodes, render, Good}
 use Rattle.reading.specs.Ground.{whole_cells, size_sum}
 use Rattle.reading.specs.TextReading.{nodes_of}
-use Rattle.reading.specs.Laws.Demand.{good-reads, good-cells}
-use Rattle.reading.specs.Laws.Fewest.{names-good}
-use Rattle.reading.specs.Laws.TextReading.{good-nodes, body-nodes}
+use Rattle.reading.proofs.Laws.Demand.{good-reads, good-cells}
+use Rattle.reading.proofs.Laws.Fewest.{names-good}
+use Rattle.reading.proofs.Laws.TextReading.{good-nodes, body-nodes}
 use Rattle.walk.specs.Walk.{spot_of, spots_in}
 use Rattle.walk.specs.Laws.Walk.{spots-cells}
-use Rattle.listing.specs.Laws.List.{spot_code, spot-codes}
+use Rattle.listing.proofs.Laws.List.{spot_code, spot-codes}
 use Rattle.comparing.specs.declared.Cursor.{Cursor}
 use Rattle.comparing.specs.declared.Read.{Read}
 use Rattle.comparing.specs.Shared.{some, shared}

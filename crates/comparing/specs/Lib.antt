@@ -1,4 +1,3 @@
 pub mod Compare
 pub mod Internal
-pub mod Laws
 pub mod Shared

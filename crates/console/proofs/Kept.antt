@@ -14,7 +14,7 @@ use Rattle.history.specs.Settings.{read_refusal}
 use Rattle.history.specs.History.{empty, placed, read_of}
 use Rattle.encoding.specs.declared.Decoded.{Decoded}
 use Rattle.encoding.specs.Decoding.{decoded_of}
-use Rattle.encoding.specs.Laws.Encoding.{decode-nothing}
+use Rattle.encoding.proofs.Laws.Encoding.{decode-nothing}
 use Rattle.console.specs.declared.Arguments.{Arguments}
 use Rattle.console.specs.declared.Arguments.TheVariants.{Good, Wrong}
 use Rattle.console.specs.declared.Loaded.{Loaded}

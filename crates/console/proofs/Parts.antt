@@ -7,8 +7,8 @@ use lib.ListN.{length, take, drop, length-drop}
 use lib.Seq.{take_all}
 use Rattle.report.specs.declared.Names.{Names}
 use Rattle.report.specs.Names.{names_of, NamesPut}
-use Rattle.report.specs.Laws.Names.{names-some, names-all}
-use Rattle.report.specs.Laws.Put.{put-taken}
+use Rattle.report.proofs.Laws.Names.{names-some, names-all}
+use Rattle.report.proofs.Laws.Put.{put-taken}
 
 module _ (codes out later : List ℕ) (from end : ℕ) (r : Names) (h : from < length codes) (q : NamesPut (take (length codes - from) (drop from codes)) out later r) where
   part : take (length codes - from) (drop from codes) ≡ drop from codes

@@ -2,6 +2,5 @@ pub mod Arguments
 pub mod Beside
 pub mod History
 pub mod Input
-pub mod Laws
 pub mod Names
 pub mod Room

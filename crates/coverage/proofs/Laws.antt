@@ -15,21 +15,21 @@ use Rattle.logic.specs.Laws.Refusal.{stops, passes, allowed}
 use Rattle.code.specs.declared.Coded.{Coded}
 use Rattle.code.specs.declared.Coded.TheVariants as coded-as
 use Rattle.code.specs.Code.{coded, code_in, refusal_in, is_code, is_of}
-use Rattle.code.specs.Laws.Code.{code-passes}
+use Rattle.code.proofs.Laws.Code.{code-passes}
 use Rattle.decimal.specs.Decimal.{trimmed}
-use Rattle.decimal.specs.Laws.Long.{trimmed-length, trimmed-take}
+use Rattle.decimal.proofs.Laws.Long.{trimmed-length, trimmed-take}
 use Rattle.name.specs.Name.{name_refusal, name_code, first_letter, all_digits}
 use Rattle.name.specs.Laws.Name.{accepted, name-code-is}
 use Rattle.lines.specs.Fold.{OfBytes, OfEnded}
 use Rattle.gathering.specs.Gather.{gathered}
-use Rattle.gathering.specs.Laws.Gather.{Holds, text-alike, refused-alike}
+use Rattle.gathering.proofs.Laws.Gather.{Holds, text-alike, refused-alike}
 use Rattle.writing.specs.Write.{asks_for}
 use Rattle.lines.specs.Laws.Fold.{then-line, then-last, then-none}
 use Rattle.console.specs.declared.LineRead.TheVariants.{Line, Last}
 use Rattle.console.specs.Input.{Given}
 use Rattle.report.specs.Put.{Put}
 use Rattle.report.specs.Lines.{number_line}
-use Rattle.report.specs.Laws.Put.{put-taken}
+use Rattle.report.proofs.Laws.Put.{put-taken}
 use Rattle.cell.specs.declared.Arrangement.{Arrangement}
 use Rattle.cell.specs.Cell.{IsArrangement}
 use Rattle.reading.specs.TextReading.{text_arrangement}
@@ -39,7 +39,7 @@ use Rattle.asking.specs.Ask.{asked, ask_refusal}
 use Rattle.listing.specs.declared.Listed.{Listed}
 use Rattle.listing.specs.declared.Listed.TheVariants as listed_by
 use Rattle.listing.specs.List.{codes_of, codes_in, listing_refusal, listed}
-use Rattle.listing.specs.Laws.Listed.{listed-allowed, listed-taken, listed-refused}
+use Rattle.listing.proofs.Laws.Listed.{listed-allowed, listed-taken, listed-refused}
 use Rattle.coverage.specs.declared.NamesRead.{NamesRead}
 use Rattle.coverage.specs.declared.Text.{Text}
 use Rattle.coverage.specs.declared.Form.{Form}

@@ -18,7 +18,7 @@ use Rattle.rescue.specs.declared.Rescued.{Rescued}
 use Rattle.rescue.specs.declared.Rescued.TheVariants.{Done, Refused}
 use Rattle.rescue.specs.Rescue.{flat, changes_of, rescue_refusal, told, RescueIs}
 use Rattle.rescue.specs.Laws.Flat.{flat-length}
-use Rattle.rescue.specs.Laws.Room.{never-short}
+use Rattle.rescue.proofs.Laws.Room.{never-short}
 use Rattle.coverage.specs.declared.RescueRooms.{RescueRooms}
 use Rattle.coverage.specs.Rescued.{RescueLeft}
 

@@ -13,7 +13,7 @@ use Rattle.rescue.specs.Rescue.{flat}
 use Rattle.rescue.specs.Laws.Flat.{flat-length, flat-at}
 use Rattle.report.specs.Put.{Put}
 use Rattle.report.specs.Changes.{change_line}
-use Rattle.report.specs.Laws.Put.{put-taken}
+use Rattle.report.proofs.Laws.Put.{put-taken}
 use Rattle.console.specs.Room.{start_for}
 use Rattle.coverage.specs.Rescued.{change_lines, ChangesWritten}
 

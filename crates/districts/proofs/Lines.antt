@@ -13,9 +13,9 @@ use Rattle.cell.specs.declared.Cell.{Cell}
 use Rattle.cell.specs.declared.Arrangement.{Arrangement}
 use Rattle.cell.specs.Cell.{IsArrangement}
 use Rattle.code.specs.Code.{cell_of}
-use Rattle.code.specs.Laws.Code.{code-passes}
+use Rattle.code.proofs.Laws.Code.{code-passes}
 use Rattle.code.specs.Number.{code_as, cell_as}
-use Rattle.code.specs.Laws.Number.{as_code, as-cell}
+use Rattle.code.proofs.Laws.Number.{as_code, as-cell}
 use Rattle.name.specs.Name.{name_of}
 use Rattle.decimal.specs.Decimal.{printed}
 use Rattle.reading.specs.Ground.{whole_cells}
@@ -25,7 +25,7 @@ use Rattle.report.specs.Put.{Put}
 use Rattle.report.specs.Lines.{number_line}
 use Rattle.report.specs.Names.{name_bytes}
 use Rattle.summary.specs.Summary.{counters_of, kept_counters}
-use Rattle.summary.specs.Laws.Counters.{counter_at, counter-most, counters-length}
+use Rattle.summary.proofs.Laws.Counters.{counter_at, counter-most, counters-length}
 use Rattle.districts.specs.Districts.{share_line, district_line, district_lines, AtMostFull, lines_with, summary_lines}
 
 -- the same bytes by another name

@@ -13,7 +13,7 @@ use Rattle.code.specs.Code.{coded, code_in, refusal_in}
 use Rattle.name.specs.Name.{name_refusal, name_code}
 use Rattle.reading.specs.Ground.{whole_cells}
 use Rattle.reading.specs.TextReading.{nodes_of, text_arrangement}
-use Rattle.reading.specs.Laws.TextReading.{text-arranged}
+use Rattle.reading.proofs.Laws.TextReading.{text-arranged}
 use Rattle.reader.specs.Check.{text_refusal, place_with}
 use Rattle.reader.specs.Laws.Answer.{text-read}
 use Rattle.report.specs.Lines.{number_line}
@@ -21,7 +21,7 @@ use Rattle.summary.specs.declared.Summarized.{Summarized}
 use Rattle.summary.specs.declared.Summarized.TheVariants as summarized-as
 use Rattle.summary.specs.declared.Questioned.{Questioned}
 use Rattle.summary.specs.Summary.{counters_of, summarized, question_refusal, questioned}
-use Rattle.summary.specs.Laws.Answer.{kept-text}
+use Rattle.summary.proofs.Laws.Answer.{kept-text}
 use Rattle.districts.specs.Question.{kept_arrangement, name_question_refusal, question_place, questioned_name, question_line, refusal_of}
 
 -- what is kept is an arrangement

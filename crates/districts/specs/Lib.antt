@@ -1,3 +1,2 @@
 pub mod Districts
-pub mod Laws
 pub mod Question

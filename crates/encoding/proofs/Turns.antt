@@ -13,7 +13,7 @@ use Rattle.fields.specs.declared.NumberRead.TheVariants as number-as
 use Rattle.fields.specs.Form.{Form, done, number}
 use Rattle.fields.specs.Read.{Read, wrong, behind, read_as}
 use Rattle.fields.specs.Number.{number_at, by_number}
-use Rattle.fields.specs.Laws.Places.{behind-none, number_read, end_read, more-read}
+use Rattle.fields.proofs.Laws.Places.{behind-none, number_read, end_read, more-read}
 use Rattle.history.specs.declared.Settings.{Settings}
 use Rattle.history.specs.declared.History.{History}
 use Rattle.encoding.specs.declared.SettingsRead.TheVariants.{Is, Wrong}

@@ -1,4 +1,3 @@
 pub mod Decoding
 pub mod Encoding
 pub mod Internal
-pub mod Laws

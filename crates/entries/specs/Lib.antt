@@ -1,7 +1,6 @@
 pub mod Batches
 pub mod Corners
 pub mod Entries
-pub mod Laws
 pub mod Order
 pub mod Plotter
 pub mod Refusals

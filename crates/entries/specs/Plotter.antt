@@ -1,7 +1,7 @@
 -- The answers of the plotter's entries (02, W-214) as numbers, and 01's table of refusals for them. Assumes nothing.
 use Rattle.std.specs.Prelude.{◌≡◌, ◌⊎◌, false, List, [], ◌∷◌, ℕ, ◌<◌, ℤ, pos, Float}
 use Rattle.std.specs.Float.{fin, nan}
-use Rattle.code.specs.Laws.Exact.{NoCell}
+use Rattle.code.proofs.Laws.Exact.{NoCell}
 use Rattle.metres.specs.Metres.{IsSide}
 use Rattle.plotter.specs.declared.Frame.{Frame}
 use Rattle.plotter.specs.declared.Mark.{Mark}

@@ -4,7 +4,7 @@ use Rattle.std.specs.Prelude.{◌≡◌, ◌⊎◌, List, [], ◌∷◌, map, �
 use Rattle.logic.specs.Lists.{Any}
 use Rattle.logic.specs.Rise.{Rise}
 use Rattle.code.specs.Code.{cell_of, arrangement_of}
-use Rattle.code.specs.Laws.Exact.{NoCell}
+use Rattle.code.proofs.Laws.Exact.{NoCell}
 use Rattle.name.specs.Name.{name_of}
 use Rattle.corner.specs.List.{codes_at}
 use Rattle.plane.specs.Plane.{face_side, half, three_halves}
@@ -13,7 +13,7 @@ use Rattle.authalic.specs.Authalic.{Geodetic}
 use Rattle.geodetic.specs.GeodeticFix.{GeodeticRange}
 use Rattle.reading.specs.Ground.{Apart}
 use Rattle.reading.specs.Text.{Accepted}
-use Rattle.reading.specs.Laws.Written.{TextOf}
+use Rattle.reading.proofs.Laws.Written.{TextOf}
 use Rattle.reading.specs.TextReading.{profile_of, north_of, south_of}
 use Rattle.reader.specs.Check.{WrongVersion}
 use Rattle.listing.specs.List.{codes_of}

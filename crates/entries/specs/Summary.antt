@@ -1,7 +1,7 @@
 -- The answers of the summary's entries (02, W-207) as numbers, and the table of refusals for them. Assumes nothing.
 use Rattle.std.specs.Prelude.{◌≡◌, ◌⊎◌, cond, List, [], ◌∷◌, ℕ, ◌<◌}
 use Rattle.code.specs.Code.{cell_of, arrangement_of}
-use Rattle.code.specs.Laws.Exact.{NoCell}
+use Rattle.code.proofs.Laws.Exact.{NoCell}
 use Rattle.reader.specs.Check.{text_refusal}
 use Rattle.summary.specs.declared.Summarized.{Summarized}
 use Rattle.summary.specs.declared.Summarized.TheVariants as summarized-as

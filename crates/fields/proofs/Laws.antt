@@ -1,3 +1,7 @@
+pub mod Number
+pub mod Places
+pub mod Read
+
 -- A number read byte by byte: what stands at each turn of the loop, and what each test makes of the answer. Assumes nothing.
 use mathlib.Core.Path.{◌≡◌, refl, sym, ap, ap₂, ◌∙◌}
 use mathlib.Core.Bool.{cond}
@@ -12,7 +16,7 @@ use lib.Seq.{sets, set_comm, take-suc, drop-cons, drop-drop, get_or-drop}
 use borrow.Author.Tests.{le-leb, lt-leb, lt-ltb, le-ltb}
 use Rattle.logic.specs.Laws.Stores.{sets-append}
 use Rattle.ternary.specs.Digits.{value, digits}
-use Rattle.ternary.specs.Laws.Digits.{value-snoc, length_digits}
+use Rattle.ternary.proofs.Laws.Digits.{value-snoc, length_digits}
 use Rattle.fields.specs.declared.NumberRead.{NumberRead}
 use Rattle.fields.specs.declared.NumberRead.TheVariants.{Is, Wrong}
 use Rattle.fields.specs.Read.{reach}

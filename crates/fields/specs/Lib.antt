@@ -1,4 +1,3 @@
 pub mod Form
-pub mod Laws
 pub mod Number
 pub mod Read

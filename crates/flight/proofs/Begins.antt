@@ -13,20 +13,20 @@ use Rattle.logic.specs.Laws.Bools.{clash}
 use Rattle.logic.specs.Laws.Refusal.{passes}
 use Rattle.cell.specs.declared.Arrangement.{Arrangement}
 use Rattle.cell.specs.Cell.{IsArrangement, arrangement_refusal}
-use Rattle.cell.specs.Laws.Cell.{arrangement-is}
+use Rattle.cell.proofs.Laws.Cell.{arrangement-is}
 use Rattle.code.specs.Code.{is_code, is_cell_code}
 use Rattle.reading.specs.declared.Profile.TheVariants.{Full}
 use Rattle.reading.specs.Text.{ReadsAs, heading_length}
 use Rattle.reading.specs.TextReading.{is_text, profile_of, body_start}
 use Rattle.reading.specs.Written.{built, side, nodes_for, written_text, fitting, keeps}
-use Rattle.reading.specs.Laws.TextReading.{read-text, read-profile}
-use Rattle.reading.specs.Laws.Written.{written-reads}
+use Rattle.reading.proofs.Laws.TextReading.{read-text, read-profile}
+use Rattle.reading.proofs.Laws.Written.{written-reads}
 use Rattle.writing.specs.declared.Written.{Written}
 use Rattle.writing.specs.declared.Written.TheVariants as written_as
 use Rattle.writing.specs.Write.{all_codes, all_of, ordered, codes_refusal, is_version, text_of, fit_refusal, write_refusal, text_in, written}
 use Rattle.adding.specs.Add.{text_with, Holding}
 use Rattle.adding.specs.InMind.{InMind}
-use Rattle.adding.specs.Laws.InMind.{near-faces}
+use Rattle.adding.proofs.Laws.InMind.{near-faces}
 use Rattle.flight.specs.declared.Recording.{Recording}
 use Rattle.flight.specs.Recording.{Records}
 

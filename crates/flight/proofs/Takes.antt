@@ -15,12 +15,12 @@ use Rattle.cell.specs.declared.Cell.{Cell}
 use Rattle.code.specs.declared.Coded.{Coded}
 use Rattle.code.specs.declared.Coded.TheVariants as coded-as
 use Rattle.code.specs.Code.{is_code, cell_of}
-use Rattle.code.specs.Laws.Code.{code-is-cell}
+use Rattle.code.proofs.Laws.Code.{code-is-cell}
 use Rattle.reading.specs.declared.Profile.TheVariants as profile-as
 use Rattle.adding.specs.declared.Added.{Added}
 use Rattle.adding.specs.declared.Added.TheVariants as added-as
 use Rattle.adding.specs.Add.{text_with, keeps_with, size_refusal, with_refusal, resized, placed, Holding, Gains}
-use Rattle.adding.specs.Laws.Add.{full-keeps, with-again}
+use Rattle.adding.proofs.Laws.Add.{full-keeps, with-again}
 use Rattle.flight.specs.declared.Recording.{Recording}
 use Rattle.flight.specs.declared.Taken.{Taken}
 use Rattle.flight.specs.declared.Taken.TheVariants.{Fix, Refused}

@@ -1,4 +1,3 @@
 pub mod Flight
-pub mod Laws
 pub mod Recording
 pub mod Setting

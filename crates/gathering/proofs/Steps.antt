@@ -15,12 +15,12 @@ use Rattle.cell.specs.declared.Arrangement.{Arrangement}
 use Rattle.code.specs.declared.Split.{Split}
 use Rattle.code.specs.declared.Split.TheVariants.{Parts, Refused}
 use Rattle.code.specs.Code.{cell_of, cell_coded, cell_split, split, path_of, is_code, code_refusal}
-use Rattle.code.specs.Laws.Code.{coded-path, code-is-cell, code-passes}
+use Rattle.code.proofs.Laws.Code.{coded-path, code-is-cell, code-passes}
 use Rattle.code.specs.Number.{number_of, code_as}
-use Rattle.ternary.specs.Laws.Powers.{nine-le}
+use Rattle.ternary.proofs.Laws.Powers.{nine-le}
 use Rattle.gathering.specs.Gather.{follows, merges, gathered_as, gathered}
-use Rattle.gathering.specs.Laws.Gather.{merges-finer, merges-ends, gathered-merges, gathered-stays}
-use Rattle.gathering.specs.Laws.Bare.{number_small}
+use Rattle.gathering.proofs.Laws.Gather.{merges-finer, merges-ends, gathered-merges, gathered-stays}
+use Rattle.gathering.proofs.Laws.Bare.{number_small}
 
 -- a number of a cell is one of k + 1 digits
 pub number-wide : (k n : ℕ) → n < 6 * 9 ^ k → n < 9 ^ (k + 1)

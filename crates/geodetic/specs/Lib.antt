@@ -1,2 +1,1 @@
 pub mod GeodeticFix
-pub mod Laws

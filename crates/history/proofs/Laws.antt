@@ -1,3 +1,9 @@
+pub mod History
+pub mod Run
+pub mod Settings
+pub mod Valid
+pub mod WrongKeepers
+
 -- What each test of the functions makes of the answer. Assumes nothing.
 use mathlib.Core.Path.{◌≡◌, refl, sym, ap, ◌∙◌}
 use mathlib.Core.Bool.{Bool, true, false}

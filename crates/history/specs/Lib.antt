@@ -1,5 +1,4 @@
 pub mod History
-pub mod Laws
 pub mod Log
 pub mod Settings
 pub mod Valid

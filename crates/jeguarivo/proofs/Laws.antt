@@ -9,11 +9,11 @@ use Rattle.cell.specs.declared.Found.{Found}
 use Rattle.cell.specs.declared.Found.TheVariants as found_as
 use Rattle.cell.specs.declared.Arrangement.{Arrangement}
 use Rattle.cell.specs.Cell.{IsCell, IsArrangement, cell_refusal, found}
-use Rattle.cell.specs.Laws.Cell.{cell-is}
-use Rattle.cell.specs.Laws.Found.{found-refused}
+use Rattle.cell.proofs.Laws.Cell.{cell-is}
+use Rattle.cell.proofs.Laws.Found.{found-refused}
 use Rattle.code.specs.Code.{code_of, cell_of, arrangement_of, code_refusal, coded, found_code}
-use Rattle.code.specs.Laws.Code.{code-arranged, found-coded}
-use Rattle.code.specs.Laws.Decoded.{Decoded, decoded}
+use Rattle.code.proofs.Laws.Code.{code-arranged, found-coded}
+use Rattle.code.proofs.Laws.Decoded.{Decoded, decoded}
 use Rattle.entries.specs.Entries.{code_answer, coded_answer, placed_answer}
 
 -- ---- codes as answers

@@ -13,7 +13,7 @@ use Rattle.reading.specs.declared.Profile.{Profile}
 use Rattle.reader.specs.Laws.Answer.{TextChecked, TextRefused}
 use Rattle.listing.specs.declared.Listed.TheVariants.{Count, Refused}
 use Rattle.listing.specs.List.{codes_of, listing_refusal, listed}
-use Rattle.listing.specs.Laws.List.{listed-count}
+use Rattle.listing.proofs.Laws.List.{listed-count}
 
 module _ {t : List ℕ} {p : Profile} {n s c z b : ℕ} (r : TextChecked t p n s c z b) where
   pub counted : c ≡ length (codes_of t)

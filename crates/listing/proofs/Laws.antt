@@ -1,3 +1,6 @@
+pub mod List
+pub mod Listed
+
 -- Codes put one behind the other along the walk: those that were put, and those of what is left of the text, are the text's. Assumes nothing.
 use mathlib.Core.Path.{◌≡◌, refl, sym, ap, ap₂, ◌∙◌}
 use mathlib.Core.Logic.{⊎_elim}
@@ -16,7 +19,7 @@ use Rattle.walk.specs.declared.Spot.{Spot}
 use Rattle.walk.specs.Walk.{origin, after, whole_at, walk, Walks}
 use Rattle.walk.specs.Laws.Walk.{walks-start, walks-on, past-whole, past-other, walked, byte_at}
 use Rattle.listing.specs.List.{codes_of}
-use Rattle.listing.specs.Laws.List.{spot_code, walk-codes}
+use Rattle.listing.proofs.Laws.List.{spot_code, walk-codes}
 
 -- what holds before the byte at i, with `count` codes put
 pub record Lists (t codes₀ codes : List ℕ) (count i : ℕ) (s : Spot) : Type 0 where

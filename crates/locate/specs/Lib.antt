@@ -1,3 +1,2 @@
 pub mod Fix
 pub mod Internal
-pub mod Laws

@@ -9,12 +9,12 @@ use lib.Dec.{leb, ltb, eqb}
 use borrow.Author.Tests.{lt-leb, le-leb, lt-ltb, le-ltb, eq-eqb, ne_eqb}
 use Rattle.logic.specs.Laws.Bools.{and_none}
 use Rattle.cell.specs.declared.Arrangement.{Arrangement}
-use Rattle.reading.specs.Laws.Heading.{lead-length, lead-bounds}
+use Rattle.reading.proofs.Laws.Heading.{lead-length, lead-bounds}
 use Rattle.loose.specs.declared.Looked.TheVariants.{Loose, Refused}
 use Rattle.loose.specs.LooseScan.{least_one, greatest_one, lead_one, scan, depth, loose_place}
 use Rattle.loose.specs.Look.{not_one, is_loose, loose_refusal, looked}
-use Rattle.loose.specs.Laws.Scan.{scan-most}
-use Rattle.loose.specs.Laws.Look.{refusal-13, refusal-10, refusal-9, refusal-0, version-short, version-early, version-late, version-other}
+use Rattle.loose.proofs.Laws.Scan.{scan-most}
+use Rattle.loose.proofs.Laws.Look.{refusal-13, refusal-10, refusal-9, refusal-0, version-short, version-early, version-late, version-other}
 
 module _ (t : List ℕ) where
   pub long-answer : 65536 < length t → Refused 13 0 ≡ looked (loose_refusal t) t

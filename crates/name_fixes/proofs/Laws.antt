@@ -12,7 +12,7 @@ use Rattle.lines.specs.Laws.Fold.{then-line, then-last, then-none}
 use Rattle.code.specs.declared.Coded.{Coded}
 use Rattle.flight.specs.declared.Setting.{Setting}
 use Rattle.flight.specs.Flight.{line_code}
-use Rattle.flight.specs.Laws.Cut.{cut_line}
+use Rattle.flight.proofs.Laws.Cut.{cut_line}
 use Rattle.report.specs.Answer.{answer_of, answer_line}
 use Rattle.console.specs.declared.Room.{Room}
 use Rattle.console.specs.declared.Room.TheVariants.{From}

@@ -5,7 +5,7 @@ use Prim.Native.Nat.{ℕ, ◌+◌, ◌-◌, ◌*◌, ◌/◌, ◌^◌, ◌≤◌
 use native.Mathlib.Nat.{mul-le-mul, mul_left_comm, mul-mul-mul_comm, mul-pos, mul-lt-mul_of_pos_left, mul-div-mul_left}
 use native.Mathlib.Omega.{arith}
 use lib.IntN.{sub_ℕ}
-use Rattle.ternary.specs.Laws.Powers.{power-add}
+use Rattle.ternary.proofs.Laws.Powers.{power-add}
 use Rattle.nucleus.specs.Nucleus.{floor_z, north_z, south_z}
 use Rattle.nucleus.specs.Internal.Caps.{cap_z}
 use Rattle.nucleus.specs.Internal.FlooredLaws.{floor-times}

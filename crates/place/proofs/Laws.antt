@@ -14,7 +14,7 @@ use borrow.Author.Tests.{lt-ltb, le-ltb, le-leb, lt-leb, eq-eqb, ne_eqb}
 use Rattle.reading.specs.declared.Level.{Level}
 use Rattle.reading.specs.declared.Level.TheVariants.{Faces, Belt, Digits}
 use Rattle.reading.specs.Reading.{first, many, room}
-use Rattle.reading.specs.Laws.Reading.{many-most}
+use Rattle.reading.proofs.Laws.Reading.{many-most}
 use Rattle.reading.specs.Scan.{frame, State, at, Next, stop, on, step, go_on, scan, start}
 use Rattle.place.specs.Internal.Stack.{here_of, stack, stands_at, may_open, may_shut, may_stand}
 use Rattle.place.proofs.Steps.{stack_set, stack-set-whole, stack-more, step-open, step-shut, step-stand, open-deeper, stand-from, stand-below}

@@ -12,7 +12,7 @@ use borrow.Author.Tests.{eq-eqb, ne_eqb, eqb-false, ltb-false, leb-false, not-tr
 use Rattle.logic.specs.Laws.Bools.{and_left, and_right}
 use Rattle.reading.specs.declared.Level.{Level}
 use Rattle.reading.specs.Reading.{first, many, room}
-use Rattle.reading.specs.Laws.Reading.{room-le}
+use Rattle.reading.proofs.Laws.Reading.{room-le}
 use Rattle.reading.specs.Scan.{Frame, frame, at, Next, stop, on, level, open_list, shut_list, stand_node, step}
 use Rattle.place.specs.Internal.Stack.{here_of, stack, stands_at, may_open, may_shut, may_stand}
 

@@ -1,4 +1,2 @@
-pub mod Largest
 pub mod Length
 pub mod Thinning
-pub mod Wholes

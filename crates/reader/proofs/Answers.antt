@@ -16,9 +16,9 @@ use Rattle.reading.specs.Scan.{scan, start}
 use Rattle.reading.specs.Place.{place_by, place_of}
 use Rattle.reading.specs.Text.{IsProfile, level_of, depth_of, heading_length}
 use Rattle.reading.specs.Heading.{least, greatest, lead, profile_in}
-use Rattle.reading.specs.Laws.TextReading.{accepted-read, read-profile}
-use Rattle.reading.specs.Laws.Heading.{heading-least, lead-length, lead-bounds, head_of}
-use Rattle.reading.specs.Laws.Fits.{depth-most}
+use Rattle.reading.proofs.Laws.TextReading.{accepted-read, read-profile}
+use Rattle.reading.proofs.Laws.Heading.{heading-least, lead-length, lead-bounds, head_of}
+use Rattle.reading.proofs.Laws.Fits.{depth-most}
 use Rattle.reading.specs.Report.{count, size_along}
 use Rattle.reading.specs.TextReading.{was_read, is_text, no_text, as_text, to_end, read_by, read_text}
 use Rattle.reader.specs.declared.Checked.TheVariants.{Text, Refused}

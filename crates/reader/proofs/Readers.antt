@@ -12,7 +12,7 @@ use Rattle.reading.specs.declared.Level.TheVariants.{Faces, Belt, Digits}
 use Rattle.reader.specs.declared.NodesRead.{NodesRead}
 use Rattle.reader.specs.declared.NodesRead.TheVariants.{Bad, Read}
 use Rattle.reading.specs.Reading.{first, many, room}
-use Rattle.reading.specs.Laws.Reading.{many-most}
+use Rattle.reading.proofs.Laws.Reading.{many-most}
 use Rattle.reader.specs.Internal.NodesRead.{ReadsNode, ReadsNodes}
 use Rattle.reader.proofs.Steps as st
 use Rattle.reader.proofs.Steps.{plus}

@@ -14,9 +14,9 @@ use Rattle.reading.specs.declared.Level.{Level}
 use Rattle.reading.specs.declared.Level.TheVariants.{Digits}
 use Rattle.reading.specs.Reading.{Nodes, end, whole, listed, first, many, room, wholes, render, Some}
 use Rattle.reading.specs.Parse.{Parse, bad, got, Item, wrong, bare, held, close, item, add_whole, add_listed, then, parse}
-use Rattle.reading.specs.Laws.Parse.{Right, RightItem, sound, item-right, drop-rest}
+use Rattle.reading.proofs.Laws.Parse.{Right, RightItem, sound, item-right, drop-rest}
 use Rattle.reading.specs.Report.{count, size_along}
-use Rattle.reading.specs.Laws.Report.{size-most, count_most}
+use Rattle.reading.proofs.Laws.Report.{size-most, count_most}
 use Rattle.reader.specs.declared.NodesRead.{NodesRead}
 use Rattle.reader.specs.declared.NodesRead.TheVariants.{Bad, Read}
 use Rattle.reader.specs.Internal.NodesRead.{of_nodes, of_node}

@@ -1,1 +1,3 @@
+pub mod Laws
+pub mod Internal
 pub mod Head

@@ -2,7 +2,6 @@ pub mod Fewest
 pub mod Ground
 pub mod Heading
 pub mod Internal
-pub mod Laws
 pub mod Letters
 pub mod Loose
 pub mod Parse

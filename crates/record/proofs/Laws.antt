@@ -14,7 +14,7 @@ use Rattle.logic.specs.Laws.Bools.{clash}
 use Rattle.lines.specs.Fold.{OfBytes, OfEnded}
 use Rattle.lines.specs.Laws.Fold.{then-line, then-last}
 use Rattle.code.specs.declared.Coded.{Coded}
-use Rattle.code.specs.Laws.Code.{code-is-cell}
+use Rattle.code.proofs.Laws.Code.{code-is-cell}
 use Rattle.flight.specs.declared.Recording.{Recording}
 use Rattle.flight.specs.declared.Setting.{Setting}
 use Rattle.flight.specs.declared.Taken.{Taken}
@@ -22,9 +22,9 @@ use Rattle.flight.specs.declared.Taken.TheVariants.{Fix, Refused}
 use Rattle.flight.specs.Flight.{line_code}
 use Rattle.flight.specs.Setting.{setting_refusal}
 use Rattle.flight.specs.Recording.{taken, taken_text, Records, Flown, with_code, with_line}
-use Rattle.flight.specs.Laws.Code.{line-is-code}
-use Rattle.flight.specs.Laws.Recording.{flown_as, taken-flown, refused-bytes, same_text}
-use Rattle.flight.specs.Laws.Cut.{cut_line}
+use Rattle.flight.proofs.Laws.Code.{line-is-code}
+use Rattle.flight.proofs.Laws.Recording.{flown_as, taken-flown, refused-bytes, same_text}
+use Rattle.flight.proofs.Laws.Cut.{cut_line}
 use Rattle.console.specs.declared.LineRead.TheVariants.{Line, Last}
 use Rattle.console.specs.Input.{Given}
 use Rattle.console.specs.declared.Arguments.{Arguments}

@@ -1,3 +1,10 @@
+pub mod Changes
+pub mod History
+pub mod Names
+pub mod Part
+pub mod Put
+pub mod Text
+
 -- A cell's name, where it has room; bytes put into a part of the lent memory; names one after the other. Assumes nothing.
 use mathlib.Core.Path.{◌≡◌, refl, sym, ap, ap₂, ◌∙◌, subst}
 use mathlib.Core.Bool.{Bool}
@@ -15,7 +22,7 @@ use Rattle.logic.specs.Laws.Refusal.{stops, passes, given-value}
 use Rattle.code.specs.declared.Coded.{Coded}
 use Rattle.code.specs.declared.Coded.TheVariants as coded-as
 use Rattle.code.specs.Code.{cell_of, code_refusal}
-use Rattle.code.specs.Laws.Code.{a-code, code-passes, code-is-cell}
+use Rattle.code.proofs.Laws.Code.{a-code, code-passes, code-is-cell}
 use Rattle.name.specs.declared.Named.{Named}
 use Rattle.name.specs.declared.Named.TheVariants.{Length, Refused}
 use Rattle.name.specs.Name.{name_of, name_in, code_name_refusal, named, length_in}
@@ -23,11 +30,11 @@ use Rattle.name.specs.Laws.Name.{length-name}
 use Rattle.decimal.specs.Decimal.{printed}
 use Rattle.flight.specs.declared.Setting.{Setting}
 use Rattle.flight.specs.Flight.{line_code}
-use Rattle.flight.specs.Laws.Code.{line-is-code}
+use Rattle.flight.proofs.Laws.Code.{line-is-code}
 use Rattle.report.specs.Put.{put_at, Put}
 use Rattle.report.specs.Answer.{answer_of, answer_line}
 use Rattle.report.specs.Names.{name_bytes, name_line, names_of}
-use Rattle.report.specs.Laws.Names.{names-append, name-short}
+use Rattle.report.proofs.Laws.Names.{names-append, name-short}
 
 -- ---- a name
 

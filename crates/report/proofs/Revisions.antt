@@ -7,7 +7,7 @@ use lib.ListN.{length}
 use Rattle.history.specs.declared.History.{History}
 use Rattle.report.specs.Put.{Put}
 use Rattle.report.specs.History.{revision_line, last_lines, kept_number, history_lines}
-use Rattle.report.specs.Laws.Put.{put-none, then-put}
+use Rattle.report.proofs.Laws.Put.{put-none, then-put}
 
 -- what is put so far, and the last revisions, are all lines
 pub record Listing (h : History) (out later : List ℕ) (left end : ℕ) : Type 0 where

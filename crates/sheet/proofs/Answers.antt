@@ -23,8 +23,8 @@ use Rattle.sheet.specs.Sheet.{records_of, joined, sheet_of, sheet_refusal, sheet
 use Rattle.sheet.specs.Verdict.{verdict, judged, judged_of}
 use Rattle.sheet.specs.Parts.{StandsAt, start_at, told_of, ours_in, GoesOver, next_records, PartPut}
 use Rattle.sheet.specs.Internal.Compared.{PartCompared}
-use Rattle.sheet.specs.Laws.Bytes.{length-joined}
-use Rattle.sheet.specs.Laws.Stands.{length-records}
+use Rattle.sheet.proofs.Laws.Bytes.{length-joined}
+use Rattle.sheet.proofs.Laws.Stands.{length-records}
 
 -- ---- a part gone over
 

@@ -14,7 +14,7 @@ use Rattle.code.specs.Code.{cell_of, arrangement_of}
 use Rattle.reading.specs.Ground.{whole_cells}
 use Rattle.reading.specs.TextReading.{nodes_of, text_arrangement}
 use Rattle.walk.specs.declared.Spot.{Spot}
-use Rattle.listing.specs.Laws.List.{spot_code}
+use Rattle.listing.proofs.Laws.List.{spot_code}
 use Rattle.sheet.specs.declared.Record.{Record}
 use Rattle.sheet.specs.declared.Next.{Next}
 use Rattle.sheet.specs.declared.Next.TheVariants.{Whole, End}
@@ -24,8 +24,8 @@ use Rattle.sheet.specs.Verdict.{starts, leading}
 use Rattle.sheet.specs.Parts.{Stands, ours_in, next_records, PartPut}
 use Rattle.sheet.specs.Internal.Compared.{PartCompared}
 use Rattle.sheet.specs.Internal.Next.{NextIs}
-use Rattle.sheet.specs.Laws.Bytes.{length-bytes, length-joined, starts-long, lead-no, lead-yes, lead-none, lead-end}
-use Rattle.sheet.specs.Laws.Stands.{code_there, record_there, Comes, comes, none-comes, length-records}
+use Rattle.sheet.proofs.Laws.Bytes.{length-bytes, length-joined, starts-long, lead-no, lead-yes, lead-none, lead-end}
+use Rattle.sheet.proofs.Laws.Stands.{code_there, record_there, Comes, comes, none-comes, length-records}
 
 -- ---- the next whole cell
 

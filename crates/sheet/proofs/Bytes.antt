@@ -14,7 +14,7 @@ use Rattle.logic.specs.Laws.Stores.{sets-append}
 use Rattle.sheet.specs.declared.Record.{Record}
 use Rattle.sheet.specs.Sheet.{low, bytes_of}
 use Rattle.sheet.specs.Verdict.{starts}
-use Rattle.sheet.specs.Laws.Bytes.{length-low, length-bytes, starts-append, starts-short}
+use Rattle.sheet.proofs.Laws.Bytes.{length-low, length-bytes, starts-append, starts-short}
 
 -- the lowest byte, and the others
 low_step : (n x : ℕ) → 0 < n → low n x ≡ (x % 256) ∷ low (n - 1) (x / 256)

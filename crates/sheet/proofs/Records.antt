@@ -6,10 +6,10 @@ use Rattle.cell.specs.declared.Cell.{Cell}
 use Rattle.cell.specs.declared.Found.{Found}
 use Rattle.cell.specs.declared.Found.TheVariants.{At, Refused}
 use Rattle.cell.specs.Cell.{IsCell, found}
-use Rattle.cell.specs.Laws.Found.{found_at, found-refused}
+use Rattle.cell.proofs.Laws.Found.{found_at, found-refused}
 use Rattle.cell.specs.Neighbour.{neighbour_of}
 use Rattle.code.specs.Code.{code_of, is_code, cell_of, arrangement_of, code_refusal}
-use Rattle.code.specs.Laws.Code.{code-passes, code-is-cell, code-cell}
+use Rattle.code.proofs.Laws.Code.{code-passes, code-is-cell, code-cell}
 use Rattle.cell.specs.declared.Arrangement.{Arrangement}
 use Rattle.sheet.specs.declared.Record.{Record}
 use Rattle.sheet.specs.Sheet.{record_of}

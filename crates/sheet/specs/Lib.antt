@@ -1,5 +1,4 @@
 pub mod Internal
-pub mod Laws
 pub mod Parts
 pub mod Sheet
 pub mod Verdict

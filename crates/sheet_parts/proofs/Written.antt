@@ -13,7 +13,7 @@ use Rattle.sheet.specs.declared.Record.{Record}
 use Rattle.sheet.specs.declared.Standing.{Standing}
 use Rattle.sheet.specs.Sheet.{records_of, joined}
 use Rattle.sheet.specs.Parts.{next_records, PartPut}
-use Rattle.sheet.specs.Laws.Bytes.{length-joined}
+use Rattle.sheet.proofs.Laws.Bytes.{length-joined}
 use Rattle.sheet_parts.specs.Printed.{PartsWritten, SheetWritten}
 
 -- ---- the first records of a list

@@ -5,8 +5,8 @@ use mathlib.Core.Bool.{Bool, cond}
 use Prim.Native.Nat.{ℕ, zero, suc, ◌+◌, ◌-◌, ◌*◌, ◌/◌, ◌^◌, ◌≤◌, ◌<◌}
 use native.Mathlib.Omega.{arith}
 use Rattle.logic.specs.Laws.Order.{lt-or, three_ways}
-use Rattle.ternary.specs.Laws.Powers.{nine-le, nine-pos, nine-add}
-use Rattle.code.specs.Laws.Inside.{range-of}
+use Rattle.ternary.proofs.Laws.Powers.{nine-le, nine-pos, nine-add}
+use Rattle.code.proofs.Laws.Inside.{range-of}
 use Rattle.code.specs.Number.{start_as, end_as}
 use Rattle.counting.specs.Count.{count_of, between}
 use Rattle.counting.specs.Laws.Count.{count_none, count-all, count-between, between_in, between-below, between-above}

@@ -9,12 +9,12 @@ use lib.Seq.{ext_get_or}
 use Rattle.cell.specs.declared.Cell.{Cell}
 use Rattle.code.specs.Inside.{start_of, end_of}
 use Rattle.code.specs.Number.{end_as}
-use Rattle.code.specs.Laws.Number.{start-as, end-as}
-use Rattle.code.specs.Laws.Inside.{end-small}
+use Rattle.code.proofs.Laws.Number.{start-as, end-as}
+use Rattle.code.proofs.Laws.Inside.{end-small}
 use Rattle.reading.specs.Ground.{whole_cells, Cells, Rising, Apart}
 use Rattle.reading.specs.TextReading.{nodes_of, is_text, body_start}
-use Rattle.reading.specs.Laws.TextReading.{reads-body}
-use Rattle.reading.specs.Laws.Demand.{whole_cells_lem}
+use Rattle.reading.proofs.Laws.TextReading.{reads-body}
+use Rattle.reading.proofs.Laws.Demand.{whole_cells_lem}
 use Rattle.walk.specs.declared.Spot.{Spot}
 use Rattle.walk.specs.Walk.{origin, spot_of, after, whole_at, walk, Walks}
 use Rattle.walk.specs.Laws.Walk.{walk-text, walks-start, walks-on, past-whole, past-other, walked}
@@ -22,7 +22,7 @@ use Rattle.counting.specs.Count.{count_of, between, tabulate}
 use Rattle.counting.specs.Laws.Count.{count-either, length-tabulate, at-tabulate}
 use Rattle.summary.specs.Summary.{covered_at, counter_of, counters_of}
 use Rattle.summary.specs.Internal.Raised.{in_counter, in_counter_all, raised, CellRoom}
-use Rattle.summary.specs.Laws.Counters.{none-counted, others-not, counter-most}
+use Rattle.summary.proofs.Laws.Counters.{none-counted, others-not, counter-most}
 
 -- of cells that lie apart, a counter is the sum of what each has inside its cell
 counter_shares : (qs : List Cell) → Cells qs → Apart qs → (x : ℕ) → counter_of qs x ≡ in_counter_all (map spot_of qs) x

@@ -11,7 +11,7 @@ use Rattle.logic.specs.Laws.Order.{lt-or, three_ways}
 use Rattle.counting.specs.Count.{between, tabulate}
 use Rattle.counting.specs.Laws.Count.{between_in, between-below, between-above, length-tabulate, at-tabulate}
 use Rattle.summary.specs.Internal.Raised.{raised, amounts, in_counter, Room, CellRoom}
-use Rattle.ternary.specs.Laws.Powers.{nine-pos}
+use Rattle.ternary.proofs.Laws.Powers.{nine-pos}
 use Rattle.code.specs.Number.{start_as, end_as}
 use Rattle.summary.proofs.Blocks.{cell-held, cell-filled}
 

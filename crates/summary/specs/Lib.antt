@@ -1,4 +1,3 @@
 pub mod Gain
 pub mod Internal
-pub mod Laws
 pub mod Summary

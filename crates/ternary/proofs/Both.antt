@@ -4,7 +4,7 @@ use Prim.Native.Nat.{ℕ, ◌+◌, ◌*◌, ◌/◌, ◌%◌, ◌^◌, ◌≤◌
 use native.Mathlib.Nat.{add-mul, mul_right_comm}
 use native.Mathlib.Omega.{arith}
 use Rattle.ternary.specs.Weave.{row_in, column_in, both_in}
-use Rattle.ternary.specs.Laws.Weave.{row_small, column-small, row-split, column-split, row_last, column-last}
+use Rattle.ternary.proofs.Laws.Weave.{row_small, column-small, row-split, column-split, row_last, column-last}
 
 both_small : (k p : ℕ) → both_in k p < 3 ^ k * 4294967297
 both_small k p = let r = row_small k p in let c = column-small k p in omega arith

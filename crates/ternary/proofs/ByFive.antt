@@ -4,7 +4,7 @@ use Prim.Native.Nat.{ℕ, zero, suc, ◌+◌, ◌-◌, ◌*◌, ◌/◌, ◌%◌
 use native.Mathlib.Nat.{mul-le-mul_left}
 use native.Mathlib.Omega.{arith}
 use Rattle.ternary.specs.Weave.{weave}
-use Rattle.ternary.specs.Laws.Weave.{weave-apart, weave_split, weave_last, weave-small}
+use Rattle.ternary.proofs.Laws.Weave.{weave-apart, weave_split, weave_last, weave-small}
 
 -- what the turns that are left make of a path: each puts the next five digits of one part behind it, and changes the parts over
 abbrev pub turned : (turns this other by then path : ℕ) → ℕ

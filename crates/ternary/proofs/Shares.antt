@@ -5,9 +5,9 @@ use native.Mathlib.Nat.{add-mul, mul_assoc, mul_right_comm, mul-add-div_right, d
 use native.Mathlib.Omega.{arith}
 use lib.Arith.{digits_div, digits_mod}
 use Rattle.ternary.specs.Weave.{weave}
-use Rattle.ternary.specs.Laws.Powers.{power_pos, power-add, nine-add, nine-pos}
-use Rattle.ternary.specs.Laws.Weave.{weave_split, weave-small}
-use Rattle.ternary.specs.Laws.Threes.{weave-last-both}
+use Rattle.ternary.proofs.Laws.Powers.{power_pos, power-add, nine-add, nine-pos}
+use Rattle.ternary.proofs.Laws.Weave.{weave_split, weave-small}
+use Rattle.ternary.proofs.Laws.Threes.{weave-last-both}
 
 -- the number that `left` times three digits of a part stand for
 abbrev pub share : (left part : ℕ) → ℕ

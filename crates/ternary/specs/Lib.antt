@@ -1,5 +1,4 @@
 pub mod Digits
 pub mod Internal
-pub mod Laws
 pub mod Threes
 pub mod Weave

@@ -10,7 +10,7 @@ use lib.ListN.{length, length-append}
 use borrow.Author.Tests.{lt-ltb, le-ltb, le-leb, lt-leb, leb-true, eq-eqb, ne_eqb, eqb-true}
 use Rattle.logic.specs.Laws.Bools.{same_truth}
 use Rattle.logic.specs.Laws.Order.{lt-or}
-use Rattle.ternary.specs.Laws.Powers.{nine-lt}
+use Rattle.ternary.proofs.Laws.Powers.{nine-lt}
 use Rattle.code.specs.Code.{cell_of}
 use Rattle.code.specs.Inside.{start_of}
 use Rattle.reading.specs.declared.Level.{Level}
@@ -22,14 +22,14 @@ use Rattle.reading.specs.Text.{IsProfile}
 use Rattle.reading.specs.Ground.{cell_named, Cells}
 use Rattle.reading.specs.Prefix.{Name, Ahead}
 use Rattle.reading.specs.Written.{side, under, nodes_for, fitting, keeps}
-use Rattle.reading.specs.Laws.Reading.{eq-or, room-le}
-use Rattle.reading.specs.Laws.Fits.{good-fits}
-use Rattle.reading.specs.Laws.Written.{nodes-good}
+use Rattle.reading.proofs.Laws.Reading.{eq-or, room-le}
+use Rattle.reading.proofs.Laws.Fits.{good-fits}
+use Rattle.reading.proofs.Laws.Written.{nodes-good}
 use Rattle.writing.specs.Internal.Take.{rests_of, Each, Took}
 use Rattle.writing.specs.Internal.TakeLaws.{side-in, side-out}
 use Rattle.writing.specs.Internal.Measure.{names_from, NodeAt, NodeTakes, NodeDepth, ListDepth}
 use Rattle.writing.specs.Internal.Depth.{greater, held_depth, depth_of_nodes, depth_above, breaks, level_for}
-use Rattle.writing.specs.Internal.EntryLaws.{face-start, faces-nodes}
+use Rattle.writing.proofs.Internal.EntryLaws.{face-start, faces-nodes}
 use Rattle.writing.proofs.EntrySteps.{and-three}
 use Rattle.writing.proofs.PutLaws.{node-whole, held}
 

@@ -15,9 +15,9 @@ use Rattle.logic.specs.Refusal.{refuse, ◌otherwise◌, given}
 use Rattle.logic.specs.Laws.Refusal.{stops, passes}
 use Rattle.cell.specs.declared.Arrangement.{Arrangement}
 use Rattle.code.specs.Code.{cell_of, cell_code, is_code, is_of, size_of}
-use Rattle.code.specs.Laws.Code.{code-is-cell, of-arrangement, codes-order}
+use Rattle.code.proofs.Laws.Code.{code-is-cell, of-arrangement, codes-order}
 use Rattle.code.specs.Inside.{start_of, end_of, lies_within}
-use Rattle.code.specs.Laws.Inside.{code-start, end-small, size-pos}
+use Rattle.code.proofs.Laws.Inside.{code-start, end-small, size-pos}
 use Rattle.reading.specs.declared.Profile.{Profile}
 use Rattle.reading.specs.declared.Profile.TheVariants.{Full, Handheld}
 use Rattle.reading.specs.Text.{IsProfile, version_of, heading}
@@ -27,8 +27,8 @@ use Rattle.writing.specs.declared.Written.TheVariants.{Length, Refused}
 use Rattle.writing.specs.Write.{all_codes, all_of, ordered, codes_refusal, asks_for, text_of, fit_refusal, write_refusal, text_in, written}
 use Rattle.writing.specs.Internal.Put.{front}
 use Rattle.writing.specs.Internal.Asked.{asked_refusal}
-use Rattle.writing.specs.Internal.AskedLaws.{asked-first}
-use Rattle.writing.specs.Laws.List.{not-lies, tested}
+use Rattle.writing.proofs.Internal.AskedLaws.{asked-first}
+use Rattle.writing.proofs.Laws.List.{not-lies, tested}
 
 -- ---- the tests of the list
 

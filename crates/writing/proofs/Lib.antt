@@ -1,3 +1,5 @@
+pub mod Laws
+pub mod Internal
 pub mod DepthLaws
 pub mod EntrySteps
 pub mod MeasureSteps

@@ -11,12 +11,12 @@ use lib.ListN.{length, get_or}
 use borrow.Author.Tests.{le-ltb, lt-ltb}
 use Rattle.code.specs.Code.{size_of}
 use Rattle.code.specs.Inside.{start_of, end_of}
-use Rattle.code.specs.Laws.Code.{code-is-cell}
-use Rattle.code.specs.Laws.Inside.{size-pos, end-small, inside-within}
+use Rattle.code.proofs.Laws.Code.{code-is-cell}
+use Rattle.code.proofs.Laws.Inside.{size-pos, end-small, inside-within}
 use Rattle.reading.specs.Ground.{cell_named}
 use Rattle.reading.specs.Prefix.{Name, numbers_of, Ahead}
-use Rattle.reading.specs.Laws.Rising.{ahead_before}
-use Rattle.reading.specs.Laws.Named.{named-cell, name-named, prefix-inside}
+use Rattle.reading.proofs.Laws.Rising.{ahead_before}
+use Rattle.reading.proofs.Laws.Named.{named-cell, name-named, prefix-inside}
 use Rattle.logic.specs.Laws.Order.{lt-or}
 use Rattle.writing.specs.declared.Measure.{Measure}
 use Rattle.writing.specs.Internal.Measure.{next_cell, cell_start, StartAtPlace, NodeAt, ListAt, NodeTakes, ListTakes}

@@ -15,7 +15,7 @@ use Rattle.reading.specs.Prefix.{Name, numbers_of, Ahead}
 use Rattle.code.specs.Code.{size_of}
 use Rattle.writing.specs.declared.WrittenTo.{WrittenTo}
 use Rattle.reading.specs.Written.{any_ends, node_of, side, under}
-use Rattle.reading.specs.Laws.Built.{built-side}
+use Rattle.reading.proofs.Laws.Built.{built-side}
 use Rattle.writing.specs.Internal.Take.{rests_of, Each}
 use Rattle.writing.specs.Internal.TakeLaws.{rests-first, side-in, side-out, took-none, took-join, nine-past}
 use Rattle.writing.specs.Internal.Measure.{names_from, next_cell, NodeAt, ListAt, NodeTakes}

@@ -8,14 +8,14 @@ use native.Mathlib.Omega.{arith}
 use lib.ListN.{length, drop, get_or, length-map, length-drop, drop_of_length-le}
 use Rattle.logic.specs.Laws.Order.{lt-or}
 use Rattle.code.specs.Code.{cell_of, is_code, size_of}
-use Rattle.code.specs.Laws.Code.{code-is-cell}
+use Rattle.code.proofs.Laws.Code.{code-is-cell}
 use Rattle.code.specs.Inside.{Inside, start_of, end_of}
-use Rattle.code.specs.Laws.Inside.{inside-within, size-pos}
-use Rattle.reading.specs.Laws.Reading.{eq-or}
+use Rattle.code.proofs.Laws.Inside.{inside-within, size-pos}
+use Rattle.reading.proofs.Laws.Reading.{eq-or}
 use Rattle.reading.specs.Ground.{cell_named, size_sum}
 use Rattle.reading.specs.Prefix.{Name, numbers_of, Prefix, Ahead, InOrder}
-use Rattle.reading.specs.Laws.Rising.{ahead_before}
-use Rattle.reading.specs.Laws.Named.{named-cell, name-named, prefix-inside}
+use Rattle.reading.proofs.Laws.Rising.{ahead_before}
+use Rattle.reading.proofs.Laws.Named.{named-cell, name-named, prefix-inside}
 use Rattle.writing.specs.Write.{all_codes}
 use Rattle.writing.specs.Internal.Take.{Each, Took}
 use Rattle.writing.specs.Internal.Measure.{names_from, next_cell, size_from, NodeAt, ListAt, NodeTakes, ListTakes}

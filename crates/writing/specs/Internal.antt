@@ -1,7 +1,5 @@
 pub mod Asked
-pub mod AskedLaws
 pub mod Depth
-pub mod EntryLaws
 pub mod Length
 pub mod Measure
 pub mod MeasureLaws

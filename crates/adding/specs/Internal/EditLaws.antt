@@ -11,7 +11,7 @@ use Rattle.ternary.specs.Digits.{Below}
 use Rattle.reading.specs.declared.Level.{Level}
 use Rattle.reading.specs.declared.Level.TheVariants.{Faces, Digits}
 use Rattle.reading.specs.Reading.{Nodes, end, whole, listed, first, many, room, wholes, render, Some, Good}
-use Rattle.reading.specs.Laws.Reading.{room-le, wholes-most, many-most}
+use Rattle.reading.proofs.Laws.Reading.{room-le, wholes-most, many-most}
 use Rattle.reading.specs.Prefix.{Name}
 use Rattle.adding.specs.Internal.Grow.{by, fresh, merged, grow}
 use Rattle.adding.specs.Internal.GrowLaws.{by_way}

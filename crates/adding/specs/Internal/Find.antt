@@ -3,7 +3,7 @@ use Rattle.std.specs.Prelude.{◌≡◌, ◌⊎◌, Bool, true, false, cond, Lis
 use Rattle.ternary.specs.Digits.{Below}
 use Rattle.reading.specs.declared.Level.{Level}
 use Rattle.reading.specs.Reading.{Nodes, end, whole, listed, first, many, wholes, render, Good}
-use Rattle.reading.specs.Laws.Parse.{Stop}
+use Rattle.reading.proofs.Laws.Parse.{Stop}
 use Rattle.reading.specs.Prefix.{Name}
 use Rattle.code.specs.Code.{cell_of}
 use Rattle.name.specs.Name.{name_of}

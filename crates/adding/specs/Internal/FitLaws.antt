@@ -12,7 +12,7 @@ use Rattle.reading.specs.Reading.{Nodes, end, whole, listed, many, room, wholes,
 use Rattle.reading.specs.Text.{level_of, depth_of}
 use Rattle.reading.specs.Prefix.{Name}
 use Rattle.reading.specs.Written.{fitting}
-use Rattle.reading.specs.Laws.Fits.{good-fits}
+use Rattle.reading.proofs.Laws.Fits.{good-fits}
 use Rattle.adding.specs.declared.Edit.{Edit}
 use Rattle.adding.specs.declared.Edit.TheVariants.{Covered, Put, Cut, Full}
 use Rattle.adding.specs.Internal.Grow.{by, fresh, merged, grow}

@@ -8,9 +8,9 @@ use Rattle.ternary.specs.Digits.{Below}
 use Rattle.reading.specs.declared.Level.{Level}
 use Rattle.reading.specs.declared.Level.TheVariants.{Faces, Digits}
 use Rattle.reading.specs.Reading.{Nodes, end, whole, listed, many, room, wholes, Some, Good, names}
-use Rattle.reading.specs.Laws.Reading.{room-le, wholes-most}
+use Rattle.reading.proofs.Laws.Reading.{room-le, wholes-most}
 use Rattle.reading.specs.Prefix.{Name, Prefix, Covered, Digs}
-use Rattle.reading.specs.Laws.Ground.{In, in→covered, covered→in, nine-cover}
+use Rattle.reading.proofs.Laws.Ground.{In, in→covered, covered→in, nine-cover}
 use Rattle.adding.specs.Internal.Grow.{by, fresh, merged, grow}
 
 -- what holds of each choice

@@ -8,7 +8,7 @@ use Rattle.ternary.specs.Digits.{Below}
 use Rattle.cell.specs.declared.Cell.{Cell}
 use Rattle.cell.specs.Cell.{IsCell}
 use Rattle.code.specs.Code.{digits_of}
-use Rattle.code.specs.Laws.Code.{length-digits-of}
+use Rattle.code.proofs.Laws.Code.{length-digits-of}
 use Rattle.reading.specs.declared.Level.{Level}
 use Rattle.reading.specs.declared.Level.TheVariants.{Faces, Digits}
 use Rattle.reading.specs.declared.Profile.{Profile}
@@ -19,14 +19,14 @@ use Rattle.reading.specs.Ground.{whole_cells, Cells}
 use Rattle.reading.specs.Text.{level_of, depth_of, heading, heading_length}
 use Rattle.reading.specs.TextReading.{nodes_of, profile_of, north_of, south_of, is_text, body_start}
 use Rattle.reading.specs.Written.{built, nodes_for, written_text, fitting, keeps}
-use Rattle.reading.specs.Laws.Reading.{wholes-most, six-faces}
-use Rattle.reading.specs.Laws.Ground.{In, in→covered, covered→in, same_names}
-use Rattle.reading.specs.Laws.Fewest.{names-good}
-use Rattle.reading.specs.Laws.Named.{cell-is-named, names-named}
-use Rattle.reading.specs.Laws.Heading.{length-head}
-use Rattle.reading.specs.Laws.Fits.{faces-of, render-faces}
-use Rattle.reading.specs.Laws.Built.{built-good, built-ground}
-use Rattle.reading.specs.Laws.TextReading.{reads-own, good-nodes, body-within, body-nodes}
+use Rattle.reading.proofs.Laws.Reading.{wholes-most, six-faces}
+use Rattle.reading.proofs.Laws.Ground.{In, in→covered, covered→in, same_names}
+use Rattle.reading.proofs.Laws.Fewest.{names-good}
+use Rattle.reading.proofs.Laws.Named.{cell-is-named, names-named}
+use Rattle.reading.proofs.Laws.Heading.{length-head}
+use Rattle.reading.proofs.Laws.Fits.{faces-of, render-faces}
+use Rattle.reading.proofs.Laws.Built.{built-good, built-ground}
+use Rattle.reading.proofs.Laws.TextReading.{reads-own, good-nodes, body-within, body-nodes}
 use Rattle.name.specs.Name.{digit_bytes, name_of}
 use Rattle.name.specs.Laws.Name.{length-name}
 use Rattle.adding.specs.declared.Edit.{Edit}

@@ -13,15 +13,15 @@ use Rattle.logic.specs.Laws.Order.{lt-or}
 use Rattle.cell.specs.declared.Cell.{Cell}
 use Rattle.code.specs.Inside.{start_of, end_of, lies_within}
 use Rattle.code.specs.Number.{start_as, end_as}
-use Rattle.code.specs.Laws.Number.{start-as, end-as}
+use Rattle.code.proofs.Laws.Number.{start-as, end-as}
 use Rattle.reading.specs.declared.Level.{Level}
 use Rattle.reading.specs.declared.Level.TheVariants.{Digits}
 use Rattle.reading.specs.Reading.{Nodes, end, whole, listed, many, room, Good}
-use Rattle.reading.specs.Laws.Reading.{room-le}
+use Rattle.reading.proofs.Laws.Reading.{room-le}
 use Rattle.reading.specs.Ground.{whole_cells, Cells}
 use Rattle.reading.specs.TextReading.{nodes_of, is_text}
-use Rattle.reading.specs.Laws.TextReading.{reads-body, good-nodes}
-use Rattle.reading.specs.Laws.Demand.{whole_cells_lem}
+use Rattle.reading.proofs.Laws.TextReading.{reads-body, good-nodes}
+use Rattle.reading.proofs.Laws.Demand.{whole_cells_lem}
 use Rattle.walk.specs.declared.Spot.{Spot}
 use Rattle.walk.specs.Walk.{spot_of, spots_in}
 use Rattle.walk.specs.Laws.Walk.{spots-text}

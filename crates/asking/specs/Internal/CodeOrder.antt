@@ -8,16 +8,16 @@ use mathlib.Core.List.{List, [], ◌∷◌, ◌++◌, map}
 use Rattle.std.proofs.Math.Dec.{leb}
 use borrow.Author.Tests.{le-leb, lt-leb, lt-ltb, le-ltb, eq-eqb, ne_eqb}
 use Rattle.logic.specs.Laws.Order.{lt-or, three_ways}
-use Rattle.ternary.specs.Laws.Powers.{nine-le, nine-lt}
+use Rattle.ternary.proofs.Laws.Powers.{nine-le, nine-lt}
 use Rattle.cell.specs.declared.Cell.{Cell}
 use Rattle.cell.specs.declared.Arrangement.{Arrangement}
 use Rattle.cell.specs.Cell.{IsCell}
 use Rattle.code.specs.Code.{cell_code, code_of, cell_of, arrangement_of, is_code, size_of}
-use Rattle.code.specs.Laws.Code.{code-is-cell, code-cell}
+use Rattle.code.proofs.Laws.Code.{code-is-cell, code-cell}
 use Rattle.code.specs.Inside.{start_of, end_of}
-use Rattle.code.specs.Laws.Inside.{start-code}
+use Rattle.code.proofs.Laws.Inside.{start-code}
 use Rattle.code.specs.Number.{start_as, end_as}
-use Rattle.code.specs.Laws.Number.{start-as, end-as}
+use Rattle.code.proofs.Laws.Number.{start-as, end-as}
 use Rattle.reading.specs.Ground.{Cells}
 use Rattle.walk.specs.declared.Spot.{Spot}
 use Rattle.walk.specs.Walk.{spot_of}

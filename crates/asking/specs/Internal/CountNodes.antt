@@ -11,18 +11,18 @@ use Rattle.std.proofs.Math.ListN.{length, length-map}
 use Rattle.std.proofs.lemmas.Bool.{lt-leb}
 use Rattle.logic.specs.Laws.Bools.{and_none}
 use Rattle.logic.specs.Laws.Order.{lt-or}
-use Rattle.ternary.specs.Laws.Powers.{nine-pos, nine-le}
+use Rattle.ternary.proofs.Laws.Powers.{nine-pos, nine-le}
 use Rattle.code.specs.Code.{code_of, cell_of, arrangement_of, is_code}
 use Rattle.code.specs.Inside.{start_of, end_of}
 use Rattle.code.specs.Number.{start_as, end_as}
 use Rattle.reading.specs.declared.Level.{Level}
 use Rattle.reading.specs.declared.Level.TheVariants.{Faces, Digits}
 use Rattle.reading.specs.Reading.{Nodes, end, whole, listed, first, many, room, render, Good}
-use Rattle.reading.specs.Laws.Reading.{room-le}
+use Rattle.reading.proofs.Laws.Reading.{room-le}
 use Rattle.reading.specs.Letters.{letter_cells, letter_codes, letter_count}
-use Rattle.reading.specs.Laws.Letters.{letter-cells}
+use Rattle.reading.proofs.Laws.Letters.{letter-cells}
 use Rattle.reading.specs.TextReading.{nodes_of, is_text, body_start, text_arrangement}
-use Rattle.reading.specs.Laws.TextReading.{reads-body, good-nodes, body-nodes}
+use Rattle.reading.proofs.Laws.TextReading.{reads-body, good-nodes, body-nodes}
 use Rattle.walk.specs.Walk.{spot_of}
 use Rattle.walk.specs.LetterWalk.{letters_in}
 use Rattle.walk.specs.Laws.LetterWalk.{count-letter, count-open, count-shut, letters-spots}

@@ -5,7 +5,7 @@ use Rattle.ternary.specs.Weave.{row_in, column_in}
 use Rattle.cell.specs.declared.Found.TheVariants.{At}
 use Rattle.cell.specs.Cell.{found}
 use Rattle.code.specs.Code.{cell_coded, cell_of}
-use Rattle.code.specs.Laws.Decoded.{parted, unparted}
+use Rattle.code.proofs.Laws.Decoded.{parted, unparted}
 use Rattle.batch.proofs.Fifteen.{path-below, row-fifteen, column-fifteen}
 use Rattle.batch.proofs.cell_by.Goals as goal
 

@@ -1,7 +1,7 @@
 -- `batch::cell_codes` meets its contract: nothing is put before the room is known to be enough. Assumes nothing.
 use lib.ListN.{length}
 use Rattle.batch.specs.Batch.{cells_in, codes_of}
-use Rattle.batch.specs.Laws.Batch.{codes-long}
+use Rattle.batch.proofs.Laws.Batch.{codes-long}
 use Rattle.batch.proofs.Batches.{refused-eight, answered, codes-short, codes-enough}
 use native.Mathlib.Omega.{arith}
 use Rattle.batch.proofs.cell_codes.Goals as goal

@@ -1,7 +1,7 @@
 -- `batch::code_cells` meets its contract: nothing is put before the room is known to be enough. Assumes nothing.
 use lib.ListN.{length}
 use Rattle.batch.specs.Batch.{cells_of}
-use Rattle.batch.specs.Laws.Batch.{cells-long}
+use Rattle.batch.proofs.Laws.Batch.{cells-long}
 use Rattle.batch.proofs.Batches.{refused-eight, answered, cells-short, cells-enough}
 use native.Mathlib.Omega.{arith}
 use Rattle.batch.proofs.code_cells.Goals as goal

@@ -2,9 +2,9 @@
 use mathlib.Core.Path.{◌≡◌, sym, ◌∙◌}
 use Rattle.logic.specs.Laws.Refusal.{stops, passes}
 use Rattle.cell.specs.Cell.{IsCell, arrangement_refusal}
-use Rattle.cell.specs.Laws.Cell.{is-cell, is-arrangement, row_small, column-small}
-use Rattle.code.specs.Laws.Code.{path-small}
-use Rattle.code.specs.Laws.Coded.{refused, answered}
+use Rattle.cell.proofs.Laws.Cell.{is-cell, is-arrangement, row_small, column-small}
+use Rattle.code.proofs.Laws.Code.{path-small}
+use Rattle.code.proofs.Laws.Coded.{refused, answered}
 use Rattle.batch.proofs.Fifteen.{path-fifteen, woven-code}
 use Rattle.batch.proofs.coded_by.Goals as goal
 use Rattle.batch.proofs.coded_by.Goals.{Else-refusal-ne0, Else-unarranged-ne0}

@@ -3,7 +3,7 @@ use mathlib.Core.Path.{ap, ◌∙◌}
 use lib.Seq.{sets}
 use Rattle.code.specs.declared.Coded.{Coded}
 use Rattle.batch.specs.Batch.{two_in}
-use Rattle.batch.specs.Laws.Batch.{read_at}
+use Rattle.batch.proofs.Laws.Batch.{read_at}
 use Rattle.batch.proofs.put_at.Goals as goal
 
 pub returns : goal.returns

@@ -3,7 +3,7 @@ use mathlib.Core.Path.{sym, ap, subst}
 use Prim.Native.Nat.{ℕ, ◌+◌, ◌*◌, ◌<◌}
 use native.Mathlib.Omega.{arith}
 use Rattle.code.specs.Code.{cell_code_at}
-use Rattle.code.specs.Laws.Code.{finest-small}
+use Rattle.code.proofs.Laws.Code.{finest-small}
 use Rattle.code.proofs.cell_code_at.Goals as goal
 use Rattle.code.proofs.cell_code_at.Goals.{After-nine_power}
 

@@ -6,8 +6,8 @@ use Rattle.ternary.specs.Weave.{row_in, column_in}
 use Rattle.cell.specs.declared.Found.TheVariants.{At}
 use Rattle.cell.specs.Cell.{found}
 use Rattle.code.specs.Code.{cell_coded, is_cell_code, is_code, cell_of, code_refusal}
-use Rattle.code.specs.Laws.Code.{a-code}
-use Rattle.code.specs.Laws.Decoded.{parted, unparted}
+use Rattle.code.proofs.Laws.Code.{a-code}
+use Rattle.code.proofs.Laws.Decoded.{parted, unparted}
 use Rattle.code.proofs.Laws.{path-below, row-sixteen, column-sixteen}
 use Rattle.code.proofs.cell_of.Goals as goal
 

@@ -2,7 +2,7 @@
 use mathlib.Core.Path.{◌≡◌, ap}
 use Prim.Native.Nat.{ℕ, ◌-◌, ◌/◌, ◌%◌}
 use native.Mathlib.Omega.{arith}
-use Rattle.ternary.specs.Laws.Powers.{nine-pos}
+use Rattle.ternary.proofs.Laws.Powers.{nine-pos}
 use Rattle.code.specs.Code.{path_in}
 use Rattle.code.proofs.Laws.{no_code, a-cell-code, no-face, a-rest, no-rest}
 use Rattle.code.proofs.cell_parts.Goals as goal

@@ -3,7 +3,7 @@ use mathlib.Core.Path.{ap, ◌∙◌}
 use Prim.Native.Nat.{ℕ, ◌+◌, ◌*◌, ◌≤◌}
 use native.Mathlib.Omega.{arith}
 use Rattle.code.specs.Number.{start_as, cell_code_as, code_as}
-use Rattle.code.specs.Laws.Number.{end-as-small}
+use Rattle.code.proofs.Laws.Number.{end-as-small}
 use Rattle.code.proofs.code_as.Goals as goal
 use Rattle.code.proofs.code_as.Goals.{After-nine_power}
 

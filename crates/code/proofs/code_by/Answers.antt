@@ -1,7 +1,7 @@
 -- `code::code_by` meets its contract. Assumes nothing.
 use Prim.Native.Nat.{◌<◌}
 use native.Mathlib.Omega.{arith}
-use Rattle.ternary.specs.Laws.Weave.{weave-small}
+use Rattle.ternary.proofs.Laws.Weave.{weave-small}
 use Rattle.code.proofs.code_by.Goals as goal
 use Rattle.code.proofs.code_by.Goals.{After-woven-path}
 

@@ -2,8 +2,8 @@
 use mathlib.Core.Path.{◌≡◌, sym, ◌∙◌}
 use Rattle.logic.specs.Laws.Refusal.{stops, passes}
 use Rattle.cell.specs.Cell.{arrangement_refusal}
-use Rattle.cell.specs.Laws.Cell.{is-cell, is-arrangement}
-use Rattle.code.specs.Laws.Coded.{refused, answered}
+use Rattle.cell.proofs.Laws.Cell.{is-cell, is-arrangement}
+use Rattle.code.proofs.Laws.Coded.{refused, answered}
 use Rattle.code.proofs.coded_cell.Goals as goal
 use Rattle.code.proofs.coded_cell.Goals.{Else-unarranged-ne0}
 

@@ -5,7 +5,7 @@ use Prim.Native.Nat.{ℕ, ◌/◌, ◌%◌, ◌-◌, ◌^◌, ◌≤◌, ◌<◌
 use native.Mathlib.Omega.{arith}
 use lib.Dec.{eqb}
 use borrow.Author.Tests.{lt-ltb, le-ltb}
-use Rattle.ternary.specs.Laws.Powers.{nine-pos}
+use Rattle.ternary.proofs.Laws.Powers.{nine-pos}
 use Rattle.code.specs.Code.{is_cell_code}
 use Rattle.code.proofs.Laws.{rest-cut}
 use Rattle.code.proofs.is_cell_code.Goals as goal

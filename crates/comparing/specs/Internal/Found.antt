@@ -8,11 +8,11 @@ use Rattle.reading.specs.declared.Level.TheVariants.{Digits}
 use Rattle.reading.specs.Reading.{first, many, render}
 use Rattle.reading.specs.Ground.{whole_cells, size_sum}
 use Rattle.reading.specs.TextReading.{nodes_of, text_arrangement, is_text, body_start}
-use Rattle.reading.specs.Laws.Parse.{Stop}
+use Rattle.reading.proofs.Laws.Parse.{Stop}
 use Rattle.reader.specs.Check.{text_refusal}
 use Rattle.walk.specs.declared.Spot.{Spot}
 use Rattle.walk.specs.Walk.{spot, spots_in}
-use Rattle.listing.specs.Laws.List.{spot_code}
+use Rattle.listing.proofs.Laws.List.{spot_code}
 use Rattle.comparing.specs.declared.Child.{Child}
 use Rattle.comparing.specs.declared.Cursor.{Cursor}
 use Rattle.comparing.specs.declared.Read.{Read}

@@ -10,7 +10,7 @@ use Rattle.logic.specs.Laws.Bools.{by_cond, clash, and_left, and_right}
 use Rattle.reading.specs.declared.Level.{Level}
 use Rattle.reading.specs.declared.Level.TheVariants.{Faces, Digits}
 use Rattle.reading.specs.Reading.{Nodes, end, whole, listed, many, room, wholes, Some, Good}
-use Rattle.reading.specs.Laws.Reading.{room-le}
+use Rattle.reading.proofs.Laws.Reading.{room-le}
 use Rattle.comparing.specs.Shared.{Portion, none, all, some, portion_number, of_child, past_child, divided, wanted, holding, node_shared, side_shared, below_shared, shared}
 use Rattle.comparing.specs.Internal.Portions.{GoodPortion, GoodInside, child-good, past-good, inside-good, inside-room}
 

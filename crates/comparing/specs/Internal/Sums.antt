@@ -9,7 +9,7 @@ use Rattle.logic.specs.Laws.Bools.{clash}
 use Rattle.reading.specs.declared.Level.{Level}
 use Rattle.reading.specs.declared.Level.TheVariants.{Faces, Digits}
 use Rattle.reading.specs.Reading.{Nodes, end, whole, listed, many, room, Good}
-use Rattle.reading.specs.Laws.Reading.{room-le}
+use Rattle.reading.proofs.Laws.Reading.{room-le}
 use Rattle.reading.specs.Report.{size_along}
 use Rattle.comparing.specs.Shared.{Portion, none, all, some, portion_number, of_child, past_child, divided, holding, node_shared, side_shared, below_shared, shared}
 use Rattle.comparing.specs.Internal.Portions.{GoodPortion, GoodInside, child-good, past-good, inside-good, inside-room}

@@ -8,14 +8,14 @@ use Rattle.logic.specs.Refusal.{refuse, ◌otherwise◌}
 use Rattle.logic.specs.Laws.Refusal.{passes, stops}
 use Rattle.cell.specs.declared.Arrangement.{Arrangement}
 use Rattle.cell.specs.Cell.{IsArrangement, arrangement_refusal}
-use Rattle.cell.specs.Laws.Cell.{arrangement-is}
+use Rattle.cell.proofs.Laws.Cell.{arrangement-is}
 use Rattle.code.specs.Code.{is_code, is_of, cell_of, arrangement_of, code_refusal}
-use Rattle.code.specs.Laws.Code.{arrangement-of, arrangement-code, code-is-cell, code-passes}
+use Rattle.code.proofs.Laws.Code.{arrangement-of, arrangement-code, code-is-cell, code-passes}
 use Rattle.name.specs.Name.{name_of, name_refusal, name_code}
 use Rattle.name.specs.Laws.Name.{accepted, length-name, name-code, name-code-is, code-name}
 use Rattle.reading.specs.Ground.{whole_cells}
 use Rattle.reading.specs.TextReading.{nodes_of, text_arrangement}
-use Rattle.reading.specs.Laws.TextReading.{text-arranged}
+use Rattle.reading.proofs.Laws.TextReading.{text-arranged}
 use Rattle.reader.specs.Check.{text_refusal}
 use Rattle.reader.specs.Laws.Answer.{text-read}
 use Rattle.asking.specs.declared.Asked.{Asked}
@@ -23,7 +23,7 @@ use Rattle.asking.specs.declared.Asked.TheVariants as asked-as
 use Rattle.asking.specs.Ask.{asked, ask_refusal}
 use Rattle.report.specs.Lines.{asked_line}
 use Rattle.summary.specs.Summary.{counters_of, question_refusal, questioned}
-use Rattle.summary.specs.Laws.Summary.{as_question, question-agrees}
+use Rattle.summary.proofs.Laws.Summary.{as_question, question-agrees}
 use Rattle.districts.specs.Question.{name_question_refusal, questioned_name, question_line}
 use Rattle.coverage.specs.Printed.{asked_name}
 

@@ -13,8 +13,8 @@ use Rattle.lines.specs.Fold.{after, OfBytes}
 use Rattle.reading.specs.declared.Profile.{Profile}
 use Rattle.writing.specs.Write.{codes_refusal, text_of}
 use Rattle.gathering.specs.Gather.{gathered}
-use Rattle.gathering.specs.Laws.Gather.{Holds, holds-none, holds_more}
-use Rattle.gathering.specs.Laws.Long.{too_long}
+use Rattle.gathering.proofs.Laws.Gather.{Holds, holds-none, holds_more}
+use Rattle.gathering.proofs.Laws.Long.{too_long}
 use Rattle.coverage.specs.declared.NamesRead.TheVariants as read_as
 use Rattle.coverage.specs.Names.{Names, read, stopped, line_refusal, named_or, with_name, AllTaken}
 use Rattle.coverage.specs.Laws.Asked.{named_in}

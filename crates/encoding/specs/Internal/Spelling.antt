@@ -13,7 +13,7 @@ use Rattle.fields.specs.Form.{Form, done, Spells, Sound}
 use Rattle.history.specs.declared.Settings.{Settings}
 use Rattle.history.specs.declared.History.{History}
 use Rattle.history.specs.Settings.{none, settings_refusal, GoodSettings}
-use Rattle.history.specs.Laws.Settings.{good-exactly}
+use Rattle.history.proofs.Laws.Settings.{good-exactly}
 use Rattle.history.specs.Valid.{Valid}
 use Rattle.encoding.specs.Encoding.{mark, settings_bytes, places_bytes, encoding_of}
 use Rattle.encoding.specs.Decoding.{up_to, settings, settings_form, places_form, history_form}

@@ -6,7 +6,7 @@ use native.Mathlib.Omega.{arith}
 use lib.ListN.{length, drop}
 use Rattle.ternary.specs.Digits.{digits}
 use Rattle.code.specs.Code.{cell_of, path_in}
-use Rattle.code.specs.Laws.Decoded.{parted, unparted}
+use Rattle.code.proofs.Laws.Decoded.{parted, unparted}
 use Rattle.name.specs.Name.{digit_bytes, name_in}
 use Rattle.name.specs.Laws.Name.{length-name, code-name-is}
 use Rattle.name.proofs.Laws.{refused-4, refused-8, not-refused, nothing_written, name-written}

@@ -5,7 +5,7 @@ use native.Mathlib.Numerals.{add-one}
 use native.Mathlib.Nat.{pow-suc}
 use native.Mathlib.Omega.{arith}
 use lib.ListN.{drop, get_or, drop_of_length-le}
-use Rattle.ternary.specs.Laws.Powers.{nine-le}
+use Rattle.ternary.proofs.Laws.Powers.{nine-le}
 use Rattle.name.specs.Name.{all_digits, is_digit}
 use Rattle.name.proofs.Laws.{read, read_all, low_digit, high_digit, a-digit, stopped, further, read-on, no_digit, all_digits_lem}
 use Rattle.name.proofs.read_path.Goals as goal

@@ -7,12 +7,12 @@ use Rattle.logic.specs.Laws.Bools.{and_left, and_right, clash}
 use Rattle.logic.specs.Refusal.{◌otherwise◌}
 use Rattle.logic.specs.Laws.Refusal.{both, allowed}
 use Rattle.ternary.specs.Digits.{value, digits, Below}
-use Rattle.ternary.specs.Laws.Digits.{value-below, digits_value}
+use Rattle.ternary.proofs.Laws.Digits.{value-below, digits_value}
 use Rattle.cell.specs.declared.Cell.{Cell}
 use Rattle.cell.specs.declared.Arrangement.{Arrangement}
 use Rattle.cell.specs.Cell.{IsCell, IsArrangement}
 use Rattle.code.specs.Code.{digits_of, code_at, cell_code, code_of, path_of, cell_of, path_in, is_code}
-use Rattle.code.specs.Laws.Code.{made-face, made-resolution, code-path, is-code, cell-digits, length-digits-of, digits-of-below}
+use Rattle.code.proofs.Laws.Code.{made-face, made-resolution, code-path, is-code, cell-digits, length-digits-of, digits-of-below}
 use Rattle.name.specs.Name.{NameForm, digit_bytes, name_of, first_letter, is_digit, all_digits, name_refusal, digits_in, name_code}
 
 pub length-name : (c : Cell) → length (name_of c) ≡ c.resolution + 1

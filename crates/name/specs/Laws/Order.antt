@@ -5,14 +5,14 @@ use Rattle.std.proofs.Math.Logic.{⊎_elim}
 use Rattle.std.proofs.lemmas.List.{map-append}
 use Rattle.logic.specs.Laws.Order.{three_ways}
 use Rattle.ternary.specs.Digits.{value, Below}
-use Rattle.ternary.specs.Laws.Digits.{value-below}
-use Rattle.ternary.specs.Laws.Powers.{nine-pos, nine-add}
+use Rattle.ternary.proofs.Laws.Digits.{value-below}
+use Rattle.ternary.proofs.Laws.Powers.{nine-pos, nine-add}
 use Rattle.cell.specs.declared.Cell.{Cell}
 use Rattle.cell.specs.declared.Arrangement.{Arrangement}
 use Rattle.cell.specs.Cell.{IsCell}
 use Rattle.cell.specs.Hierarchy.{child_of}
 use Rattle.code.specs.Code.{digits_of, path_of, cell_code_at, cell_code, code_of}
-use Rattle.code.specs.Laws.Code.{length-digits-of, digits-of-below, code-order}
+use Rattle.code.proofs.Laws.Code.{length-digits-of, digits-of-below, code-order}
 use Rattle.name.specs.Name.{digit_bytes, name_of, name_code}
 use Rattle.name.specs.Laws.Name.{name-code}
 use Rattle.name.specs.Order.{Before}

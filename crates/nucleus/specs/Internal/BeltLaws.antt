@@ -5,7 +5,7 @@ use Rattle.std.proofs.Common.{sym, ap, ◌∙◌, subst, mul_left_comm, mul_comm
 use Rattle.std.proofs.Math.Nat.{mul-sub}
 use Rattle.std.proofs.Math.Arith.{digits_div, digits_mod}
 use Rattle.std.proofs.Math.IntN.{sub_ℕ}
-use Rattle.ternary.specs.Laws.Powers.{power_le, power_pos}
+use Rattle.ternary.proofs.Laws.Powers.{power_le, power_pos}
 use Rattle.signed.specs.Laws.Sign.{sub-size}
 use Rattle.division.specs.Laws.Division.{low, high}
 use Rattle.cell.specs.declared.Cell.{Cell}
@@ -13,7 +13,7 @@ use Rattle.cell.specs.declared.Arrangement.{Arrangement}
 use Rattle.cell.specs.Cell.{IsCell}
 use Rattle.cell.specs.Neighbour.{belt, rows}
 use Rattle.locate.specs.Fix.{quarter, in_range, offset_of, belt_cell, fix_cell}
-use Rattle.locate.specs.Laws.Fix.{fix-belt}
+use Rattle.locate.proofs.Laws.Fix.{fix-belt}
 use Rattle.nucleus.specs.Nucleus.{belt_longitude, belt_z}
 use Rattle.nucleus.specs.Internal.FlooredLaws.{Floored, floored}
 use Rattle.nucleus.specs.Internal.RuleLaws.{in-range, east-back, in-belt-is, offset-is}

@@ -5,15 +5,15 @@ use Rattle.std.proofs.Math.Nat.{mul-sub, le_of_mul-le-mul_left, lt_of_mul-lt-mul
 use Rattle.std.proofs.Math.Arith.{digits_div, digits_mod}
 use Rattle.std.proofs.Math.IntN.{sub_ℕ}
 use Rattle.std.specs.Int.Signed.{lt_z}
-use Rattle.ternary.specs.Laws.Powers.{power_le}
+use Rattle.ternary.proofs.Laws.Powers.{power_le}
 use Rattle.signed.specs.Laws.Sign.{sub-neg}
 use Rattle.cell.specs.declared.Cell.{Cell}
 use Rattle.cell.specs.declared.Arrangement.{Arrangement}
 use Rattle.cell.specs.Cell.{IsCell}
 use Rattle.cell.specs.Neighbour.{rows, turn_of}
-use Rattle.cell.specs.Laws.Turns.{turn-of-face}
+use Rattle.cell.proofs.Laws.Turns.{turn-of-face}
 use Rattle.locate.specs.Fix.{CapPoint, quarter, in_range, east_of, is_belt, height_of, start_north, start_south, turned_north, cap_cell, north_cell, south_cell, fix_cell}
-use Rattle.locate.specs.Laws.Fix.{fix-north, fix-south, middle_cell, pole-north, pole-south}
+use Rattle.locate.proofs.Laws.Fix.{fix-north, fix-south, middle_cell, pole-north, pole-south}
 use Rattle.nucleus.specs.Nucleus.{floor_z, cap_longitude, north_z, south_z}
 use Rattle.nucleus.specs.Internal.Caps.{cap_face, first_in, cap_z, sided, seen, row_seen, pole_of, rise}
 use Rattle.nucleus.specs.Internal.MirrorLaws.{sided-size, sided-sign, start_seen, middle-back}

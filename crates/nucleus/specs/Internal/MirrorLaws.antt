@@ -7,7 +7,7 @@ use Rattle.signed.specs.Laws.Sign.{sub-neg, sub_same}
 use Rattle.signed.specs.Laws.Times.{times-neg}
 use Rattle.cell.specs.Neighbour.{turn_of}
 use Rattle.locate.specs.Fix.{CapPoint, quarter, turned_north, turned_south}
-use Rattle.locate.specs.Laws.Turn.{opposite-size}
+use Rattle.locate.proofs.Laws.Turn.{opposite-size}
 use Rattle.nucleus.specs.Nucleus.{quotient, remainder, north_point, south_point}
 use Rattle.nucleus.specs.Internal.Caps.{cap_point, Beyond, sided, seen, row_seen, times}
 use Rattle.nucleus.specs.Internal.Triangle.{middle}

@@ -9,12 +9,12 @@ use Rattle.std.proofs.Math.Nat.{zero-mul, mul-pos, eq_of_mul-eq-mul_left}
 use native.Mathlib.Omega.{arith}
 use Rattle.std.proofs.Math.IntN.{nat_abs, sub_ℕ, neg_ℤ-neg_ℤ}
 use Rattle.logic.specs.Laws.Order.{lt-or}
-use Rattle.ternary.specs.Laws.Powers.{power_pos}
+use Rattle.ternary.proofs.Laws.Powers.{power_pos}
 use Rattle.signed.specs.Laws.Sign.{pos-sub, sub_same, sub-neg}
 use Rattle.signed.specs.Laws.Times.{sub-cross, sub-times, times-neg, pos-more, pos-less, a-difference}
 use Rattle.cell.specs.declared.Cell.{Cell}
 use Rattle.cell.specs.Neighbour.{belt, rows, turn_of}
-use Rattle.cell.specs.Laws.Turns.{face-of-turn}
+use Rattle.cell.proofs.Laws.Turns.{face-of-turn}
 use Rattle.locate.specs.Fix.{CapPoint, quarter}
 use Rattle.nucleus.specs.Nucleus.{quotient, remainder, SentToBelt, SentToCap, north_point}
 use Rattle.nucleus.specs.Internal.Caps.{cap_point, Beyond, sided, row_seen, rise, times}

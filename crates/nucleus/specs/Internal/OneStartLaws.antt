@@ -8,7 +8,7 @@ use Rattle.logic.specs.Laws.Order.{lt-or}
 use Rattle.logic.specs.Choice.{four}
 use Rattle.signed.specs.Laws.Sign.{pos-sub, neg-sub, sub_same, sub-neg}
 use Rattle.signed.specs.Laws.Times.{sub-cross, sub-times}
-use Rattle.cell.specs.Laws.Turns.{four-cases}
+use Rattle.cell.proofs.Laws.Turns.{four-cases}
 use Rattle.locate.specs.Fix.{CapPoint, quarter, turned_north}
 use Rattle.nucleus.specs.Internal.Triangle.{middle, IsStart}
 use Rattle.nucleus.specs.Internal.Caps.{times}

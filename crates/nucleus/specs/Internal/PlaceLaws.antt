@@ -6,7 +6,7 @@ use Rattle.cell.specs.declared.Cell.{Cell}
 use Rattle.cell.specs.declared.Arrangement.{Arrangement}
 use Rattle.cell.specs.Cell.{IsCell, IsArrangement}
 use Rattle.cell.specs.Neighbour.{by_face, belt, rows}
-use Rattle.cell.specs.Laws.Turns.{face-cases}
+use Rattle.cell.proofs.Laws.Turns.{face-cases}
 use Rattle.nucleus.specs.declared.Fix.{Fix}
 use Rattle.nucleus.specs.Nucleus.{fix, cap_longitude, belt_longitude, belt_z, ground_nucleus}
 use Rattle.nucleus.specs.Internal.Caps.{cap_face, first_in, cap_z, cap_nucleus, row_seen, pole_of}

@@ -4,13 +4,13 @@ use Rattle.std.proofs.Common.{sym, ap, ◌∙◌, mul-add, mul_assoc, mul_comm, 
 use Rattle.std.proofs.Math.Nat.{mul-add-div_right}
 use Rattle.std.proofs.Math.Arith.{digits_lt, digits_div, digits_mod}
 use Rattle.std.proofs.Math.IntN.{sub_ℕ, zero-*ℤ}
-use Rattle.ternary.specs.Laws.Powers.{power_pos}
+use Rattle.ternary.proofs.Laws.Powers.{power_pos}
 use Rattle.signed.specs.Laws.Sign.{pos-sub, sub_same, sub-size, sub-neg}
 use Rattle.signed.specs.Laws.Times.{sub-times, times-neg, pos-more, pos-less}
 use Rattle.cell.specs.declared.Cell.{Cell}
 use Rattle.cell.specs.Cell.{IsCell}
 use Rattle.cell.specs.Neighbour.{belt, rows, turn_of}
-use Rattle.cell.specs.Laws.Turns.{turn-of-face}
+use Rattle.cell.proofs.Laws.Turns.{turn-of-face}
 use Rattle.locate.specs.Fix.{CapPoint, quarter, turned_north}
 use Rattle.nucleus.specs.Nucleus.{quotient, remainder, SentToBelt, SentToCap, north_point}
 use Rattle.nucleus.specs.Internal.Caps.{cap_point, Beyond, sided, row_seen, rise, times}

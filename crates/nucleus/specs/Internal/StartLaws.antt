@@ -7,7 +7,7 @@ use Rattle.std.proofs.lemmas.Bool.{eqb-false}
 use Rattle.logic.specs.Laws.Bools.{clash, not-both}
 use Rattle.signed.specs.Laws.Sign.{sub-size, sub_more}
 use Rattle.locate.specs.Fix.{CapPoint, turned_north, turned_south}
-use Rattle.locate.specs.Laws.Turn.{opposite-size}
+use Rattle.locate.proofs.Laws.Turn.{opposite-size}
 use Rattle.nucleus.specs.declared.Fix.{Fix}
 use Rattle.nucleus.specs.Nucleus.{starts_north, starts_south, first_of, turns_north, turns_south, tall_of, along_of, centred, fix, cap_longitude, south_z, north_nucleus, south_nucleus}
 use Rattle.nucleus.specs.Internal.Caps.{cap_z, cap_nucleus, seen, row_seen, pole_of}

@@ -11,7 +11,7 @@ use Rattle.cell.specs.declared.Cell.{Cell}
 use Rattle.cell.specs.declared.Arrangement.{Arrangement}
 use Rattle.cell.specs.Cell.{IsCell}
 use Rattle.cell.specs.Neighbour.{rows}
-use Rattle.cell.specs.Laws.Turns.{four-cases}
+use Rattle.cell.proofs.Laws.Turns.{four-cases}
 use Rattle.locate.specs.Fix.{quarter}
 use Rattle.nucleus.specs.declared.Fix.{Fix}
 use Rattle.nucleus.specs.Nucleus.{cap_longitude, ground_nucleus}

@@ -9,8 +9,8 @@ use Rattle.logic.specs.Refusal.{refuse, ◌otherwise◌}
 use Rattle.cell.specs.declared.Arrangement.{Arrangement}
 use Rattle.cell.specs.declared.Found.TheVariants.{Refused}
 use Rattle.cell.specs.Cell.{IsArrangement, found}
-use Rattle.cell.specs.Laws.Cell.{is-arrangement}
-use Rattle.cell.specs.Laws.Found.{refused, then}
+use Rattle.cell.proofs.Laws.Cell.{is-arrangement}
+use Rattle.cell.proofs.Laws.Found.{refused, then}
 use Rattle.signed.specs.Sign.{negative}
 use Rattle.signed.specs.Laws.Sign.{back}
 use Rattle.plane.specs.Plane.{in_image, point_cell, point_refusal}

@@ -1,7 +1,7 @@
 -- `plane::row_at` meets its contract. Assumes nothing.
 use Prim.Native.Nat.{◌-◌}
 use native.Mathlib.Omega.{arith}
-use Rattle.ternary.specs.Laws.Powers.{power_pos}
+use Rattle.ternary.proofs.Laws.Powers.{power_pos}
 use Rattle.plane.specs.Internal.SideLaws.{side-pos}
 use Rattle.plane.proofs.row_at.Goals as goal
 

@@ -1,7 +1,7 @@
 -- `plane::side_of` meets its contract. Assumes nothing.
 use Prim.Native.Nat.{◌-◌}
 use native.Mathlib.Omega.{arith}
-use Rattle.ternary.specs.Laws.Powers.{power_le}
+use Rattle.ternary.proofs.Laws.Powers.{power_le}
 use Rattle.plane.proofs.side_of.Goals as goal
 
 pub overflow_mul-result : goal.overflow_mul-result

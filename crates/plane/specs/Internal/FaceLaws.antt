@@ -5,7 +5,7 @@ use Rattle.std.proofs.Common.{sym, ap, ◌∙◌, subst, mul-pos, suc-mul, zero-
 use Rattle.std.proofs.Math.Bool.{and-eq-true_iff}
 use Rattle.std.proofs.Math.Nat.{div-eq_of_lt-le}
 use Rattle.std.proofs.lemmas.Bool.{eqb-false}
-use Rattle.ternary.specs.Laws.Powers.{power_pos}
+use Rattle.ternary.proofs.Laws.Powers.{power_pos}
 use Rattle.plane.specs.Plane.{face_side, side_of}
 use Rattle.plane.specs.Internal.Depth.{row_at}
 use Rattle.plane.specs.Internal.SideLaws.{side-pos, whole, within}

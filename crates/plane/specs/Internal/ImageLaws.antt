@@ -11,7 +11,7 @@ use Rattle.logic.specs.Laws.Refusal.{passes}
 use Rattle.cell.specs.declared.Cell.{Cell}
 use Rattle.cell.specs.declared.Arrangement.{Arrangement}
 use Rattle.cell.specs.Cell.{IsArrangement, found}
-use Rattle.cell.specs.Laws.Cell.{arrangement-is}
+use Rattle.cell.proofs.Laws.Cell.{arrangement-is}
 use Rattle.signed.specs.Laws.Sign.{same-lt}
 use Rattle.plane.specs.Plane.{face_side, three_halves, in_belt, in_north, in_south, in_image, cell_at, point_cell, point_refusal, depth_of}
 use Rattle.plane.specs.Internal.Depth.{depth_below, on_cap, found_on_cap, found_on_belt, found_at}

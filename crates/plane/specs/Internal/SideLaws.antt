@@ -9,7 +9,7 @@ use borrow.Author.Tests.{ltb-true}
 use Rattle.cell.specs.declared.Cell.{Cell}
 use Rattle.cell.specs.declared.Arrangement.{Arrangement}
 use Rattle.cell.specs.Cell.{IsCell, IsArrangement}
-use Rattle.ternary.specs.Laws.Powers.{power_pos}
+use Rattle.ternary.proofs.Laws.Powers.{power_pos}
 use Rattle.plane.specs.Plane.{face_side, side_of, face_left}
 use Rattle.plane.specs.Internal.Depth.{face_depth, left_in, depth_in}
 

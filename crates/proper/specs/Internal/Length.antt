@@ -9,7 +9,7 @@ use Rattle.reading.specs.declared.Level.TheVariants.{Faces, Digits}
 use Rattle.reading.specs.Reading.{Nodes, end, whole, listed, many, wholes, render, names}
 use Rattle.reading.specs.Prefix.{Name}
 use Rattle.reading.specs.Written.{tails, any_ends, node_of, side, built, under}
-use Rattle.reading.specs.Laws.Built.{built-side}
+use Rattle.reading.proofs.Laws.Built.{built-side}
 use Rattle.reading.specs.Loose.{Loose}
 use Rattle.proper.specs.Proper.{answer}
 

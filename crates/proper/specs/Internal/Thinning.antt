@@ -7,9 +7,9 @@ use Prim.Native.Nat.{ℕ, zero, suc, ◌+◌, ◌-◌, ◌/◌, ◌^◌, ◌≤�
 use Rattle.std.proofs.Math.ListN.{drop, set, get_or, length-append}
 use Rattle.std.proofs.Math.Seq.{set_at}
 use Rattle.code.specs.Code.{cell_of, is_code, size_of}
-use Rattle.code.specs.Laws.Code.{code-is-cell}
+use Rattle.code.proofs.Laws.Code.{code-is-cell}
 use Rattle.code.specs.Inside.{start_of, end_of}
-use Rattle.code.specs.Laws.Inside.{end-small}
+use Rattle.code.proofs.Laws.Inside.{end-small}
 use Rattle.writing.specs.Write.{all_codes}
 use Rattle.writing.specs.Internal.MeasureLaws.{code-at}
 use Rattle.proper.specs.Thin.{thinned}

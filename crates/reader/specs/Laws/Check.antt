@@ -9,18 +9,18 @@ use Rattle.logic.specs.Laws.Bools.{and_left, and_right, clash}
 use Rattle.logic.specs.Laws.Order.{lt-or}
 use Rattle.logic.specs.Refusal.{refuse, ◌otherwise◌}
 use Rattle.reading.specs.Reading.{Nodes, render}
-use Rattle.reading.specs.Laws.Reading.{eq-or}
+use Rattle.reading.proofs.Laws.Reading.{eq-or}
 use Rattle.reading.specs.declared.Profile.{Profile}
 use Rattle.reading.specs.Ground.{whole_cells, size_sum}
 use Rattle.reading.specs.Text.{level_of, heading_length, ReadsAs, Accepted}
 use Rattle.reading.specs.Place.{Longest, place_of}
 use Rattle.reading.specs.Heading.{least, greatest, lead}
-use Rattle.reading.specs.Laws.Place.{place-longest}
-use Rattle.reading.specs.Laws.Heading.{heading-least, lead-head}
-use Rattle.reading.specs.Laws.Fits.{faces-of, depth-most}
+use Rattle.reading.proofs.Laws.Place.{place-longest}
+use Rattle.reading.proofs.Laws.Heading.{heading-least, lead-head}
+use Rattle.reading.proofs.Laws.Fits.{faces-of, depth-most}
 use Rattle.reading.specs.Report.{count, size_along}
-use Rattle.reading.specs.Laws.TextReading.{read-text, reads-own, read-accepted}
-use Rattle.reading.specs.Laws.Demand.{count-whole, size-whole}
+use Rattle.reading.proofs.Laws.TextReading.{read-text, reads-own, read-accepted}
+use Rattle.reading.proofs.Laws.Demand.{count-whole, size-whole}
 use Rattle.reading.specs.TextReading.{nodes_of, profile_of, north_of, south_of, is_text, body_start}
 use Rattle.reader.specs.declared.Checked.TheVariants.{Text, Refused}
 use Rattle.reader.specs.Check.{WrongVersion, other_version, text_refusal, answer, checked_of}

@@ -6,10 +6,10 @@ use Rattle.reading.specs.declared.Profile.{Profile}
 use Rattle.reading.specs.Ground.{whole_cells, SameGround, Cells}
 use Rattle.reading.specs.Text.{level_of, depth_of, heading, Reads, ReadsAs}
 use Rattle.reading.specs.TextReading.{nodes_of, profile_of, north_of, south_of, body_start}
-use Rattle.reading.specs.Laws.TextReading.{reads-own, read-text, body-start}
-use Rattle.reading.specs.Laws.Heading.{one-heading}
-use Rattle.reading.specs.Laws.Fits.{faces-of, depth-most}
-use Rattle.reading.specs.Laws.Demand.{same-ground, fewest}
+use Rattle.reading.proofs.Laws.TextReading.{reads-own, read-text, body-start}
+use Rattle.reading.proofs.Laws.Heading.{one-heading}
+use Rattle.reading.proofs.Laws.Fits.{faces-of, depth-most}
+use Rattle.reading.proofs.Laws.Demand.{same-ground, fewest}
 use Rattle.reader.specs.Check.{text_refusal}
 use Rattle.reader.specs.Laws.Check.{accepted-exactly}
 

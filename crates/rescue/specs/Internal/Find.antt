@@ -11,30 +11,30 @@ use Rattle.logic.specs.Laws.Bools.{same_truth}
 use Rattle.cell.specs.declared.Arrangement.{Arrangement}
 use Rattle.cell.specs.Cell.{IsArrangement}
 use Rattle.code.specs.Code.{code_of, cell_of, is_code, arrangement_of}
-use Rattle.code.specs.Laws.Code.{cell-code, code-cell, code-is-cell}
+use Rattle.code.proofs.Laws.Code.{cell-code, code-cell, code-is-cell}
 use Rattle.reading.specs.declared.Level.{Level}
 use Rattle.reading.specs.declared.Level.TheVariants.{Faces, Digits}
 use Rattle.reading.specs.Reading.{Nodes, end, whole, listed, many, render, names, Good}
 use Rattle.reading.specs.Loose.{Loose}
 use Rattle.reading.specs.Ground.{cell_named}
 use Rattle.reading.specs.Prefix.{Name, numbers_of, IsName, AreNames}
-use Rattle.reading.specs.Laws.Named.{named-cell, name-named, cell-named, cells-named, names-named}
-use Rattle.reading.specs.Laws.Rising.{names-rise, rise-rising, codes-rise}
-use Rattle.reading.specs.Laws.Fewest.{names-good}
-use Rattle.writing.specs.Laws.List.{good-list}
+use Rattle.reading.proofs.Laws.Named.{named-cell, name-named, cell-named, cells-named, names-named}
+use Rattle.reading.proofs.Laws.Rising.{names-rise, rise-rising, codes-rise}
+use Rattle.reading.proofs.Laws.Fewest.{names-good}
+use Rattle.writing.proofs.Laws.List.{good-list}
 use Rattle.walk.specs.Walk.{origin}
 use Rattle.sorting.specs.Sorted.{sorted}
 use Rattle.loose.specs.LooseText.{LooseBody}
 use Rattle.loose.specs.LooseScan.{loose_nodes}
 use Rattle.proper.specs.Proper.{answer}
 use Rattle.proper.specs.Changes.{Item, Change, items, same, any, has, names-whole, stands-for, kind_1, kind-4, changes_from, changes}
-use Rattle.proper.specs.Laws.Lists.{IMem, same_true, same_self}
-use Rattle.proper.specs.Laws.Kind.{first_kind_lem, fourth-kind}
-use Rattle.proper.specs.Laws.Left.{name_in, left-largest}
-use Rattle.proper.specs.Laws.Proper.{answer-good}
+use Rattle.proper.proofs.Laws.Lists.{IMem, same_true, same_self}
+use Rattle.proper.proofs.Laws.Kind.{first_kind_lem, fourth-kind}
+use Rattle.proper.proofs.Laws.Left.{name_in, left-largest}
+use Rattle.proper.proofs.Laws.Proper.{answer-good}
 use Rattle.proper.specs.Thin.{thinned, Coded}
-use Rattle.proper.specs.Laws.Thin.{thinned-coded, thinned-good}
-use Rattle.proper.specs.Laws.Thinned.{codes-sorted}
+use Rattle.proper.proofs.Laws.Thin.{thinned-coded, thinned-good}
+use Rattle.proper.proofs.Laws.Thinned.{codes-sorted}
 use Rattle.proper.specs.Wholes.{loose_codes}
 use Rattle.rescue.specs.Internal.Marks.{has_code, lacking, standing, first_kind, fourth_kind, met_own, masks, changes_in, code_named, item_changes, tested}
 use Rattle.rescue.specs.Internal.Lack.{has-lacking, rise-lacking}

@@ -11,7 +11,7 @@ use Rattle.logic.specs.Refusal.{refuse}
 use Rattle.logic.specs.Laws.Refusal.{both, allowed}
 use Rattle.cell.specs.declared.Arrangement.{Arrangement}
 use Rattle.cell.specs.Cell.{IsArrangement, arrangement_refusal}
-use Rattle.cell.specs.Laws.Cell.{is-arrangement}
+use Rattle.cell.proofs.Laws.Cell.{is-arrangement}
 use Rattle.code.specs.Code.{cell_of}
 use Rattle.reading.specs.declared.Profile.TheVariants.{Full}
 use Rattle.reading.specs.Written.{keeps}

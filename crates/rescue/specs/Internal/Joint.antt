@@ -20,26 +20,26 @@ use Rattle.reading.specs.declared.Level.TheVariants.{Faces}
 use Rattle.reading.specs.Reading.{Nodes, names, render}
 use Rattle.reading.specs.Ground.{cell_named, whole_cells}
 use Rattle.reading.specs.Report.{count}
-use Rattle.reading.specs.Laws.Report.{count-names, count_most}
-use Rattle.reading.specs.Laws.Loose.{good-loose}
+use Rattle.reading.proofs.Laws.Report.{count-names, count_most}
+use Rattle.reading.proofs.Laws.Loose.{good-loose}
 use Rattle.walk.specs.Walk.{origin, Walks}
 use Rattle.writing.specs.declared.Written.{Written}
 use Rattle.writing.specs.declared.Written.TheVariants as written_as
 use Rattle.writing.specs.Write.{written}
 use Rattle.sorting.specs.Sorted.{sorted}
-use Rattle.sorting.specs.Laws.Sorted.{sorted-length}
+use Rattle.sorting.proofs.Laws.Sorted.{sorted-length}
 use Rattle.loose.specs.LooseText.{LooseBody}
 use Rattle.loose.specs.LooseScan.{loose_nodes}
-use Rattle.loose.specs.Laws.Reading.{loose-nodes}
+use Rattle.loose.proofs.Laws.Reading.{loose-nodes}
 use Rattle.loose.specs.declared.Looked.{Looked}
 use Rattle.loose.specs.declared.Looked.TheVariants as looked-as
 use Rattle.loose.specs.Look.{loose_arrangement, IsLoose, loose_refusal, place_with, looked}
-use Rattle.loose.specs.Laws.Look.{loose-own, loose-short}
+use Rattle.loose.proofs.Laws.Look.{loose-own, loose-short}
 use Rattle.proper.specs.Proper.{answer, rescued, proper_of}
 use Rattle.proper.specs.Changes.{Change, changes}
-use Rattle.proper.specs.Laws.Proper.{answer-good}
-use Rattle.proper.specs.Laws.Text.{loose-body, loose-long, loose-arranged, short-enough, codes-fit}
-use Rattle.proper.specs.Laws.Walk.{loose-start}
+use Rattle.proper.proofs.Laws.Proper.{answer-good}
+use Rattle.proper.proofs.Laws.Text.{loose-body, loose-long, loose-arranged, short-enough, codes-fit}
+use Rattle.proper.proofs.Laws.Walk.{loose-start}
 use Rattle.proper.specs.Thin.{thinned}
 use Rattle.proper.specs.Wholes.{loose_codes}
 use Rattle.rescue.specs.declared.Rescued.{Rescued}

@@ -8,7 +8,7 @@ use Rattle.std.proofs.Math.ListN.{drop, set, get_or, length-append}
 use Rattle.std.proofs.Math.Seq.{set_at}
 use Rattle.logic.specs.Laws.Bools.{by_cond, and_none}
 use Rattle.logic.specs.Rise.{Above, Rise}
-use Rattle.proper.specs.Laws.Front.{put-fits, put_front}
+use Rattle.proper.proofs.Laws.Front.{put-fits, put_front}
 use Rattle.rescue.specs.Internal.Marks.{has_code, lacking, Clear}
 
 -- ---- what they are

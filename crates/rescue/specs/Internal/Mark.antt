@@ -13,18 +13,18 @@ use Rattle.logic.specs.Laws.Order.{lt-or}
 use Rattle.ternary.specs.Digits.{value, Below}
 use Rattle.cell.specs.declared.Arrangement.{Arrangement}
 use Rattle.code.specs.Number.{code_as}
-use Rattle.code.specs.Laws.Number.{code-as}
+use Rattle.code.proofs.Laws.Number.{code-as}
 use Rattle.reading.specs.declared.Level.{Level}
 use Rattle.reading.specs.declared.Level.TheVariants.{Faces, Belt, Digits}
 use Rattle.reading.specs.Reading.{Nodes, end, whole, listed, first, many, render}
 use Rattle.reading.specs.Ground.{cell_named}
 use Rattle.reading.specs.Prefix.{Name, IsName}
-use Rattle.reading.specs.Laws.Named as named-laws
+use Rattle.reading.proofs.Laws.Named as named-laws
 use Rattle.walk.specs.declared.Spot.{Spot}
 use Rattle.walk.specs.Walk.{spot, spot_of, after, opens, whole_at, last_in}
 use Rattle.walk.specs.Laws.Walk.{opens-nodes, not-open, not-shut, below-nine, after-name, whole-name, last-in, named, named-cells}
 use Rattle.reading.specs.Loose.{Loose}
-use Rattle.listing.specs.Laws.List.{spot_code}
+use Rattle.listing.proofs.Laws.List.{spot_code}
 use Rattle.proper.specs.Changes.{Item, Change, when, is_end, items}
 use Rattle.rescue.specs.Internal.Marks.{first_kind, fourth_kind, late_at, shuts, mask_of, met_own, masks, kinds_at, changes_in, code_named, item_changes, tested, own_after, all_after}
 

@@ -5,7 +5,7 @@ use Rattle.cell.specs.declared.Arrangement.{Arrangement}
 use Rattle.walk.specs.declared.Spot.{Spot}
 use Rattle.walk.specs.Walk.{origin, after, whole_at, Walks}
 use Rattle.walk.specs.Laws.Walk.{walks-on, byte_at}
-use Rattle.listing.specs.Laws.List.{spot_code}
+use Rattle.listing.proofs.Laws.List.{spot_code}
 use Rattle.proper.specs.Changes.{Change, when}
 use Rattle.rescue.specs.Internal.Marks.{bit, Seen, first_kind, fourth_kind, late_at, shuts, mask_of, met_own, masks, kinds_at, changes_in}
 use Rattle.rescue.specs.Rescue.{flat}

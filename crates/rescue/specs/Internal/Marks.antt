@@ -6,7 +6,7 @@ use Rattle.reading.specs.Ground.{cell_named}
 use Rattle.reading.specs.Prefix.{Name}
 use Rattle.walk.specs.declared.Spot.{Spot}
 use Rattle.walk.specs.Walk.{after, whole_at}
-use Rattle.listing.specs.Laws.List.{spot_code}
+use Rattle.listing.proofs.Laws.List.{spot_code}
 use Rattle.proper.specs.Changes.{Item, Change, when}
 
 unfoldable pub has_code : ℕ → List ℕ → Bool

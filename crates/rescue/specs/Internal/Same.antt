@@ -7,7 +7,7 @@ use Rattle.reading.specs.declared.Profile.TheVariants.{Full, Handheld}
 use Rattle.reading.specs.Reading.{Nodes}
 use Rattle.reading.specs.Text.{ReadsAs}
 use Rattle.reading.specs.TextReading.{nodes_of, profile_of, north_of, south_of}
-use Rattle.reading.specs.Laws.Loose.{good-loose}
+use Rattle.reading.proofs.Laws.Loose.{good-loose}
 use Rattle.reader.specs.declared.Checked.TheVariants.{Text}
 use Rattle.reader.specs.Check.{checked_of}
 use Rattle.reader.specs.Laws.Answer.{text-checked}
@@ -15,10 +15,10 @@ use Rattle.reader.specs.Laws.Demand.{accepted-reads}
 use Rattle.loose.specs.LooseText.{LooseAs}
 use Rattle.loose.specs.LooseScan.{loose_nodes}
 use Rattle.loose.specs.Look.{loose_north, loose_south, IsLoose, loose_refusal}
-use Rattle.loose.specs.Laws.Look.{loose-own, loose-read}
+use Rattle.loose.proofs.Laws.Look.{loose-own, loose-read}
 use Rattle.proper.specs.Proper.{rescued, proper_of}
 use Rattle.proper.specs.Changes.{changes}
-use Rattle.proper.specs.Laws.Unchanged.{unchanged, proper-empty}
+use Rattle.proper.proofs.Laws.Unchanged.{unchanged, proper-empty}
 use Rattle.rescue.specs.declared.Rescued.{Rescued}
 use Rattle.rescue.specs.declared.Rescued.TheVariants.{Done, Refused}
 use Rattle.rescue.specs.Rescue.{flat, changes_of, RescueIs}

@@ -4,7 +4,7 @@ use Rattle.std.proofs.Common.{sym, ap, ◌∙◌, le_refl, mul-one, mul_assoc, m
 use Prim.Native.Nat.{ℕ, ◌+◌, ◌-◌, ◌*◌, ◌/◌, ◌%◌, ◌^◌, ◌≤◌, ◌<◌}
 use Rattle.std.proofs.Math.Nat.{mul-add, mul-div-mul_right, mul-lt-mul_of_pos_left}
 use native.Mathlib.Omega.{arith}
-use Rattle.ternary.specs.Laws.Powers.{power_pos, power-add}
+use Rattle.ternary.proofs.Laws.Powers.{power_pos, power-add}
 use Rattle.wide.specs.High.{high_word}
 use Rattle.wide.specs.Laws.High.{high-under, high-over}
 use Rattle.root.specs.declared.Axis.{Axis}

@@ -4,7 +4,7 @@ use mathlib.Core.Logic.{⊎_elim}
 use Prim.Native.Nat.{ℕ}
 use native.Mathlib.Omega.{arith}
 use borrow.Author.Tests.{lt-ltb, le-ltb}
-use Rattle.ternary.specs.Laws.Powers.{power_le}
+use Rattle.ternary.proofs.Laws.Powers.{power_le}
 use Rattle.shape.specs.Shape.{cap_shape, shape_of}
 use Rattle.shape.proofs.shape_of.Goals as goal
 

@@ -2,7 +2,7 @@
 use mathlib.Core.Path.{◌≡◌, sym, ap₂, ◌∙◌}
 use Prim.Native.Nat.{◌*◌, ◌^◌}
 use native.Mathlib.Omega.{arith}
-use Rattle.ternary.specs.Laws.Powers.{nine-square, nine-le}
+use Rattle.ternary.proofs.Laws.Powers.{nine-square, nine-le}
 use Rattle.ternary.proofs.nine_power.Goals as goal
 use Rattle.ternary.proofs.nine_power.Goals.{After-power-root}
 

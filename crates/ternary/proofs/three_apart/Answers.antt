@@ -1,5 +1,5 @@
 -- `ternary::three_apart` meets its contract: the table's rule at one entry. Assumes nothing.
-use Rattle.ternary.specs.Laws.Threes.{apart-entry}
+use Rattle.ternary.proofs.Laws.Threes.{apart-entry}
 use Rattle.ternary.proofs.three_apart.Goals as goal
 
 pub returns : goal.returns

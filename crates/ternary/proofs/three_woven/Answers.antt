@@ -3,7 +3,7 @@ use mathlib.Core.Path.{◌≡◌}
 use Prim.Native.Nat.{◌+◌, ◌*◌}
 use lib.ListN.{get_or}
 use Rattle.ternary.specs.Weave.{weave}
-use Rattle.ternary.specs.Laws.Threes.{woven-entry}
+use Rattle.ternary.proofs.Laws.Threes.{woven-entry}
 use Rattle.ternary.proofs.three_woven.Goals as goal
 use Rattle.ternary.proofs.three_woven.Goals.{Start}
 

@@ -3,7 +3,7 @@ use mathlib.Core.Path.{◌≡◌, sym, ap, ◌∙◌}
 use Prim.Native.Nat.{ℕ, ◌+◌, ◌-◌, ◌*◌, ◌/◌, ◌%◌, ◌≤◌, ◌<◌}
 use native.Mathlib.Nat.{mul-le-mul}
 use native.Mathlib.Omega.{arith}
-use Rattle.ternary.specs.Laws.Weave.{weave-small}
+use Rattle.ternary.proofs.Laws.Weave.{weave-small}
 use Rattle.ternary.proofs.ByFive.{turned, turn, woven, small}
 use Rattle.ternary.proofs.woven.Goals as goal
 

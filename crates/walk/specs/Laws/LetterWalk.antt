@@ -9,11 +9,11 @@ use Rattle.reading.specs.declared.Level.TheVariants.{Faces, Digits}
 use Rattle.reading.specs.Reading.{Nodes, end, whole, listed, first, many, room, render, Some, Good}
 use Rattle.reading.specs.Prefix.{Name}
 use Rattle.reading.specs.Loose.{Loose}
-use Rattle.reading.specs.Laws.Loose.{good-loose}
+use Rattle.reading.proofs.Laws.Loose.{good-loose}
 use Rattle.reading.specs.Letters.{letters, letter_cells, is_letter, letter_count}
-use Rattle.reading.specs.Laws.Letters.{letters-good}
+use Rattle.reading.proofs.Laws.Letters.{letters-good}
 use Rattle.reading.specs.TextReading.{nodes_of, is_text, body_start}
-use Rattle.reading.specs.Laws.TextReading.{good-nodes, body-nodes}
+use Rattle.reading.proofs.Laws.TextReading.{good-nodes, body-nodes}
 use Rattle.walk.specs.declared.Spot.{Spot}
 use Rattle.walk.specs.Walk.{spot, origin, spot_of, after, opens, last_in}
 use Rattle.walk.specs.Laws.Walk.{not-open, not-shut, below-nine, after-name, last-in, opens-nodes, named, named-one, named-all, named-cells}

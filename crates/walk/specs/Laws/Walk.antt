@@ -16,11 +16,11 @@ use Rattle.reading.specs.Reading.{Nodes, end, whole, listed, first, many, render
 use Rattle.reading.specs.Loose.{Loose}
 use Rattle.reading.specs.Ground.{cell_named, whole_cells}
 use Rattle.reading.specs.Prefix.{Name, numbers_of, IsName, AreNames}
-use Rattle.reading.specs.Laws.Named.{name-named}
-use Rattle.reading.specs.Laws.Fewest.{names-good}
+use Rattle.reading.proofs.Laws.Named.{name-named}
+use Rattle.reading.proofs.Laws.Fewest.{names-good}
 use Rattle.reading.specs.TextReading.{nodes_of, is_text, body_start}
-use Rattle.reading.specs.Laws.TextReading.{good-nodes, body-within, body-nodes}
-use Rattle.reading.specs.Laws.Loose.{good-loose}
+use Rattle.reading.proofs.Laws.TextReading.{good-nodes, body-within, body-nodes}
+use Rattle.reading.proofs.Laws.Loose.{good-loose}
 use Rattle.walk.specs.declared.Spot.{Spot}
 use Rattle.walk.specs.Walk.{spot, origin, spot_of, Fits, number_in, after, goes_on, opens, whole_at, walk, goes, Walks, spots_in, last_in}
 

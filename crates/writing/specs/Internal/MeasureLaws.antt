@@ -7,24 +7,24 @@ use Rattle.std.proofs.Math.Logic.{⊎_elim}
 use native.Mathlib.Omega.{arith}
 use Rattle.logic.specs.Laws.Bools.{and_left, and_right}
 use Rattle.logic.specs.Laws.Order.{lt-or}
-use Rattle.ternary.specs.Laws.Powers.{nine-pos, nine-lt}
+use Rattle.ternary.proofs.Laws.Powers.{nine-pos, nine-lt}
 use Rattle.cell.specs.declared.Cell.{Cell}
 use Rattle.cell.specs.Hierarchy.{child_of}
-use Rattle.cell.specs.Laws.Hierarchy.{child-is-cell}
+use Rattle.cell.proofs.Laws.Hierarchy.{child-is-cell}
 use Rattle.code.specs.Code.{digits_of, cell_of, is_code, size_of}
-use Rattle.code.specs.Laws.Code.{code-is-cell}
+use Rattle.code.proofs.Laws.Code.{code-is-cell}
 use Rattle.code.specs.Inside.{Inside, start_of, end_of}
-use Rattle.code.specs.Laws.Inside.{size-pos, inside-within}
-use Rattle.code.specs.Laws.Size.{child-start}
+use Rattle.code.proofs.Laws.Inside.{size-pos, inside-within}
+use Rattle.code.proofs.Laws.Size.{child-start}
 use Rattle.reading.specs.declared.Level.TheVariants.{Digits}
 use Rattle.reading.specs.Reading.{Nodes, whole, listed, render, wholes}
 use Rattle.reading.specs.Ground.{cell_named, size_sum}
 use Rattle.reading.specs.Prefix.{Name, numbers_of, Prefix, Ahead, IsName}
-use Rattle.reading.specs.Laws.Rising.{ahead_before}
-use Rattle.reading.specs.Laws.Named.{named-cell, name-named, cell-is-named, cell-named, prefix-inside}
+use Rattle.reading.proofs.Laws.Rising.{ahead_before}
+use Rattle.reading.proofs.Laws.Named.{named-cell, name-named, cell-is-named, cell-named, prefix-inside}
 use Rattle.reading.specs.Written.{node_of, side, under}
 use Rattle.writing.specs.Write.{all_codes}
-use Rattle.reading.specs.Laws.Built.{built-side}
+use Rattle.reading.proofs.Laws.Built.{built-side}
 use Rattle.writing.specs.Internal.Take.{rests_of, Since, Each, Took}
 use Rattle.writing.specs.Internal.TakeLaws.{prefix_same, prefix-both, side-in, side-out, took-none, took-join, standing-next}
 use Rattle.writing.specs.Internal.TakeLaws.{all-ahead, self-node, self-took, self-past, deeper, deeper-node, nine-past}

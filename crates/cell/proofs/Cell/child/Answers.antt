@@ -5,9 +5,9 @@ use borrow.Author.Tests.{lt-ltb, le-ltb, eq-eqb, ne_eqb}
 use Rattle.logic.specs.Refusal.{◌otherwise◌}
 use Rattle.cell.specs.declared.Found.TheVariants.{At}
 use Rattle.cell.specs.Cell.{IsCell, found}
-use Rattle.cell.specs.Laws.Cell.{is-cell}
+use Rattle.cell.proofs.Laws.Cell.{is-cell}
 use Rattle.cell.specs.Hierarchy.{child_refusal}
-use Rattle.cell.specs.Laws.Found.{refused, then}
+use Rattle.cell.proofs.Laws.Found.{refused, then}
 use Rattle.cell.proofs.Cell.child.Goals as goal
 use Rattle.cell.proofs.Cell.child.Goals.{Else-refusal-ne0}
 

@@ -1,7 +1,7 @@
 -- `Cell::child_cell` meets its contract; a cell's row and column are small enough to be tripled. Assumes nothing.
 use mathlib.Core.Path.{refl}
 use native.Mathlib.Omega.{arith}
-use Rattle.cell.specs.Laws.Cell.{row_small, column-small}
+use Rattle.cell.proofs.Laws.Cell.{row_small, column-small}
 use Rattle.cell.specs.Hierarchy.{child_of}
 use Rattle.cell.proofs.Cell.child_cell.Goals as goal
 

@@ -1,6 +1,6 @@
 -- `Cell::leaves` meets its contract: each arm is the case that its key picks. Assumes nothing.
 use native.Mathlib.Omega.{arith}
-use Rattle.ternary.specs.Laws.Powers.{power_pos}
+use Rattle.ternary.proofs.Laws.Powers.{power_pos}
 use Rattle.cell.specs.Neighbour.{leaves, rows}
 use Rattle.cell.proofs.Laws.{fourth, eqb-last}
 use Rattle.cell.proofs.Cell.leaves.Goals as goal

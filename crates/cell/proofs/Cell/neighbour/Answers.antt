@@ -1,7 +1,7 @@
 -- `Cell::neighbour` meets its contract: the step across an edge or inside the face. Assumes nothing.
 use mathlib.Core.Path.{sym, ◌∙◌}
 use Prim.Native.Nat.{◌-◌}
-use Rattle.cell.specs.Internal.Seams.{step-across, step-within}
+use Rattle.cell.proofs.Internal.Seams.{step-across, step-within}
 use Rattle.cell.proofs.Cell.neighbour.Goals as goal
 
 pub returns-then-leaves : goal.returns-then-leaves

@@ -4,7 +4,7 @@ use borrow.Author.Tests.{eq-eqb, ne_eqb}
 use Rattle.cell.specs.declared.Found.TheVariants.{At}
 use Rattle.cell.specs.Cell.{found}
 use Rattle.cell.specs.Hierarchy.{parent_refusal}
-use Rattle.cell.specs.Laws.Found.{refused, then}
+use Rattle.cell.proofs.Laws.Found.{refused, then}
 use Rattle.cell.proofs.Cell.parent.Goals as goal
 
 pub returns-then-refusal-ne0 : goal.returns-then-refusal-ne0

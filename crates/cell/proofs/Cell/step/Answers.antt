@@ -9,9 +9,9 @@ use Rattle.cell.specs.declared.Cell.{Cell}
 use Rattle.cell.specs.declared.Found.{Found}
 use Rattle.cell.specs.declared.Found.TheVariants.{At}
 use Rattle.cell.specs.Cell.{IsCell, IsArrangement, found}
-use Rattle.cell.specs.Laws.Cell.{is-cell, is-arrangement}
+use Rattle.cell.proofs.Laws.Cell.{is-cell, is-arrangement}
 use Rattle.cell.specs.Neighbour.{neighbour_of, neighbour_refusal}
-use Rattle.cell.specs.Laws.Found.{refused, then}
+use Rattle.cell.proofs.Laws.Found.{refused, then}
 use Rattle.cell.proofs.Cell.step.Goals as goal
 use Rattle.cell.proofs.Cell.step.Goals.{Else-direction-gt3, Else-refusal-ne0, Else-unarranged-ne0}
 

@@ -3,7 +3,7 @@ use mathlib.Core.Path.{◌≡◌, ◌∙◌}
 use Prim.Native.Nat.{suc, ◌-◌}
 use native.Mathlib.Omega.{arith}
 use borrow.Author.Tests.{eqb-false}
-use Rattle.cell.specs.Laws.Cell.{row_small, column-small}
+use Rattle.cell.proofs.Laws.Cell.{row_small, column-small}
 use Rattle.cell.specs.Neighbour.{leaves, within_face}
 use Rattle.cell.proofs.Laws.{fourth}
 use Rattle.cell.proofs.Cell.within_face.Goals as goal

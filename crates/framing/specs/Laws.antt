@@ -1,4 +1,0 @@
-pub mod Framing
-pub mod Hexadecimal
-pub mod Side
-pub mod Worked

@@ -1,0 +1,16 @@
+-- `walk::open_past` meets its contract. Assumes nothing.
+use borrow.Author.Tests.{eq-eqb, ne_eqb}
+use Rattle.walk.specs.Past.{open_past}
+use Rattle.walk.proofs.open_past.Goals as goal
+
+pub returns-then-b-eq40 : goal.returns-then-b-eq40
+unfolding open_past
+returns-then-b-eq40 c = rw (eq-eqb c.args.b 40 c.if-b-eq40.true)
+
+pub returns-then-b-eq41 : goal.returns-then-b-eq41
+unfolding open_past
+returns-then-b-eq41 c = let a = c.args in rw (ne_eqb a.b 40 c.if-b-eq40.false, eq-eqb a.b 41 c.if-b-eq41.true)
+
+pub returns : goal.returns
+unfolding open_past
+returns c = let a = c.args in rw (ne_eqb a.b 40 c.if-b-eq40.false, ne_eqb a.b 41 c.if-b-eq41.false)

@@ -1,0 +1,12 @@
+-- `writing::greater` meets its contract. Assumes nothing.
+use borrow.Author.Tests.{lt-ltb, le-ltb}
+use Rattle.writing.specs.Internal.Depth.{greater}
+use Rattle.writing.proofs.greater.Goals as goal
+
+pub returns-then-a-b : goal.returns-then-a-b
+unfolding greater
+returns-then-a-b c = rw (lt-ltb _ _ c.if-a-b.true) cc
+
+pub returns : goal.returns
+unfolding greater
+returns c = rw (le-ltb _ _ c.if-a-b.false) cc
