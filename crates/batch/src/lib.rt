@@ -1,6 +1,7 @@
 // Batches (02, W-202): many codes to cells and back, three levels at a time. A constant array is copied where it is used, so a batch takes its table
 // once and lends it on. What each code or cell gets is what it gets alone.
 #![tactic(auto)]
+
 ghost use Rattle.std.specs.Prelude.{◌≡◌, ◌+◌, ◌*◌, ◌≤◌, length, drop};
 ghost use Rattle.std.proofs.lemmas.List.Edits.{sets};
 ghost use Rattle.logic.specs.Refusal.{◌otherwise◌};

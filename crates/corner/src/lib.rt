@@ -1,5 +1,6 @@
 // The cells that meet a cell at a corner only (02, W-204): how many they are, and their codes.
 #![tactic(auto)]
+
 ghost use Rattle.std.specs.Prelude.{◌≡◌, ◌≤◌, ◌<◌, length, take};
 ghost use Rattle.cell.specs.Cell.{IsCell, IsArrangement};
 ghost use Rattle.track.specs.Track.{Held};

@@ -1,5 +1,6 @@
 // Planar numbers in metres, as doubles.
 #![tactic(auto)]
+
 ghost use Rattle.std.specs.Prelude.{◌≡◌, ◌^◌, ◌≤◌, nat_abs};
 ghost use Rattle.metres.specs.Metres.{is_side, metres_of};
 

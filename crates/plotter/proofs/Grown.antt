@@ -11,10 +11,9 @@ use lib.Ieee.{Float}
 use Rattle.logic.specs.Refusal.{refuse}
 use Rattle.metres.specs.Metres.{is_side, side_refusal}
 use Rattle.plotter.specs.declared.Frame.{Frame}
-use Rattle.plotter.specs.declared.Framed.{Framed}
 use Rattle.plotter.specs.declared.Framed.TheVariants.{Edges, Refused}
 use Rattle.plotter.specs.declared.Around.TheVariants as around-as
-use Rattle.plotter.specs.Plotter.{first_frame, grown_frame, further, grown_by, as_around, no_cells, frame_around}
+use Rattle.plotter.specs.Plotter.{first_frame, grown_frame, grown_by, as_around, no_cells, frame_around}
 
 drop_code : (codes : List ℕ) (i : ℕ) → i < length codes → drop i codes ≡ get_or codes i 0 ∷ drop (i + 1) codes
 drop_code codes i h = rw (add-one, drop-cons codes i 0)

@@ -25,7 +25,6 @@ use Rattle.metres.specs.Metres.{is_side, side_refusal}
 use Rattle.plotter.specs.declared.Frame.{Frame}
 use Rattle.plotter.specs.declared.Mark.{Mark}
 use Rattle.plotter.specs.declared.Mark.TheVariants.{Nothing}
-use Rattle.plotter.specs.declared.Framed.{Framed}
 use Rattle.plotter.specs.declared.Framed.TheVariants.{Edges, Refused}
 use Rattle.plotter.specs.Plotter.{mark, framed}
 

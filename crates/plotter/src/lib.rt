@@ -1,5 +1,6 @@
 // Marks and frames for the plotter, in metres.
 #![tactic(auto)]
+
 ghost use Rattle.std.specs.Prelude.{◌≡◌, true};
 ghost use Rattle.std.specs.Float.Ieee.{is_nan};
 ghost use Rattle.cell.specs.Cell.{IsCell, IsArrangement};

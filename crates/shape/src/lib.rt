@@ -1,5 +1,6 @@
 // The shape of a cell.
 #![tactic(auto)]
+
 ghost use Rattle.std.specs.Prelude.{◌≡◌, ◌≤◌, ◌<◌};
 ghost use Rattle.cell.specs.Cell.{IsCell};
 ghost use Rattle.shape.specs.Shape.{shape_of, cap_shape, shape_number};

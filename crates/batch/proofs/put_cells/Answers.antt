@@ -1,5 +1,4 @@
 -- `batch::put_cells` meets its contract: before each code the cells put, and those still to be put, are the whole. Assumes nothing.
-use Prim.Native.Nat.{◌-◌}
 use Rattle.batch.proofs.Batches.{cells-on, cells-end}
 use Rattle.batch.proofs.put_cells.Goals as goal
 

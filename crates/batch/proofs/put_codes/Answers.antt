@@ -1,5 +1,4 @@
 -- `batch::put_codes` meets its contract: before each cell the codes put, and those still to be put, are the whole. Assumes nothing.
-use Prim.Native.Nat.{◌-◌}
 use Rattle.batch.proofs.Batches.{codes-start, codes-on, codes-end}
 use native.Mathlib.Omega.{arith}
 use Rattle.batch.proofs.put_codes.Goals as goal

@@ -1,11 +1,11 @@
 -- One rounding of a fraction in the normal range is within one part in 2 ^ prec of it. Assumes nothing.
-use Rattle.std.specs.Prelude.{◌≡◌, refl, ◌⊎◌, Bool, true, false, not, T, eqb, Float}
-use Rattle.std.proofs.Common.{sym, ap, ◌∙◌, subst, inl, inr, le_trans, le_of_eq, mul_comm, mul_assoc, mul_left_comm, mul_right_comm, add-mul, mul-le-mul_right, mul-le-mul_left, div-add-mod', mod-lt, mul-add, le-div_iff_mul-le, le_of_mul-le-mul_right, mul-pos, arith, leb→le, eqb→eq, pow-add, pow_pos}
+use Rattle.std.specs.Prelude.{◌≡◌, not, T, eqb}
+use Rattle.std.proofs.Common.{sym, ap, ◌∙◌, subst, le_trans, le_of_eq, mul_comm, mul_assoc, mul_left_comm, add-mul, mul-le-mul_right, div-add-mod', mod-lt, mul-add, le-div_iff_mul-le, mul-pos, arith, leb→le, eqb→eq, pow-add, pow_pos}
 use Prim.Native.Nat.{ℕ, suc, ◌+◌, ◌-◌, ◌*◌, ◌/◌, ◌%◌, ◌^◌, ◌≤◌, ◌<◌, compare, Ordering}
 use Rattle.std.proofs.Math.Dec.{is_le, compare_is_eq, nleb→lt, eqb_refl}
 use Rattle.std.proofs.Math.Arith.{lt_of_le-ne}
 use Rattle.std.specs.Float.{Format}
-use Rattle.std.specs.Float.Ieee.{prec, low, size, nearest, round}
+use Rattle.std.specs.Float.Ieee.{prec, low, size, nearest}
 use Rattle.std.specs.Float.Ieee.Digits.{size_reaches}
 use Rattle.std.specs.Float.Ieee.Fits.{two, two-le_pos}
 use Rattle.std.specs.Float.Ieee.Nearest.{closest}

@@ -1,7 +1,6 @@
 -- A whole number times a side, divided by 28697814, each step rounded once, is near the exact quotient. Assumes nothing.
-use Rattle.std.specs.Prelude.{◌≡◌, refl, Bool, true, false, not, cond, ℕ, zero, suc, ◌+◌, ◌-◌, ◌*◌, ◌/◌, ◌^◌, ◌≤◌, ◌<◌, T, ℤ, pos, negsuc, nat_abs, Float}
-use Rattle.std.proofs.Common.{sym, ap, ◌∙◌, subst, zero-le, le_trans, le_of_eq, le_of_lt, lt_of_le_of_lt, lt_of_lt_of_le, mul_comm, mul_assoc, mul_left_comm, mul_right_comm, add-mul, mul-add, mul-one, one-mul, zero-mul, mul-le-mul_right, mul-le-mul_left, le_of_mul-le-mul_right, mul-pos, mul-le-mul, le-mul_of_pos_right, arith, lit<, lit≤, pow_pos}
-use Rattle.std.specs.Bool.{beq}
+use Rattle.std.specs.Prelude.{◌≡◌, refl, Bool, true, false, ℕ, zero, suc, ◌+◌, ◌*◌, ◌/◌, ◌^◌, ◌≤◌, ◌<◌, T, ℤ, pos, negsuc, nat_abs, Float}
+use Rattle.std.proofs.Common.{sym, ap, ◌∙◌, subst, le_trans, le_of_eq, lt_of_le_of_lt, mul_comm, mul_assoc, mul_left_comm, mul_right_comm, mul-one, one-mul, zero-mul, mul-le-mul_right, mul-le-mul_left, le_of_mul-le-mul_right, mul-pos, mul-le-mul, le-mul_of_pos_right, arith, lit<, lit≤, pow_pos}
 use Rattle.std.specs.Float.{nan, inf, fin, Format, binary64}
 use Rattle.std.specs.Float.Ieee.{prec, low, up, down, size, unlike, round, mul, div, of_int, le}
 use Rattle.std.specs.Float.Ieee.Fits.{round_is, down_pos}
@@ -10,7 +9,6 @@ use Rattle.std.specs.Float.Ieee.Back.{round_whole}
 use Rattle.std.specs.Float.Ieee.Order.{drop, kept}
 use Rattle.std.specs.Float.Ieee.Scale.{grid, overflow, normal_of_fraction, round_same}
 use Rattle.std.specs.Float.Ieee.Positive.{num, den, den_pos, positive, between, le→cross}
-use Rattle.signed.specs.Sign.{negative}
 use Rattle.metres.specs.Metres.{Near, NearExact}
 use Rattle.metres.specs.Internal.Rounding.{grid-near}
 use Rattle.metres.specs.Internal.Chain.{near-as, near_of, chain}

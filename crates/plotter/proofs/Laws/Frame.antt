@@ -1,12 +1,12 @@
 -- "A frame grows to hold the box of each further cell" (02, W-214): the frame after a list of boxes holds each of them and what it was, and each of its
 -- edges is one of theirs. Assumes nothing.
 use Rattle.std.specs.Prelude.{◌≡◌, refl, ◌⊎◌, Bool, true, false, ◌||◌, List, [], ◌∷◌, Float}
-use Rattle.std.proofs.Common.{sym, ◌∙◌, subst, inl, inr, ⊎_elim}
+use Rattle.std.proofs.Common.{◌∙◌, inl, inr}
 use Rattle.std.proofs.Math.Path.{ap}
 use Rattle.std.proofs.Math.Bool.{cond}
 use Rattle.std.specs.Float.Ieee.{lt, eq, le, is_nan}
 use Rattle.logic.specs.Lists.{All, Any}
-use Rattle.logic.specs.Laws.Bools.{or_left, or_right, clash}
+use Rattle.logic.specs.Laws.Bools.{or_left, or_right}
 use Rattle.plotter.specs.declared.Frame.{Frame}
 use Rattle.plotter.specs.Plotter.{lower, higher, grown, has_nan, frame_over, Holds, EdgesOf}
 use Rattle.plotter.proofs.Laws.Order.{order_same, order_trans, order-not, order_below, order-tie}

@@ -1,13 +1,10 @@
 -- Doubles that are numbers, infinities among them, stand in one order. Assumes nothing.
-use Rattle.std.specs.Prelude.{◌≡◌, refl, Bool, true, false, not, ◌&&◌, ◌||◌, cond, ℕ, zero, suc, ◌+◌, ◌*◌, ◌≤◌, ◌<◌, leb, ltb, eqb, ℤ, Float}
-use Rattle.std.proofs.Common.{sym, ap, ◌∙◌, ⊎_elim, le_trans, le_of_eq, mul-le-mul_right, mul_right_comm, le_of_mul-le-mul_right, suc-mul, zero-mul, arith, lt-ltb, le-ltb, ltb-true, ltb-false, eq-eqb, eqb-true}
-use Rattle.std.specs.Bool.{beq}
+use Rattle.std.specs.Prelude.{◌≡◌, refl, Bool, true, false, ◌&&◌, ◌||◌, ℕ, zero, suc, ◌+◌, ◌*◌, ◌≤◌, ◌<◌, ltb, eqb, Float}
+use Rattle.std.proofs.Common.{sym, ap, ◌∙◌, ⊎_elim, le_trans, le_of_eq, mul-le-mul_right, mul_right_comm, le_of_mul-le-mul_right, suc-mul, zero-mul, arith, le-ltb, ltb-true, ltb-false, eq-eqb, eqb-true}
 use Rattle.std.specs.Float.{nan, inf, fin}
 use Rattle.std.specs.Float.Ieee.{up, down, below, level, lt, eq, le, is_nan}
 use Rattle.std.specs.Float.Ieee.Fits.{down_pos}
 use Rattle.logic.specs.Laws.Bools.{clash, or-either, and_left, and_right}
-use Rattle.logic.specs.Laws.Order.{lt-or}
-use Rattle.plotter.specs.Plotter.{lower, higher}
 
 -- ---- two fractions with signs: a of the one and b of the other, over one denominator
 
