@@ -1,6 +1,3 @@
-pub mod Corner
-pub mod List
-
 -- What the functions of this crate lean on: the count by its tests, and a code taken into the list. Assumes nothing.
 use mathlib.Core.Path.{◌≡◌, sym, ap, ap₂, ◌∙◌}
 use mathlib.Core.Bool.{Bool, true, false, ◌&&◌, cond}

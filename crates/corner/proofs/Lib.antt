@@ -1,3 +1,3 @@
-pub mod Laws
 pub mod Answers
 pub mod Fill
+pub mod Laws

@@ -1,3 +1,4 @@
 pub mod Corner
 pub mod Internal
+pub mod Laws
 pub mod List

@@ -1,8 +1,3 @@
-pub mod Around
-pub mod Box
-pub mod Frame
-pub mod Order
-
 -- A planar number that the machine reads back from its bits, and refusals of marks and frames. Assumes nothing.
 use mathlib.Core.Path.{◌≡◌, refl, sym, ap, ◌∙◌, subst}
 use mathlib.Core.Bool.{Bool, true, false, not}
@@ -19,8 +14,8 @@ use Rattle.signed.specs.Laws.Sign.{back_as}
 use Rattle.cell.specs.declared.Arrangement.{Arrangement}
 use Rattle.cell.specs.Cell.{IsArrangement}
 use Rattle.plane.specs.Plane.{in_image, point_refusal}
-use Rattle.plane.proofs.Laws.Plane.{point-allowed, refused-outside}
-use Rattle.plane.proofs.Laws.Small.{image-within}
+use Rattle.plane.specs.Laws.Plane.{point-allowed, refused-outside}
+use Rattle.plane.specs.Laws.Small.{image-within}
 use Rattle.metres.specs.Metres.{is_side, side_refusal}
 use Rattle.plotter.specs.declared.Frame.{Frame}
 use Rattle.plotter.specs.declared.Mark.{Mark}

@@ -1,0 +1,4 @@
+pub mod Around
+pub mod Box
+pub mod Frame
+pub mod Order
