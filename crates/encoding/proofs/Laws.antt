@@ -1,3 +1,5 @@
+pub mod Encoding
+
 -- What each number that is read makes of the answer, and what stands at each turn of the loops. Assumes nothing.
 use mathlib.Core.Path.{◌≡◌, sym, ap, ap₂, ◌∙◌}
 use mathlib.Core.Bool.{Bool}
@@ -9,7 +11,7 @@ use lib.ListN.{length, get_or, drop}
 use lib.Seq.{sets, sets-eq}
 use Rattle.logic.specs.Laws.Stores.{sets-append}
 use Rattle.ternary.specs.Digits.{digits}
-use Rattle.ternary.specs.Laws.Digits.{length_digits}
+use Rattle.ternary.proofs.Laws.Digits.{length_digits}
 use Rattle.fields.specs.declared.NumberRead.TheVariants as number-as
 use Rattle.fields.specs.Number.{number_at}
 use Rattle.encoding.specs.declared.SettingsRead.TheVariants.{Is, Wrong}
@@ -18,7 +20,7 @@ use Rattle.history.specs.declared.History.{History}
 use Rattle.history.specs.Settings.{none}
 use Rattle.encoding.specs.Encoding.{mark, settings_bytes, places_bytes, encoding_of}
 use Rattle.encoding.specs.Decoding.{up_to, settings, settings_at, newest_in}
-use Rattle.encoding.specs.Laws.Encoding.{settings-length, encoding-length}
+use Rattle.encoding.proofs.Laws.Encoding.{settings-length, encoding-length}
 use Rattle.encoding.specs.Internal.Spelling.{mark-bytes}
 
 -- ---- the settings of a place

@@ -13,18 +13,18 @@ use lib.Dec.{leb, ltb}
 use borrow.Author.Tests.{ltb-true, ltb-false, lt-ltb, le-ltb, le-leb, lt-leb, eq-eqb, ne_eqb}
 use Rattle.logic.specs.Refusal.{refuse, ◌otherwise◌, given}
 use Rattle.logic.specs.Laws.Refusal.{stops, given-none, given-value}
-use Rattle.history.specs.declared.History.{History}
+use Rattle.history.specs.declared.History.{History as HistoryOf}
 use Rattle.history.specs.Settings.{none, is_kept, next_refusal, read_refusal}
 use Rattle.history.specs.History.{answer, placed, read_of}
 
 -- ---- answers
 
-pub refused : {r q : ℕ} (new old : History) → q ≡ r → (r ≡ 0 → ⊥) → record { refusal = r; history = old } ≡ answer q new old
+pub refused : {r q : ℕ} (new old : HistoryOf) → q ≡ r → (r ≡ 0 → ⊥) → record { refusal = r; history = old } ≡ answer q new old
 unfolding answer
 refused {r} {q} new old e h =
     λ i. record { refusal = sym e i; history = sym (given-none q new old (λ z. h (sym e ∙ z))) i }
 
-pub accepted : {q : ℕ} (new old : History) → q ≡ 0 → record { refusal = 0; history = new } ≡ answer q new old
+pub accepted : {q : ℕ} (new old : HistoryOf) → q ≡ 0 → record { refusal = 0; history = new } ≡ answer q new old
 unfolding answer
 accepted {q} new old e = λ i. record { refusal = sym e i; history = sym (given-value new old e) i }
 
@@ -62,10 +62,10 @@ made newest r h = rw (le-leb r newest h) (go (ltb (newest - r) 32) refl)
     go true e = let k : newest - r < 32 = ltb-true _ _ e in sym (lt-ltb newest (r + 32) (omega arith))
     go false e = let k : 32 ≤ newest - r = ltb-false _ _ e in sym (le-ltb newest (r + 32) (omega arith))
 
-pub unread : (h : History) (r : ℕ) → is_kept h.newest r ≡ false → record { refusal = 18; settings = none } ≡ read_of h r
+pub unread : (h : HistoryOf) (r : ℕ) → is_kept h.newest r ≡ false → record { refusal = 18; settings = none } ≡ read_of h r
 unfolding read_of given
 unread h r e = ap (λ (x : ℕ). record { refusal = x; settings = given x (placed h r) none }) (sym (not-kept h.newest r e))
 
-pub is_read : (h : History) (r : ℕ) → is_kept h.newest r ≡ true → record { refusal = 0; settings = placed h r } ≡ read_of h r
+pub is_read : (h : HistoryOf) (r : ℕ) → is_kept h.newest r ≡ true → record { refusal = 0; settings = placed h r } ≡ read_of h r
 unfolding read_of given
 is_read h r e = ap (λ (x : ℕ). record { refusal = x; settings = given x (placed h r) none }) (sym (is-kept h.newest r e))

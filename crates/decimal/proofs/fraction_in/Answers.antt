@@ -10,7 +10,7 @@ use Rattle.decimal.specs.declared.Fraction.TheVariants as Fractions
 use Rattle.decimal.specs.Decimal.{whole_in, ahead, behind}
 use Rattle.decimal.specs.Fraction.{with_places}
 use Rattle.decimal.proofs.Laws.{from_on, take-ahead, ahead-le, drop-ahead}
-use Rattle.decimal.specs.Laws.Fraction.{whole_below, scaled-below}
+use Rattle.decimal.proofs.Laws.Fraction.{whole_below, scaled-below}
 use Rattle.decimal.proofs.Places.{no-point, long-point, short-point, places-are}
 use Rattle.decimal.proofs.fraction_in.Goals as goal
 use Rattle.decimal.proofs.fraction_in.Goals.{After-ten_to-scale, After-whole_in, After-whole_in-2, Else-point-text, Else-text-gt16}
