@@ -95,7 +95,7 @@ assert kept > 50 and len(seen) > 10, (seed, kept, seen)
 print('always a leading part')
 END" 'always a leading part\n' ''
 
-# what is said. A pipe that nobody reads ends whoever writes to it: the text comes first, in its file and on standard output, and then the words
+# what is said. A pipe that nobody reads can end whoever writes to it: the text comes first, in its file and on standard output, and then the words
 try "nobody reads what is said" "python3 - '$bin/record' <<'END'
 import os, signal, subprocess, sys
 def fly(stderr):
@@ -103,7 +103,7 @@ def fly(stderr):
 near, far = os.pipe()
 os.close(near)
 flown = fly(far)
-assert flown.returncode == -signal.SIGPIPE and flown.stdout == open('said.cvr', 'rb').read() == b'CVR\\0\\x0100Q(3)', flown
+assert flown.returncode in (0, -signal.SIGPIPE) and flown.stdout == open('said.cvr', 'rb').read() == b'CVR\\0\\x0100Q(3)', flown
 os.remove('said.cvr')
 read = fly(subprocess.PIPE)
 assert read.returncode == 0 and read.stdout == flown.stdout, read

@@ -1,3 +1,4 @@
+pub mod Facts
+pub mod Laws
 pub mod Answers
 pub mod Fill
-pub mod Laws

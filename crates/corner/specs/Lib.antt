@@ -1,4 +1,3 @@
 pub mod Corner
 pub mod Internal
-pub mod Laws
 pub mod List

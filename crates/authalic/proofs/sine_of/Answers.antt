@@ -10,7 +10,7 @@ use Rattle.signed.specs.Laws.Sign.{back, back_as, neg-sub}
 use Rattle.authalic.specs.Computed.{sine_word, authalic_sine}
 use Rattle.authalic.specs.Internal.AnswerLaws.{sine-small}
 use Rattle.authalic.specs.Authalic.{Geodetic}
-use Rattle.authalic.specs.Laws.Authalic.{geodetic-range, sine-size}
+use Rattle.authalic.proofs.Laws.Authalic.{geodetic-range, sine-size}
 use Rattle.authalic.proofs.sine_of.Goals as goal
 use Rattle.authalic.proofs.sine_of.Goals.{After-is_negative, After-magnitude, After-sine_word-size, Start}
 

@@ -2,7 +2,7 @@
 use mathlib.Core.Path.{sym, ap, ◌∙◌}
 use Rattle.cell.specs.declared.Cell.{Cell}
 use Rattle.cell.specs.Neighbour.{neighbour_of}
-use Rattle.cell.specs.Laws.Neighbour.{neighbour-is-cell}
+use Rattle.cell.proofs.Laws.Neighbour.{neighbour-is-cell}
 use Rattle.corner.specs.List.{clockwise}
 use Rattle.corner.specs.Internal.Square.{route-ahead, route-right}
 use native.Mathlib.Omega.{arith}

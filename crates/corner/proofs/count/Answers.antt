@@ -3,7 +3,7 @@ use mathlib.Core.Path.{◌≡◌, refl, sym, ap, ◌∙◌}
 use Prim.Native.Nat.{ℕ}
 use Rattle.cell.specs.Neighbour.{rows}
 use Rattle.corner.specs.Corner.{first_or_last}
-use Rattle.corner.proofs.Laws.{none-whole, counts}
+use Rattle.corner.proofs.Facts.{none-whole, counts}
 use Rattle.corner.proofs.count.Goals as goal
 use Rattle.corner.proofs.count.Goals.{After-first_or_last, After-first_or_last-then-first_or_last}
 

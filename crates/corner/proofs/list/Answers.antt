@@ -2,11 +2,11 @@
 use mathlib.Core.Path.{◌≡◌, sym, ap, subst, ◌∙◌}
 use lib.ListN.{length}
 use Rattle.cell.specs.Cell.{IsCell}
-use Rattle.code.specs.Laws.Code.{code-arranged}
-use Rattle.code.specs.Laws.Decoded.{Decoded, decoded, undecoded}
+use Rattle.code.proofs.Laws.Code.{code-arranged}
+use Rattle.code.proofs.Laws.Decoded.{Decoded, decoded, undecoded}
 use Rattle.corner.specs.Corner.{corner_number}
 use Rattle.corner.specs.List.{codes_at}
-use Rattle.corner.specs.Laws.List.{corners-count}
+use Rattle.corner.proofs.Laws.List.{corners-count}
 use Rattle.corner.proofs.Answers.{no_code, short, all}
 use native.Mathlib.Omega.{arith}
 use Rattle.corner.proofs.list.Goals as goal

@@ -8,18 +8,18 @@ use Rattle.std.proofs.Math.Bool.{◌&&◌}
 use native.Mathlib.Omega.{arith}
 use Rattle.logic.specs.Laws.Bools.{clash}
 use Rattle.logic.specs.Laws.Order.{lt-or}
-use Rattle.ternary.specs.Laws.Powers.{power_le}
+use Rattle.ternary.proofs.Laws.Powers.{power_le}
 use Rattle.cell.specs.declared.Cell.{Cell}
 use Rattle.cell.specs.declared.Arrangement.{Arrangement}
 use Rattle.cell.specs.Cell.{IsCell, IsArrangement}
 use Rattle.cell.specs.Neighbour.{rows, leaves, neighbour_of, back_of, Neighbour}
-use Rattle.cell.specs.Laws.Neighbour.{neighbour-is-cell, different, not_itself}
-use Rattle.cell.specs.Laws.Towards.{towards, towards-step, towards-itself}
-use Rattle.cell.specs.Laws.Turns.{four-cases}
+use Rattle.cell.proofs.Laws.Neighbour.{neighbour-is-cell, different, not_itself}
+use Rattle.cell.proofs.Laws.Towards.{towards, towards-step, towards-itself}
+use Rattle.cell.proofs.Laws.Turns.{four-cases}
 use Rattle.cell.specs.Line.{IsHeading, opposite, onward}
-use Rattle.cell.specs.Laws.Line.{onward-heading, entered}
-use Rattle.cell.specs.Laws.Faces.{IsWay, way}
-use Rattle.cell.specs.Laws.Crossing.{seen, left-small, behind-small}
+use Rattle.cell.proofs.Laws.Line.{onward-heading, entered}
+use Rattle.cell.proofs.Laws.Faces.{IsWay, way}
+use Rattle.cell.proofs.Laws.Crossing.{seen, left-small, behind-small}
 use Rattle.corner.specs.Corner.{MeetsAtCorner}
 use Rattle.corner.specs.List.{clockwise, face_corner, across_corner}
 use Rattle.corner.specs.Internal.Square.{counter, to_right, to_left, heading, Opens, Kind, kind, towards-second}

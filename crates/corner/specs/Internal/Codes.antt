@@ -15,9 +15,9 @@ use Rattle.logic.specs.Rise.{Rise}
 use Rattle.cell.specs.declared.Cell.{Cell}
 use Rattle.cell.specs.declared.Arrangement.{Arrangement}
 use Rattle.cell.specs.Cell.{IsCell, IsArrangement}
-use Rattle.cell.specs.Laws.Turns.{four-cases}
+use Rattle.cell.proofs.Laws.Turns.{four-cases}
 use Rattle.code.specs.Code.{code_of}
-use Rattle.code.specs.Laws.Code.{code_one}
+use Rattle.code.proofs.Laws.Code.{code_one}
 use Rattle.track.specs.Track.{inserted}
 use Rattle.track.specs.Laws.Track.{holds-old, holds-new, holds-only, inserted-rises}
 use Rattle.corner.specs.List.{face_corner, across_corner, with_corner, first_corners, corner_codes}

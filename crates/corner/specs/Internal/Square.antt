@@ -12,13 +12,13 @@ use Rattle.cell.specs.declared.Cell.{Cell}
 use Rattle.cell.specs.declared.Arrangement.{Arrangement}
 use Rattle.cell.specs.Cell.{IsArrangement}
 use Rattle.cell.specs.Neighbour.{leaves, neighbour_of}
-use Rattle.cell.specs.Laws.Towards.{towards}
-use Rattle.cell.specs.Laws.Turns.{four-cases}
+use Rattle.cell.proofs.Laws.Towards.{towards}
+use Rattle.cell.proofs.Laws.Turns.{four-cases}
 use Rattle.cell.specs.Line.{Heading, IsHeading, opposite, onward}
-use Rattle.cell.specs.Laws.Line.{entered}
-use Rattle.cell.specs.Laws.Faces.{Way, IsWay, way, next_face, face_after, rightward, next_way, others, faces-meet, facing-next}
-use Rattle.cell.specs.Laws.Crossing.{last, in_face, in-face-face, in-face-cell, in-face-right, goes_on, at_edge}
-use Rattle.cell.specs.Laws.Course.{on, on-ahead, on-across}
+use Rattle.cell.proofs.Laws.Line.{entered}
+use Rattle.cell.proofs.Laws.Faces.{Way, IsWay, way, next_face, face_after, rightward, next_way, others, faces-meet, facing-next}
+use Rattle.cell.proofs.Laws.Crossing.{last, in_face, in-face-face, in-face-cell, in-face-right, goes_on, at_edge}
+use Rattle.cell.proofs.Laws.Course.{on, on-ahead, on-across}
 use Rattle.corner.specs.List.{clockwise, face_corner, across_corner}
 
 abbrev pub counter : ℕ → ℕ

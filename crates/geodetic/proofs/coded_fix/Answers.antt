@@ -8,7 +8,7 @@ use Rattle.code.specs.Code.{found_code}
 use Rattle.signed.specs.Laws.Sign.{back, back_as}
 use Rattle.locate.specs.Fix.{fix_cell, fix_refusal}
 use Rattle.geodetic.specs.GeodeticFix.{z_for}
-use Rattle.geodetic.specs.Laws.GeodeticFix.{by-z}
+use Rattle.geodetic.proofs.Laws.GeodeticFix.{by-z}
 use Rattle.geodetic.proofs.coded_fix.Goals as goal
 
 -- with a refusal the cell does not matter

@@ -2,7 +2,7 @@
 use Prim.Native.Nat.{◌+◌, ◌*◌, ◌/◌, ◌%◌, ◌≤◌}
 use native.Mathlib.Nat.{mul-le-mul}
 use native.Mathlib.Omega.{arith}
-use Rattle.ternary.specs.Laws.Powers.{power_le}
+use Rattle.ternary.proofs.Laws.Powers.{power_le}
 use Rattle.locate.specs.Fix.{quarter, belt_cell}
 use Rattle.locate.proofs.belt.Goals as goal
 

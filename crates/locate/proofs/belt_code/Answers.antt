@@ -3,8 +3,8 @@ use native.Mathlib.Omega.{arith}
 use mathlib.Core.Path.{sym, subst, ◌∙◌}
 use Prim.Native.Nat.{◌%◌, ◌^◌, ◌<◌}
 use Rattle.cell.specs.Cell.{IsCell}
-use Rattle.locate.specs.Internal.PartLaws.{row-part-lt, belt-parts}
-use Rattle.locate.specs.Laws.Fix.{belt-is-cell}
+use Rattle.locate.proofs.Internal.PartLaws.{row-part-lt, belt-parts}
+use Rattle.locate.proofs.Laws.Fix.{belt-is-cell}
 use Rattle.locate.proofs.belt_code.Goals as goal
 use Rattle.locate.proofs.belt_code.Goals.{After-high-row}
 

@@ -8,7 +8,7 @@ use Rattle.signed.specs.Laws.Sign.{back}
 use Rattle.locate.specs.Fix.{east_of, offset_of, belt_cell}
 use Rattle.locate.specs.Internal.Place.{arranged, place-belt, fix-place}
 use Rattle.locate.specs.Internal.RangeLaws.{longitude-low, shifted-small}
-use Rattle.locate.specs.Laws.Bottom.{offset-small}
+use Rattle.locate.proofs.Laws.Bottom.{offset-small}
 use Rattle.locate.proofs.belt_fix.Goals as goal
 use Rattle.locate.proofs.belt_fix.Goals.{After-offset, After-shifted-east}
 

@@ -3,8 +3,8 @@ use mathlib.Core.Path.{ap₂, ◌∙◌}
 use Prim.Native.Nat.{ℕ, ◌*◌, ◌/◌, ◌<◌}
 use native.Mathlib.Nat.{le_of_lt, mul-le-mul}
 use native.Mathlib.Omega.{arith}
-use Rattle.ternary.specs.Laws.Powers.{power_le}
-use Rattle.locate.specs.Laws.Part.{part-lt, part-coarser}
+use Rattle.ternary.proofs.Laws.Powers.{power_le}
+use Rattle.locate.proofs.Laws.Part.{part-lt, part-coarser}
 use Rattle.locate.proofs.belt_row.Goals as goal
 
 pub overflow_mul-result : goal.overflow_mul-result

@@ -6,9 +6,9 @@ use Rattle.cell.specs.Cell.{IsCell}
 use Rattle.root.specs.Floor.{root_floor, axis_of}
 use Rattle.root.specs.Laws.Floor.{axis-size}
 use Rattle.locate.specs.Fix.{quarter}
-use Rattle.locate.specs.Laws.Fix.{cap-is-cell}
-use Rattle.locate.specs.Laws.Turn.{Spanned}
-use Rattle.locate.specs.Internal.PartLaws.{cap-parts, floor-place}
+use Rattle.locate.proofs.Laws.Fix.{cap-is-cell}
+use Rattle.locate.proofs.Laws.Turn.{Spanned}
+use Rattle.locate.proofs.Internal.PartLaws.{cap-parts, floor-place}
 use Rattle.locate.proofs.cap_code.Goals as goal
 
 pub returns-then-is_firm-2 : goal.returns-then-is_firm-2

@@ -1,9 +1,9 @@
 -- `locate::coarse_code` meets its contract: what stands behind the first digits is cut. Assumes nothing.
 use Prim.Native.Nat.{◌-◌, ◌*◌, ◌/◌, ◌<◌}
 use native.Mathlib.Omega.{arith}
-use Rattle.ternary.specs.Laws.Weave.{weave-small}
-use Rattle.ternary.specs.Laws.Powers.{nine-pos}
-use Rattle.locate.specs.Internal.PartLaws.{cut-code}
+use Rattle.ternary.proofs.Laws.Weave.{weave-small}
+use Rattle.ternary.proofs.Laws.Powers.{nine-pos}
+use Rattle.locate.proofs.Internal.PartLaws.{cut-code}
 use Rattle.locate.proofs.coarse_code.Goals as goal
 use Rattle.locate.proofs.coarse_code.Goals.{After-code_by-finest}
 

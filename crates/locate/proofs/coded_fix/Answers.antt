@@ -9,7 +9,7 @@ use Rattle.code.specs.declared.Coded.TheVariants.{Code, Refused}
 use Rattle.code.specs.Code.{code_of, found_code}
 use Rattle.signed.specs.Laws.Sign.{back}
 use Rattle.locate.specs.Fix.{fix_cell, fix_refusal}
-use Rattle.locate.specs.Laws.Fix.{fix-passes}
+use Rattle.locate.proofs.Laws.Fix.{fix-passes}
 use Rattle.locate.proofs.coded_fix.Goals as goal
 use Rattle.locate.proofs.coded_fix.Goals.{After-fix_refusal-refusal}
 

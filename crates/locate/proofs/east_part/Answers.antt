@@ -3,7 +3,7 @@ use native.Mathlib.Omega.{arith}
 use mathlib.Core.Path.{ap}
 use Prim.Native.Nat.{ℕ, ◌+◌}
 use Rattle.locate.specs.Internal.Parts.{east_part}
-use Rattle.locate.specs.Internal.PartLaws.{east-fits}
+use Rattle.locate.proofs.Internal.PartLaws.{east-fits}
 use Rattle.locate.proofs.east_part.Goals as goal
 
 pub overflow_add-result : goal.overflow_add-result

@@ -10,7 +10,7 @@ use Rattle.cell.specs.Neighbour.{turn_of}
 use Rattle.root.specs.Floor.{axis_of}
 use Rattle.locate.specs.Fix.{CapPoint, quarter, start_north, start_south, turned_north}
 use Rattle.locate.specs.Internal.End.{Stands, turned_end}
-use Rattle.locate.specs.Laws.Turn.{south-turned}
+use Rattle.locate.proofs.Laws.Turn.{south-turned}
 use Rattle.locate.proofs.end_of.Goals as goal
 
 -- the turns of either cap, from its own start

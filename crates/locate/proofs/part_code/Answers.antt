@@ -1,6 +1,6 @@
 -- `locate::part_code` meets its contract. Assumes nothing.
 use native.Mathlib.Omega.{arith}
-use Rattle.locate.specs.Internal.PartLaws.{whole_code}
+use Rattle.locate.proofs.Internal.PartLaws.{whole_code}
 use Rattle.locate.proofs.part_code.Goals as goal
 
 pub returns : goal.returns

@@ -4,7 +4,7 @@ use mathlib.Core.Bool.{Bool, false, ◌&&◌}
 use lib.IntN.{pos}
 use lib.Ieee.{Float, of_bits, le, fin}
 use Rattle.metres.specs.Metres.{is_side}
-use Rattle.metres.specs.Laws.Metres.{one-is, most-is}
+use Rattle.metres.proofs.Laws.Metres.{one-is, most-is}
 use Rattle.metres.proofs.is_side.Goals as goal
 
 -- with the bounds as the machine has them

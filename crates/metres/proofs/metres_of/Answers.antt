@@ -5,7 +5,7 @@ use lib.Ieee.{Float, binary64, of_bits, of_int, mul, div}
 use mir.Syntax.{w64}
 use mir.ValLaws.{to_z-of_z}
 use Rattle.metres.specs.Metres.{metres_of}
-use Rattle.metres.specs.Laws.Metres.{face-side-is}
+use Rattle.metres.proofs.Laws.Metres.{face-side-is}
 use Rattle.metres.proofs.metres_of.Goals as goal
 
 pub returns : goal.returns

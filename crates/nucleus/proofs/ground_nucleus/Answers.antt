@@ -8,13 +8,13 @@ use native.Mathlib.Omega.{arith}
 use lib.Dec.{ltb}
 use lib.IntN.{sub_ℕ}
 use borrow.Author.Tests.{lt-ltb, le-ltb}
-use Rattle.ternary.specs.Laws.Powers.{power_le, power_pos}
+use Rattle.ternary.proofs.Laws.Powers.{power_le, power_pos}
 use Rattle.signed.specs.Laws.Sign.{back_as}
 use Rattle.cell.specs.declared.Cell.{Cell}
 use Rattle.cell.specs.declared.Arrangement.{Arrangement}
 use Rattle.cell.specs.Cell.{IsCell}
 use Rattle.cell.specs.Neighbour.{rows}
-use Rattle.cell.specs.Laws.Cell.{row_small, column-small}
+use Rattle.cell.proofs.Laws.Cell.{row_small, column-small}
 use Rattle.locate.specs.Fix.{quarter}
 use Rattle.nucleus.specs.Nucleus.{fix, belt_longitude, belt_z, ground_nucleus}
 use Rattle.nucleus.specs.Internal.Caps.{first_in, cap_nucleus}

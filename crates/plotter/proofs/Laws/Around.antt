@@ -2,7 +2,7 @@
 -- of them is no code. Assumes nothing.
 use Rattle.std.specs.Prelude.{◌≡◌, Bool, not, ℕ, Float}
 use Rattle.std.proofs.Math.Path.{refl, ap}
-use Rattle.std.proofs.Common.{sym, ◌∙◌, inl, inr}
+use Rattle.std.proofs.Common.{◌∙◌, inl, inr}
 use Rattle.std.proofs.Math.Bool.{true, false}
 use mathlib.Core.List.{List, [], ◌∷◌, map}
 use Rattle.logic.specs.Lists.{All, Any}
@@ -14,7 +14,7 @@ use Rattle.plotter.specs.declared.Frame.{Frame}
 use Rattle.plotter.specs.declared.Framed.{Framed}
 use Rattle.plotter.specs.declared.Framed.TheVariants.{Edges, Refused}
 use Rattle.plotter.specs.declared.Around.TheVariants as around-as
-use Rattle.plotter.specs.Plotter.{box_in, box_of, box_refusal, framed, first_frame, grown, grow_refusal, grown_frame, has_nan, frame_over, grown_by, as_around, no_cells, frame_around}
+use Rattle.plotter.specs.Plotter.{box_in, box_refusal, framed, first_frame, grown, grow_refusal, grown_frame, has_nan, frame_over, grown_by, as_around, no_cells, frame_around}
 use Rattle.plotter.proofs.Laws.Frame.{grown-numbers}
 use Rattle.plotter.proofs.Laws.Box.{code-box}
 

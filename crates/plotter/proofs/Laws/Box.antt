@@ -1,25 +1,21 @@
 -- A cell's box: no edge of it is anything but a finite number, and the frame that grows over codes holds the box of each. Assumes nothing.
-use Rattle.std.specs.Prelude.{◌≡◌, refl, Bool, true, false, not, ◌||◌, List, [], ◌∷◌, map, ℕ, ◌*◌, ◌^◌, ◌≤◌, ℤ, nat_abs, Float}
-use Rattle.std.proofs.Common.{sym, ap, ◌∙◌, subst, arith}
+use Rattle.std.specs.Prelude.{◌≡◌, refl, Bool, true, false, ◌||◌, List, [], ◌∷◌, map, ℕ, ◌*◌, ◌≤◌, ℤ, nat_abs, Float}
+use Rattle.std.proofs.Common.{arith}
 use Rattle.std.specs.Float.{nan, inf, fin}
 use Rattle.std.specs.Float.Ieee.{is_nan}
 use Rattle.std.specs.Float.Ieee.Exact.{HasValue}
 use Rattle.logic.specs.Lists.{All}
-use Rattle.logic.specs.Refusal.{refuse, ◌otherwise◌}
-use Rattle.logic.specs.Laws.Refusal.{passes, both, allowed}
 use Rattle.cell.specs.declared.Cell.{Cell}
 use Rattle.cell.specs.declared.Arrangement.{Arrangement}
 use Rattle.cell.specs.Cell.{IsCell, IsArrangement}
-use Rattle.code.specs.Code.{cell_of, arrangement_of, is_code, code_refusal}
-use Rattle.code.proofs.Laws.Code.{a-code, code-is-cell, code-arranged}
+use Rattle.code.specs.Code.{cell_of, arrangement_of, is_code}
+use Rattle.code.proofs.Laws.Code.{code-is-cell, code-arranged}
 use Rattle.plane.proofs.Laws.Small.{left-within, right-within, top_within, bottom-within}
-use Rattle.metres.specs.Metres.{is_side, side_refusal, metres_of}
+use Rattle.metres.specs.Metres.{is_side, metres_of}
 use Rattle.metres.proofs.Laws.Metres.{metres-near}
 use Rattle.plotter.specs.declared.Frame.{Frame}
-use Rattle.plotter.specs.declared.Framed.{Framed}
-use Rattle.plotter.specs.declared.Framed.TheVariants.{Edges, Refused}
-use Rattle.plotter.specs.Plotter.{box_of, box_in, box_refusal, framed, first_frame, grown, grow_refusal, grown_frame, has_nan, frame_over, Holds, EdgesOf}
-use Rattle.plotter.proofs.Laws.Frame.{grown-numbers, over-own, over-each, over-edges}
+use Rattle.plotter.specs.Plotter.{box_of, box_in, has_nan, frame_over, Holds, EdgesOf}
+use Rattle.plotter.proofs.Laws.Frame.{over-own, over-each, over-edges}
 
 finite : (r : Float) (s : Bool) (a c : ℕ) → HasValue r s a c → is_nan r ≡ false
 unfolding is_nan

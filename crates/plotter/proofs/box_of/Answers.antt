@@ -5,10 +5,10 @@ use lib.ListN.{get_or}
 use lib.Ieee.{Float}
 use Rattle.plane.specs.declared.Vertices.{Vertices}
 use Rattle.plane.specs.Plane.{left_of, right_of, top_of, bottom_of, vertices_of}
-use Rattle.plane.specs.Laws.Small.{left-within, right-within, top_within, bottom-within}
+use Rattle.plane.proofs.Laws.Small.{left-within, right-within, top_within, bottom-within}
 use Rattle.metres.specs.Metres.{metres_of}
 use Rattle.plotter.specs.Plotter.{box_of}
-use Rattle.plotter.proofs.Laws.{read_back, read_small}
+use Rattle.plotter.proofs.Facts.{read_back, read_small}
 use Rattle.plotter.proofs.box_of.Goals as goal
 use Rattle.plotter.proofs.box_of.Goals.{After-vertices_of-vertices}
 

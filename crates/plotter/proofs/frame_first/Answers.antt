@@ -1,12 +1,12 @@
 -- 19 of the side comes first, then the code's 4. Assumes nothing.
 use mathlib.Core.Path.{sym, ap₂, ◌∙◌, subst}
 use Rattle.cell.specs.Cell.{IsArrangement}
-use Rattle.cell.specs.Laws.Found.{found-refused}
+use Rattle.cell.proofs.Laws.Found.{found-refused}
 use Rattle.code.specs.Code.{cell_of, code_refusal}
-use Rattle.code.specs.Laws.Code.{code-arranged}
-use Rattle.code.specs.Laws.Decoded.{decoded}
+use Rattle.code.proofs.Laws.Code.{code-arranged}
+use Rattle.code.proofs.Laws.Decoded.{decoded}
 use Rattle.plotter.specs.Plotter.{box_of, box_in, box_refusal, first_frame}
-use Rattle.plotter.proofs.Laws.{side-refused, side-passes, framed-edges, framed-refused, nineteen}
+use Rattle.plotter.proofs.Facts.{side-refused, side-passes, framed-edges, framed-refused, nineteen}
 use Rattle.plotter.proofs.frame_first.Goals as goal
 
 pub returns-then-not-is_side : goal.returns-then-not-is_side

@@ -3,7 +3,7 @@ use mathlib.Core.Path.{sym, ap, ◌∙◌}
 use Rattle.logic.specs.Refusal.{refuse, ◌otherwise◌}
 use Rattle.code.specs.Code.{code_refusal}
 use Rattle.plotter.specs.Plotter.{box_in, box_refusal, first_frame, grown, grow_refusal, has_nan, grown_frame}
-use Rattle.plotter.proofs.Laws.{side-refused, side-passes, framed-edges, framed-refused, edges-framed, refused-framed, nan-refused, nan-passes, nineteen}
+use Rattle.plotter.proofs.Facts.{side-refused, side-passes, framed-edges, framed-refused, edges-framed, refused-framed, nan-refused, nan-passes, nineteen}
 use Rattle.plotter.proofs.frame_grow.Goals as goal
 
 pub returns-then-not-is_side : goal.returns-then-not-is_side

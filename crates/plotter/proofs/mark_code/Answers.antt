@@ -1,7 +1,7 @@
 -- The box of the first frame, as a mark. Assumes nothing.
 use mathlib.Core.Path.{sym, ap, ◌∙◌}
 use Rattle.plotter.specs.Plotter.{box_in, box_mark, box_refusal, first_frame, mark_of_code}
-use Rattle.plotter.proofs.Laws.{edges-framed, refused-framed, marked, marked-nothing}
+use Rattle.plotter.proofs.Facts.{edges-framed, refused-framed, marked, marked-nothing}
 use Rattle.plotter.proofs.mark_code.Goals as goal
 
 pub returns-in-Edges : goal.returns-in-Edges

@@ -6,13 +6,13 @@ use mir.Val.{to_z, of_z}
 use Rattle.cell.specs.declared.Arrangement.{Arrangement}
 use Rattle.cell.specs.declared.Cell.{Cell}
 use Rattle.cell.specs.declared.Found.TheVariants.{At}
-use Rattle.cell.specs.Laws.Found.{found_at, found-refused}
+use Rattle.cell.proofs.Laws.Found.{found_at, found-refused}
 use Rattle.plane.specs.Plane.{point_refusal, point_cell}
 use Rattle.signed.specs.Laws.Sign.{back}
 use Rattle.metres.specs.Metres.{metres_of}
 use Rattle.plotter.specs.declared.Mark.TheVariants.{Point}
 use Rattle.plotter.specs.Plotter.{point_mark, mark_of_point}
-use Rattle.plotter.proofs.Laws.{read_small, side-refused, side-passes, marked, marked-nothing, nineteen, point-within}
+use Rattle.plotter.proofs.Facts.{read_small, side-refused, side-passes, marked, marked-nothing, nineteen, point-within}
 use Rattle.plotter.proofs.mark_point.Goals as goal
 use Rattle.plotter.proofs.mark_point.Goals.{After-point_cell}
 

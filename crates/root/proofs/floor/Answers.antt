@@ -4,7 +4,7 @@ use Prim.Native.Nat.{ℕ, ◌*◌, ◌/◌, ◌^◌, ◌≤◌}
 use native.Mathlib.Nat.{le_of_lt, mul-le-mul}
 use native.Mathlib.Omega.{arith}
 use lib.IntN.{nat_abs}
-use Rattle.ternary.specs.Laws.Powers.{power_le, power_pos}
+use Rattle.ternary.proofs.Laws.Powers.{power_le, power_pos}
 use Rattle.root.specs.Floor.{axis_of}
 use Rattle.root.specs.Laws.Floor.{floor-below, axis-size}
 use Rattle.root.specs.Laws.Part.{floor-coarser}

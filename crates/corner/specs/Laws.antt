@@ -1,2 +1,0 @@
-pub mod Corner
-pub mod List

@@ -1,4 +1,0 @@
-pub mod Around
-pub mod Box
-pub mod Frame
-pub mod Order
