@@ -1,5 +1,6 @@
 // What `coverage summary` prints: the districts that have anything, or the answer to a question by name.
 #![tactic(auto)]
+
 ghost use Rattle.std.specs.Prelude.{◌≡◌, ◌+◌, ◌≤◌, ◌<◌, ◌^◌, length, get_or};
 ghost use Rattle.cell.specs.Cell.{IsArrangement};
 ghost use Rattle.reader.specs.Check.{text_refusal, place_with};
@@ -29,7 +30,7 @@ fn put_share(count: u64, out: &mut [u8], at: usize) -> usize
     ensures upper_bound { result ≤ at + 22 }
 {
     if count == summary::DISTRICT_SIZE {
-        return at + bytes::copy(b"done\n", &mut out[at..]);
+        return at + copying::copy(b"done\n", &mut out[at..]);
     }
     let end = report::put_number(count * 100 / summary::DISTRICT_SIZE, b'%', out, at);
     out[end] = b'\n';
@@ -126,9 +127,9 @@ fn put_word(yes: bool, out: &mut [u8]) -> usize
     ensures upper_bound { result ≤ 21 }
 {
     if yes {
-        return bytes::copy(b"yes\n", out);
+        return copying::copy(b"yes\n", out);
     }
-    bytes::copy(b"no\n", out)
+    copying::copy(b"no\n", out)
 }
 
 // Puts `yes`, `no` or the refusal number on a line, in front.

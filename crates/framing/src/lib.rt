@@ -1,5 +1,6 @@
 // What `coverage frame` reads and prints: the face side as people write it, and a frame's edges.
 #![tactic(auto)]
+
 ghost use Rattle.std.specs.Prelude.{◌≡◌, false, [], ◌∷◌, ◌++◌, ◌+◌, ◌≤◌, length};
 ghost use Rattle.std.specs.Float.Ieee.{is_nan};
 ghost use Rattle.logic.specs.Refusal.{given};
@@ -32,7 +33,7 @@ fn put_edge(edge: f64, byte: u8, out: &mut [u8], at: usize) -> usize
 {
     let mut digits = [0u8; 16];
     let count = io::hex(f64::to_bits(edge), 16, &mut digits);
-    let end = at + bytes::copy(&digits[..count], &mut out[at..]);
+    let end = at + copying::copy(&digits[..count], &mut out[at..]);
     out[end] = byte;
     end + 1
 }

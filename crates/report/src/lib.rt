@@ -1,5 +1,6 @@
 // What the programs print, as bytes in lent memory.
 #![tactic(auto)]
+
 ghost use Rattle.std.specs.Prelude.{◌≡◌, [], ◌∷◌, ◌++◌, ◌+◌, ◌≤◌, ◌<◌, length, drop, get_or};
 ghost use Rattle.decimal.specs.Decimal.{printed};
 ghost use Rattle.report.specs.Put.{Put};
@@ -146,9 +147,9 @@ pub fn put_asked(asked: Asked, out: &mut [u8]) -> usize
             settled: _,
         } => {
             if covered {
-                return bytes::copy(b"yes\n", out);
+                return copying::copy(b"yes\n", out);
             }
-            bytes::copy(b"no\n", out)
+            copying::copy(b"no\n", out)
         }
         Asked::Refused { refusal, place: _ } => put_line(refusal, out),
     }
@@ -161,15 +162,15 @@ fn put_kind(kind: u64, out: &mut [u8]) -> usize
     ensures upper_bound { result ≤ 39 }
 {
     if kind == 1 {
-        return bytes::copy(b" named already, or inside a whole cell\n", out);
+        return copying::copy(b" named already, or inside a whole cell\n", out);
     }
     if kind == 2 {
-        return bytes::copy(b" not above the one right before it\n", out);
+        return copying::copy(b" not above the one right before it\n", out);
     }
     if kind == 3 {
-        return bytes::copy(b" an empty list\n", out);
+        return copying::copy(b" an empty list\n", out);
     }
-    bytes::copy(b" whole by its parts\n", out)
+    copying::copy(b" whole by its parts\n", out)
 }
 
 // Puts the change that stands in a list from `i` on, place and kind, in one line from `at` on, `PLACE KIND: WORDS`: where it ends.
