@@ -12,9 +12,9 @@ pub put_list-loop-more-preserved : goal.put_list-loop-more-preserved
 put_list-loop-more-preserved t c =
     let v = c.loop-more.invariant in
     elim c.if-first-end.branch [
-      put_list-then-first-end w ↦ ps.put_in v (λ e. omega arith) w.if-first-end.true w.put_node-node.ensures (omega (arith, w.put_node-node.auto.text))
-        w.start_at-first-then-first-end.ensures w.text-is w.next-is w.first-is w.ends-is
-    | put_list-else-first-end w ↦ ps.put-out v (λ e. omega arith) (λ l. omega (arith, w.if-first-end.false)) w.text-is w.next-is w.first-is w.ends-is
+      | put_list-then-first-end w ↦ ps.put_in v (λ e. omega arith) w.if-first-end.true w.put_node-node.ensures (omega (arith, w.put_node-node.auto.text))
+          w.start_at-first-then-first-end.ensures w.text-is w.next-is w.first-is w.ends-is
+      | put_list-else-first-end w ↦ ps.put-out v (λ e. omega arith) (λ l. omega (arith, w.if-first-end.false)) w.text-is w.next-is w.first-is w.ends-is
     ]
 
 pub put_list-returns : goal.put_list-returns
