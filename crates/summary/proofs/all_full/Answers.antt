@@ -1,7 +1,5 @@
 -- `summary::all_full` meets its contract. Assumes nothing.
 use mathlib.Core.Path.{refl, sym}
-use mathlib.Core.Bool.{true}
-use Prim.Native.Nat.{◌-◌}
 use Rattle.summary.specs.Summary.{all_full}
 use Rattle.summary.proofs.Answers.{full-fails, full-more}
 use native.Mathlib.Omega.{arith}

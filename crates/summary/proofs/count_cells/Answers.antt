@@ -1,6 +1,5 @@
 -- `summary::count_cells` meets its contract: what was counted and what is left make up the text's counters. Assumes nothing.
 use mathlib.Core.Path.{sym, ◌∙◌}
-use Prim.Native.Nat.{◌-◌}
 use Rattle.walk.specs.Laws.Walk.{goes-here}
 use Rattle.summary.proofs.Filling.{counts_start, counts_past, cell_room, counts-more, counts_end}
 use Rattle.summary.proofs.count_cells.Goals as goal

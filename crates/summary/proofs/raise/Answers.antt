@@ -1,5 +1,4 @@
 -- `summary::raise` meets its contract: the counters before i have the amount. Assumes nothing.
-use Prim.Native.Nat.{◌-◌}
 use Rattle.summary.proofs.Raising.{raising-end}
 use native.Mathlib.Omega.{arith}
 use Rattle.summary.proofs.raise.Goals as goal
