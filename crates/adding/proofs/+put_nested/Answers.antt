@@ -32,8 +32,7 @@ pub put_nested-end-requires : goal.put_nested-end-requires
 put_nested-end-requires t c =
     let m : c.args.k + 1 < length c.args.name.now = omega (arith, c.requires.0, c.if-k-name.false) in
     let n = nested-length c.args.name.now c.args.k c.requires.0 in
-    let o = nested-length c.args.name.now (c.args.k + 1) m in
-    (
+    let o = nested-length c.args.name.now (c.args.k + 1) m in (
       omega (arith, m),
       (
         m,

@@ -27,7 +27,7 @@ abbrev text_at : Start → List ℕ
 text_at s = take s.args.end s.args.text.now
 
 abbrev name-at : In-Length → List ℕ
-name-at c = take c.in-Length.letters c.code_name.new.1.0
+name-at c = take c.in-Length.letters c.code_name.new.name
 
 abbrev cell_at : Start → Cell
 cell_at s = cell_of s.args.code
@@ -37,38 +37,41 @@ is-cell s = code-is-cell s.args.code s.requires.1
 
 -- states that were there before
 abbrev from-letters : In-Length → Start
-from-letters c = c
+from-letters c = (goal.at.In-Length c).Start
 
 abbrev from-body : After-heading_length-body → Start
-from-body c = from-letters c
+from-body c = (goal.at.After-heading_length-body c).Start
 
 abbrev from-reach : After-reach-list → After-heading_length-body
-from-reach c = c
+from-reach c = (goal.at.After-reach-list c).After-heading_length-body
+
+abbrev letters-of : After-heading_length-body → In-Length
+letters-of c = (goal.at.After-heading_length-body c).In-Length
 
 -- the name's bytes, where there are so many letters
-spelt : (c : In-Length) → Spelt (from-letters c).args.code c.in-Length.letters c.code_name.new.1.0
+spelt : (c : In-Length) → Spelt (from-letters c).args.code c.in-Length.letters c.code_name.new.name
 spelt c =
     let s = from-letters c in
     let n = c.code_name in
-    name-spelt s.args.code s.pre.1 (replicate 16 0) refl n.ensures.0 n.ensures.1 c.in-Length.is
+    name-spelt s.args.code s.requires.1 (replicate 16 0) refl n.ensures.value n.ensures.name_after c.in-Length.is
 
 -- where the nodes begin
 begins : (c : After-heading_length-body) → c.heading_length-body.result ≡ body_start (text_at (from-body c))
 begins c =
     let s = from-body c in
-    c.heading_length-body.ensures ∙ sym (start s.pre.0 s.args.code s.pre.1 _ (spelt (goal.at.After-heading_length-body c).In-Length).is)
+    c.heading_length-body.ensures ∙ sym (start s.requires.0 s.args.code s.requires.1 _ (spelt (letters-of c)).is)
 
 -- the text's nodes and the cell's name
-nodes : (c : After-heading_length-body) → Stands (text_at (from-body c)) (name-at c) c.heading_length-body.result 0
-nodes c = let s = from-body c in text-stands (text_at s) s.pre.0.text (cell_at s) (is-cell s) _ (spelt (goal.at.After-heading_length-body c).In-Length).is (begins c)
+nodes : (c : After-heading_length-body) → Stands (text_at (from-body c)) (name-at (letters-of c)) c.heading_length-body.result 0
+nodes c = let s = from-body c in text-stands (text_at s) s.requires.0.text (cell_at s) (is-cell s) _ (spelt (letters-of c)).is (begins c)
 
 -- the list to begin with
-began : (c : After-start_near-from) → Led (nodes c) c.start_near-from.result.place c.start_near-from.result.depth
+began : (c : After-start_near-from) → Led (nodes (goal.at.After-start_near-from c).After-heading_length-body) c.start_near-from.result.place c.start_near-from.result.depth
 unfolding nodes
 began c =
-    let h = c in
+    let h = (goal.at.After-start_near-from c).After-heading_length-body in
     let s = from-body h in
-    start-led (text_at s) s.pre.0.text (cell_at s) (is-cell s) _ (spelt (goal.at.After-start_near-from c).In-Length).is (begins (goal.at.After-start_near-from c).After-heading_length-body) s.pre.2 c.start_near-from.ensures
+    start-led (text_at s) s.requires.0.text (cell_at s) (is-cell s) _ (spelt (letters-of h)).is (begins h) s.requires.2 c.start_near-from.ensures
 
 -- the list that is reached
 reached : (c : After-reach-list) → Led (nodes (from-reach c)) c.reach-list.result.place c.reach-list.result.depth
@@ -78,16 +81,16 @@ reached c = c.reach-list.ensures.led (nodes (from-reach c)) (began (goal.at.Afte
 abbrev Looked : (c : After-reach-list) (near : List ℕ) → Edit → Type 0
 Looked c near e =
     let h = from-reach c in
-    NearEdit (text_at (from-body h)) (name-at h) h.heading-length.result c.reach-list.result.place c.reach-list.result.depth
+    NearEdit (text_at (from-body h)) (name-at (letters-of h)) h.heading_length-body.result c.reach-list.result.place c.reach-list.result.depth
     (from-body h).args.code near e
 
 -- the edit is the text's
-edit-of : (c : After-reach-list) (near : List ℕ) (e : Edit) → Looked c near e → let s = from-body (from-reach c) in e ≡ text_edit (text_at s) s.pre.0.text (cell_at s) (is-cell s)
+edit-of : (c : After-reach-list) (near : List ℕ) (e : Edit) → Looked c near e → let s = from-body (from-reach c) in e ≡ text_edit (text_at s) s.requires.0.text (cell_at s) (is-cell s)
 unfolding nodes
 edit-of c near e x =
     let h = from-reach c in
     let s = from-body h in
-    near-edit (text_at s) s.pre.0.text (cell_at s) (is-cell s) _ (spelt h).is (begins h) s.args.code refl (reached c) x
+    near-edit (text_at s) s.requires.0.text (cell_at s) (is-cell s) _ (spelt (letters-of h)).is (begins h) s.args.code refl (reached c) x
 
 -- what is kept, for the text
 keeps : (c : After-reach-list) (near : List ℕ) (e : Edit) → Looked c near e → InMind (text_at (from-body (from-reach c))) near
@@ -95,7 +98,7 @@ unfolding nodes
 keeps c near e x =
     let h = from-reach c in
     let s = from-body h in
-    kept_near (text_at s) s.pre.0.text (cell_at s) (is-cell s) _ (spelt h).is (begins h) s.args.code refl (reached c) x
+    kept_near (text_at s) s.requires.0.text (cell_at s) (is-cell s) _ (spelt (letters-of h)).is (begins h) s.args.code refl (reached c) x
 
 -- and for the text with the cell
 keeps-with :
@@ -105,7 +108,7 @@ unfolding nodes
 keeps-with c near e x =
     let h = from-reach c in
     let s = from-body h in
-    kept-with (text_at s) s.pre.0.text (cell_at s) (is-cell s) _ (spelt h).is (begins h) s.args.code refl (reached c) x
+    kept-with (text_at s) s.requires.0.text (cell_at s) (is-cell s) _ (spelt (letters-of h)).is (begins h) s.args.code refl (reached c) x
 
 -- the text is as long as it is said to be
 long : (s : Start) → length (text_at s) ≡ s.args.end
@@ -129,13 +132,13 @@ slice_bounds-reach-end-3 c = sym (length-take-le _ _ (spelt (goal.at.slice_bound
 
 pub reach-list-requires : goal.reach-list-requires
 reach-list-requires c =
-    let h = c in
+    let h = (goal.at.reach-list-requires c).After-heading_length-body in
     let s = from-body h in
-    let p = spelt (goal.at.reach-list-requires c).In-Length in (
-      omega (arith, long s, s.pre.0.small),
+    let p = spelt (letters-of h) in (
+      omega (arith, long s, s.requires.0.small),
       p.short,
-      start-short h.heading_length-body.result (name-at h) s.args.near.now _ c.start_near-from.ensures (omega (arith, ap length p.is)),
-      (h.heading_length-body.result, record { stands = nodes (goal.at.reach-list-requires c).After-heading_length-body; led = began (goal.at.reach-list-requires c).After-start_near-from }),
+      start-short h.heading_length-body.result (name-at (letters-of h)) s.args.near.now _ c.start_near-from.ensures (omega (arith, ap length p.is)),
+      (h.heading_length-body.result, record { stands = nodes h; led = began (goal.at.reach-list-requires c).After-start_near-from }),
     )
 
 pub slice_bounds-name-end-3 : goal.slice_bounds-name-end-3
@@ -146,23 +149,23 @@ slice_bounds-edit_near-end-3 c = sym (length-take-le _ _ (spelt (goal.at.slice_b
 
 pub edit_near-edit-requires : goal.edit_near-edit-requires
 edit_near-edit-requires c =
-    let r = c in
+    let r = (goal.at.edit_near-edit-requires c).After-reach-list in
     let s = from-body (from-reach r) in
-    (omega (arith, long s, s.pre.0.small), r.reach-list.ensures.short, s.pre.2.long, record { stands = nodes (from-reach r); led = reached (goal.at.edit_near-edit-requires c).After-reach-list })
+    (omega (arith, long s, s.requires.0.small), r.reach-list.ensures.short, s.requires.2.long, record { stands = nodes (from-reach r); led = reached (goal.at.edit_near-edit-requires c).After-reach-list })
 
 pub overflow_sub-name : goal.overflow_sub-name
 overflow_sub-name c = omega (arith, (spelt (goal.at.overflow_sub-name c).In-Length).first)
 
 pub returns-then-breaks : goal.returns-then-breaks
 returns-then-breaks c =
-    let r = c in
+    let r = (goal.at.returns-then-breaks c).After-reach-list in
     let h = from-reach r in
     let s = from-body h in
-    let p = spelt h in
+    let p = spelt (letters-of h) in
     let e = c.edit_near-edit.ensures in
     let g =
-    add-breaks s.pre.0 s.args.code s.pre.1 _ p.is (edit-of (goal.at.returns-then-breaks c).After-reach-list _ _ e) (omega (arith, p.first)) (omega (arith, p.letters))
-    c.breaks.ensures c.if-breaks.true c.refused-then-breaks.ensures in let r = (g.0, (g.1, near-gains s.args.end g.0 (keeps (goal.at.returns-then-breaks c).After-reach-list _ _ e) (keeps-with (goal.at.returns-then-breaks c).After-reach-list _ _ e))) in record { gains = r.0; holding = r.1; in_mind = r.2 }
+    add-breaks s.requires.0 s.args.code s.requires.1 _ p.is (edit-of (goal.at.returns-then-breaks c).After-reach-list _ _ e) (omega (arith, p.first)) (omega (arith, p.letters))
+    c.breaks.ensures c.if-breaks.true c.refused-then-breaks.ensures in record { gains = g.0; holding = g.1; in_mind = near-gains s.args.end g.0 (keeps (goal.at.returns-then-breaks c).After-reach-list _ _ e) (keeps-with (goal.at.returns-then-breaks c).After-reach-list _ _ e) }
 
 pub slice_bounds-name-end-4 : goal.slice_bounds-name-end-4
 slice_bounds-name-end-4 c = (spelt (goal.at.slice_bounds-name-end-4 c).In-Length).fits
@@ -170,24 +173,24 @@ slice_bounds-name-end-4 c = (spelt (goal.at.slice_bounds-name-end-4 c).In-Length
 pub slice_bounds-change-end : goal.slice_bounds-change-end
 slice_bounds-change-end c =
     let n = c in
-    sym (length-take-le _ _ (spelt (goal.at.slice_bounds-change-end c).In-Length).ranges)
+    sym (length-take-le _ _ (spelt (goal.at.slice_bounds-change-end c).In-Length).fits)
 
 pub change-requires : goal.change-requires
 change-requires c =
-    let r = c in
+    let r = (goal.at.change-requires c).After-reach-list in
     let h = from-reach r in
     let s = from-body h in
-    let p = spelt h in
-    (s.pre.0.fits, s.pre.0.small, p.short, add-fits s.pre.0 s.args.code s.pre.1 _ p.is (edit-of (goal.at.change-requires c).After-reach-list _ _ c.edit_near-edit.ensures))
+    let p = spelt (letters-of h) in
+    (s.requires.0.fits, s.requires.0.small, p.short, add-fits s.requires.0 s.args.code s.requires.1 _ p.is (edit-of (goal.at.change-requires c).After-reach-list _ _ c.edit_near-edit.ensures))
 
 pub returns : goal.returns
 returns c =
-    let r = c in
+    let r = (goal.at.returns c).After-reach-list in
     let h = from-reach r in
     let s = from-body h in
-    let p = spelt h in
+    let p = spelt (letters-of h) in
     let e = c.edit_near-edit.ensures in
     let b = c in
     let g =
-    add-gains s.pre.0 s.args.code s.pre.1 _ p.is (edit-of (goal.at.returns c).After-reach-list _ _ e) (omega (arith, p.first)) (omega (arith, p.letters)) b.breaks.ensures
-    c.if-breaks.false c.change.ensures in let r = (g.0, (g.1, near-gains s.args.end g.0 (keeps (goal.at.returns c).After-reach-list _ _ e) (keeps-with (goal.at.returns c).After-reach-list _ _ e))) in record { gains = r.0; holding = r.1; in_mind = r.2 }
+    add-gains s.requires.0 s.args.code s.requires.1 _ p.is (edit-of (goal.at.returns c).After-reach-list _ _ e) (omega (arith, p.first)) (omega (arith, p.letters)) b.breaks.ensures
+    c.if-breaks.false c.change.ensures in record { gains = g.0; holding = g.1; in_mind = near-gains s.args.end g.0 (keeps (goal.at.returns c).After-reach-list _ _ e) (keeps-with (goal.at.returns c).After-reach-list _ _ e) }
