@@ -1,6 +1,6 @@
 -- `adding::edit_at` meets its contract. Assumes nothing.
 use native.Mathlib.Omega.{arith}
-use mathlib.Core.Path.{◌≡◌, sym, ◌∙◌}
+use mathlib.Core.Path.{sym, ◌∙◌}
 use Prim.Native.Nat.{ℕ}
 use Rattle.adding.specs.Internal.Find.{Stands, Lands, From}
 use Rattle.adding.proofs.Finds.{eqb_yes, eqb_no, name-byte, byte-some, stands-inside, find-put, find-covered, holds, past_is, past_fits, find-whole, stands-in, ends-in, find-list}
@@ -43,8 +43,7 @@ pub whole_from-requires : goal.whole_from-requires
 whole_from-requires t c =
     let v = c.requires.2 in
     let h = holds v (landed t (goal.at.whole_from-requires t c).After-skip-skipped v).0 (eqb_yes c.stands_at.ensures c.if-not-stands_at.false)
-    (sym c.whole_at.ensures ∙ c.if-whole_at.false) in
-    (
+    (sym c.whole_at.ensures ∙ c.if-whole_at.false) in (
       omega (arith, c.past_node.ensures, past_is v h),
       omega (arith, c.past_node.ensures, past_fits v h),
       c.requires.0,
@@ -70,8 +69,7 @@ pub over_list-requires : goal.over_list-requires
 over_list-requires t c =
     let v = c.requires.2 in
     let h = holds v (landed t (goal.at.over_list-requires t c).After-skip-skipped v).0 (eqb_yes c.stands_at.ensures c.if-not-stands_at.false)
-    (sym c.whole_at.ensures ∙ c.if-whole_at.false) in
-    (
+    (sym c.whole_at.ensures ∙ c.if-whole_at.false) in (
       c.requires.0,
       omega (arith, c.skip-skipped.ensures.few, c.requires.0),
       ends-in v h (λ q. c.if-k-name.false (sym q)) c.edit_at.result c.edit_at.ensures,

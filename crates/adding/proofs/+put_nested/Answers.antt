@@ -1,6 +1,6 @@
 -- `adding::put_nested` meets its contract. Assumes nothing.
 use native.Mathlib.Omega.{arith}
-use mathlib.Core.Path.{◌≡◌, refl, sym, ap, ◌∙◌}
+use mathlib.Core.Path.{refl, sym, ap}
 use Prim.Native.Nat.{ℕ, ◌+◌, ◌<◌}
 use mathlib.Core.List.{List}
 use lib.ListN.{length, drop, get_or, set, length-set}
@@ -32,8 +32,7 @@ pub put_nested-end-requires : goal.put_nested-end-requires
 put_nested-end-requires t c =
     let m : c.args.k + 1 < length c.args.name.now = omega (arith, c.requires.0, c.if-k-name.false) in
     let n = nested-length c.args.name.now c.args.k c.requires.0 in
-    let o = nested-length c.args.name.now (c.args.k + 1) m in
-    (
+    let o = nested-length c.args.name.now (c.args.k + 1) m in (
       omega (arith, m),
       (
         m,
