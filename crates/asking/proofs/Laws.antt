@@ -1,6 +1,5 @@
 pub mod Ask
 pub mod Settle
-
 -- The answer and the count along the nodes of a text: the nodes from here on decide. Assumes nothing.
 use mathlib.Core.Path.{◌≡◌, refl, sym, ap, ap₂, ◌∙◌}
 use mathlib.Core.Logic.{◌⊎◌, inl, inr, ⊎_elim}

@@ -1,5 +1,6 @@
 // Whether a cell's finest cells are all covered, and how many letters and digits of the text settle that.
 #![tactic(auto)]
+
 ghost use Rattle.std.specs.Prelude.{◌≡◌, true, false, cond, ◌+◌, ◌-◌, ◌≤◌, ◌<◌, ltb, length, drop};
 ghost use Rattle.code.specs.Code.{is_code, arrangement_of};
 ghost use Rattle.reading.specs.Letters.{is_letter, letter_count};

@@ -8,7 +8,6 @@ pub mod Line
 pub mod Neighbour
 pub mod Towards
 pub mod Turns
-
 -- Small laws of numbers for the step. Assumes nothing.
 use mathlib.Core.Path.{◌≡◌, refl, sym, ◌∙◌}
 use mathlib.Core.Bool.{Bool, true, false}

@@ -1,5 +1,6 @@
 // Cells and arrangements by value, and the steps up and down the hierarchy.
 #![tactic(auto)]
+
 ghost use Rattle.std.specs.Prelude.{◌≡◌, ◌≤◌, ◌<◌};
 ghost use Rattle.cell.specs.Cell.{IsCell, cell_refusal, arrangement_refusal, found};
 ghost use Rattle.cell.specs.Hierarchy.{parent_refusal, parent_of, child_refusal, child_of};

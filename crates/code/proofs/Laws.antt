@@ -5,7 +5,6 @@ pub mod Exact
 pub mod Inside
 pub mod Number
 pub mod Size
-
 -- What taking a code apart answers, and what is woven. Assumes nothing.
 use mathlib.Core.Path.{◌≡◌, refl, sym, ap, ap₂, ◌∙◌}
 use mathlib.Core.Bool.{Bool, true, false, ◌&&◌}

@@ -1,5 +1,6 @@
 // Codes: a cell and the arrangement that it is of. How a code is made is known here only.
 #![tactic(auto)]
+
 ghost use Rattle.std.specs.Prelude.{◌≡◌, true, ◌+◌, ◌-◌, ◌*◌, ◌/◌, ◌^◌, ◌≤◌, ◌<◌};
 ghost use Rattle.logic.specs.Refusal.{◌otherwise◌};
 ghost use Rattle.ternary.specs.Weave.{weave};

@@ -1,5 +1,6 @@
 // compare FILE FILE: what the first text covers and the second does not, what the second covers and the first does not, and what both cover.
 #![tactic(auto)]
+
 ghost use Rattle.std.specs.Prelude.{◌≡◌, ◌≤◌, length};
 ghost use Rattle.comparing.specs.Compare.{lists, compare_refusal};
 ghost use Rattle.compare.specs.Printed.{ListingIn, ListingPrinted, Stopped, ThreePrinted, ListingsWritten};
@@ -20,18 +21,21 @@ struct Shown {
     place: u64,
 }
 
-fn usage() {
-    console::say(b"usage: compare FILE FILE\n");
-    console::say(b"  lists the cells only in the first text, only in the second, and in both\n");
+fn usage(rt: &HostRuntime) {
+    console::say(rt, b"usage: compare FILE FILE\n");
+    console::say(
+        rt,
+        b"  lists the cells only in the first text, only in the second, and in both\n",
+    );
 }
 
 // A listing: its names, one a line, and an empty line. What is left of it stands in front, behind what was printed.
-fn put_listing(codes: &[u64], out: &mut [u8]) -> Room
+fn put_listing(rt: &HostRuntime, codes: &[u64], out: &mut [u8]) -> Room
     requires { 18 ≤ length out.old }
     ensures { ListingIn codes.now out.new result }
 {
     let last = out.len() - 1;
-    let Room::From(end) = console::put_all_names(codes, &mut out[..last]) else {
+    let Room::From(end) = console::put_all_names(rt, codes, &mut out[..last]) else {
         return Room::Failed;
     };
     out[end] = b'\n';
@@ -39,14 +43,14 @@ fn put_listing(codes: &[u64], out: &mut [u8]) -> Room
 }
 
 // The same, and what is left of it is printed too.
-fn print_listing(codes: &[u64], out: &mut [u8]) -> Room
+fn print_listing(rt: &HostRuntime, codes: &[u64], out: &mut [u8]) -> Room
     requires { 18 ≤ length out.old }
     ensures { ListingPrinted codes.now out.new result }
 {
-    let Room::From(end) = put_listing(codes, out) else {
+    let Room::From(end) = put_listing(rt, codes, out) else {
         return Room::Failed;
     };
-    if console::printed_first(out, end) {
+    if console::printed_first(rt, out, end) {
         return Room::From(end);
     }
     Room::Failed
@@ -68,6 +72,7 @@ fn stopped() -> Shown
 
 // The three listings, up to the first that is not printed whole.
 fn print_three(
+    rt: &HostRuntime,
     firsts: &[u64],
     seconds: &[u64],
     boths: &[u64],
@@ -78,13 +83,13 @@ fn print_three(
     requires { (18 ≤ length one.old) × (18 ≤ length two.old) × (18 ≤ length three.old) }
     ensures { ThreePrinted (lists firsts.now seconds.now boths.now) (lists one.new two.new three.new) result }
 {
-    let Room::From(first) = print_listing(firsts, one) else {
+    let Room::From(first) = print_listing(rt, firsts, one) else {
         return stopped();
     };
-    let Room::From(second) = print_listing(seconds, two) else {
+    let Room::From(second) = print_listing(rt, seconds, two) else {
         return stopped();
     };
-    let Room::From(both) = print_listing(boths, three) else {
+    let Room::From(both) = print_listing(rt, boths, three) else {
         return stopped();
     };
     Shown {
@@ -99,6 +104,7 @@ fn print_three(
 
 // The three listings, or the refusal number on its line. The program "lends 65,536 codes a listing".
 fn print_compared(
+    rt: &HostRuntime,
     first: &[u8],
     second: &[u8],
     firsts: &mut [u64],
@@ -117,6 +123,7 @@ fn print_compared(
             second,
             both,
         } => print_three(
+            rt,
             &firsts[..first.count as usize],
             &seconds[..second.count as usize],
             &boths[..both.count as usize],
@@ -126,7 +133,7 @@ fn print_compared(
         ),
         Compared::Refused { refusal, place } => {
             let end = report::put_line(refusal, one);
-            console::print_first(one, end);
+            console::print_first(rt, one, end);
             Shown {
                 done: true,
                 firsts: end,
@@ -140,22 +147,27 @@ fn print_compared(
 }
 
 // What a refusal means, and of which file, to standard error: 14 and 8 are of both.
-fn say_refused(first: &[u8], refusal: u64, place: u64) {
+fn say_refused(rt: &HostRuntime, first: &[u8], refusal: u64, place: u64) {
     if refusal == 14 {
-        console::say_text(b"compare", refusal, 0);
+        console::say_text(rt, b"compare", refusal, 0);
         return;
     }
     if refusal == 8 {
-        console::say_text(b"compare", refusal, 0);
+        console::say_text(rt, b"compare", refusal, 0);
         return;
     }
     match reader::check(first) {
-        Checked::Refused { .. } => console::say_text(b"compare: the first file", refusal, place),
-        Checked::Text { .. } => console::say_text(b"compare: the second file", refusal, place),
+        Checked::Refused { .. } => console::say_text(
+            rt,
+            b"compare: the first file",
+            refusal,
+            place,
+        ),
+        Checked::Text { .. } => console::say_text(rt, b"compare: the second file", refusal, place),
     }
 }
 
-fn compare_texts(first: &[u8], second: &[u8]) {
+fn compare_texts(rt: &HostRuntime, first: &[u8], second: &[u8]) {
     let mut firsts = [0u64; 65536];
     let mut seconds = [0u64; 65536];
     let mut boths = [0u64; 65536];
@@ -163,6 +175,7 @@ fn compare_texts(first: &[u8], second: &[u8]) {
     let mut two = [0u8; 65536];
     let mut three = [0u8; 65536];
     let shown = print_compared(
+        rt,
         first,
         second,
         &mut firsts,
@@ -174,7 +187,7 @@ fn compare_texts(first: &[u8], second: &[u8]) {
     );
     let refusal = shown.refusal;
     if refusal != 0 {
-        say_refused(first, refusal, shown.place);
+        say_refused(rt, first, refusal, shown.place);
     }
 }
 
@@ -189,21 +202,22 @@ fn bytes_of(read: BytesRead) -> usize
 }
 
 // How many bytes the file of an argument has, as far as there is room.
-fn load_text(i: usize, path: &mut [u8], text: &mut [u8]) -> usize
+fn load_text(rt: &HostRuntime, i: usize, path: &mut [u8], text: &mut [u8]) -> usize
     ensures { result ≤ length text.new }
 {
-    bytes_of(console::load(b"compare", i, path, text))
+    bytes_of(console::load(rt, b"compare", i, path, text))
 }
 
-fn main() {
-    if os::arg_count() != 3 {
-        usage();
+fn main(rt: HostRuntime) {
+    let rt = &rt;
+    if console::argument_count(rt) != 3 {
+        usage(rt);
         return;
     }
-    let mut path = io::buffer();
+    let mut path = [0u8; 4096];
     let mut first = [0u8; 65537];
     let mut second = [0u8; 65537];
-    let long = load_text(1, &mut path, &mut first);
-    let wide = load_text(2, &mut path, &mut second);
-    compare_texts(&first[..long], &second[..wide]);
+    let long = load_text(rt, 1, &mut path, &mut first);
+    let wide = load_text(rt, 2, &mut path, &mut second);
+    compare_texts(rt, &first[..long], &second[..wide]);
 }

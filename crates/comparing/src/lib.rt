@@ -1,5 +1,6 @@
 // What two texts cover: only the first, only the second, and both. Both are gone over at once, and no list is held.
 #![tactic(auto)]
+
 ghost use Rattle.std.specs.Prelude.{◌≡◌, true, false, ◌||◌, ltb, ◌+◌, ◌-◌, ◌*◌, ◌^◌, ◌≤◌, ◌<◌, length, set};
 ghost use Rattle.cell.specs.Cell.{IsArrangement};
 ghost use Rattle.code.specs.Number.{code_as};

@@ -1,6 +1,7 @@
 // coverage check FILE, coverage list FILE, coverage ask FILE NAME, coverage frame FILE SIDE, coverage summary FILE [NAME], coverage sheet FILE [SHEET],
 // coverage rescue FILE, coverage write n s [depth]: reads and writes coverage texts.
 #![tactic(auto)]
+
 ghost use Rattle.std.specs.Prelude.{◌≡◌, ◌≤◌, length, take};
 ghost use Rattle.cell.specs.Cell.{IsArrangement};
 ghost use Rattle.reader.specs.Check.{checked_of};
@@ -91,37 +92,55 @@ struct RescueRooms {
     place: u64,
 }
 
-fn usage() {
-    console::say(b"usage: coverage check FILE | list FILE | ask FILE NAME | frame FILE SIDE\n");
-    console::say(b"       coverage sheet FILE > sheet | sheet FILE SHEET\n");
-    console::say(b"       coverage summary FILE [NAME] | rescue FILE > text\n");
-    console::say(b"       coverage write n s [depth] < names > text\n");
-    console::say(b"  n and s are 0 to 3; names stand one a line, rising, none inside another;\n");
+fn usage(rt: &HostRuntime) {
     console::say(
+        rt,
+        b"usage: coverage check FILE | list FILE | ask FILE NAME | frame FILE SIDE\n",
+    );
+    console::say(
+        rt,
+        b"       coverage sheet FILE > sheet | sheet FILE SHEET\n",
+    );
+    console::say(
+        rt,
+        b"       coverage summary FILE [NAME] | rescue FILE > text\n",
+    );
+    console::say(rt, b"       coverage write n s [depth] < names > text\n");
+    console::say(
+        rt,
+        b"  n and s are 0 to 3; names stand one a line, rising, none inside another;\n",
+    );
+    console::say(
+        rt,
         b"  with a depth, 0 to 15, the text is for handhelds: N and S whole, nothing deeper\n",
     );
-    console::say(b"  SIDE is a face's side in metres, 1 to 1073741824, such as 10007557.2\n");
     console::say(
+        rt,
+        b"  SIDE is a face's side in metres, 1 to 1073741824, such as 10007557.2\n",
+    );
+    console::say(
+        rt,
         b"  a sheet has for each cell its code and its neighbours' up, right, down, left\n",
     );
 }
 
 // The line to standard output, then what a refusal means to standard error.
-fn show(shown: Shown, out: &[u8])
+fn show(rt: &HostRuntime, shown: Shown, out: &[u8])
     requires { shown.end ≤ length out.now }
 {
     let refusal = shown.refusal;
-    console::print_first(out, shown.end);
+    console::print_first(rt, out, shown.end);
     if refusal != 0 {
-        console::say_text(b"coverage", refusal, shown.place);
+        console::say_text(rt, b"coverage", refusal, shown.place);
     }
 }
 
 // A refusal: its number to standard output, what it means to standard error.
-fn refuse(refusal: u64, place: u64) {
+fn refuse(rt: &HostRuntime, refusal: u64, place: u64) {
     let mut out = [0u8; 21];
     let end = report::put_line(refusal, &mut out);
     show(
+        rt,
         Shown {
             end,
             refusal,
@@ -164,14 +183,14 @@ fn waiting(room: Room) -> usize
 }
 
 // list: the names of the whole cells, or the refusal's line: what is left of them in front, behind what was printed.
-fn list_text(text: &[u8], codes: &mut [u64], out: &mut [u8]) -> Shown
+fn list_text(rt: &HostRuntime, text: &[u8], codes: &mut [u64], out: &mut [u8]) -> Shown
     requires { 21 ≤ length out.old }
     ensures list_written { ListWritten (listing_refusal text.now (length codes.old)) text.now out.new result.end }
     ensures end_in_bounds { result.end ≤ length out.new }
 {
     match listing::list(text, codes) {
         Listed::Count(count) => Shown {
-            end: waiting(console::put_all_names(&codes[..count as usize], out)),
+            end: waiting(console::put_all_names(rt, &codes[..count as usize], out)),
             refusal: 0,
             place: 0,
         },
@@ -246,6 +265,7 @@ fn take_name(arrangement: Arrangement, line: &[u8], codes: &mut [u64], count: us
 // All lines of the input, up to the first that stops it. With room for so many codes 13 is right where there is none left, whatever would follow. A loop has to end,
 // and nothing says that an input does.
 fn take_all(
+    rt: &HostRuntime,
     arrangement: Arrangement,
     bytes: &mut [u8],
     room: &mut [u8],
@@ -261,7 +281,7 @@ fn take_all(
     let mut count: usize = 0;
     let mut line: u64 = 0;
     while line < u64::MAX {
-        match console::next_line(b"coverage", bytes, from, end, room) {
+        match console::next_line(rt, b"coverage", bytes, from, end, room) {
             LineRead::Line {
                 length,
                 from: next,
@@ -275,7 +295,7 @@ fn take_all(
                         line = line + 1;
                     }
                     Taken::Refused(refusal) => {
-                        console::say_line(b"coverage", line + 1, refusal);
+                        console::say_line(rt, b"coverage", line + 1, refusal);
                         return NamesRead::Stopped(refusal);
                     }
                 }
@@ -284,7 +304,7 @@ fn take_all(
                 match take_name(arrangement, &room[..length], codes, count) {
                     Taken::Count(more) => return NamesRead::Count(more),
                     Taken::Refused(refusal) => {
-                        console::say_line(b"coverage", line + 1, refusal);
+                        console::say_line(rt, b"coverage", line + 1, refusal);
                         return NamesRead::Stopped(refusal);
                     }
                 }
@@ -327,93 +347,98 @@ fn names_text(form: Form, read: NamesRead, codes: &[u64], text: &mut [u8]) -> Te
 }
 
 // The names are read, so their room is the text's.
-fn write_text(form: Form)
+fn write_text(rt: &HostRuntime, form: Form)
     requires { IsArrangement form.arrangement }
 {
     let mut bytes = [0u8; 65536];
     let mut room = [0u8; 64];
     let mut codes = [0u64; 65680]; // 144 more than whole cells in the longest text: so many may still merge
-    let read = take_all(form.arrangement, &mut bytes, &mut room, &mut codes);
+    let read = take_all(rt, form.arrangement, &mut bytes, &mut room, &mut codes);
     match names_text(form, read, &codes, &mut bytes) {
-        Text::Length(length) => console::print_first(&bytes, length),
-        Text::Refused(refusal) => console::say_text(b"coverage", refusal, 0),
+        Text::Length(length) => console::print_first(rt, &bytes, length),
+        Text::Refused(refusal) => console::say_text(rt, b"coverage", refusal, 0),
         Text::None => {}
     }
 }
 
 // The depth asked for, behind n and s. A bad one is said.
-fn write_depth(arrangement: Arrangement)
+fn write_depth(rt: &HostRuntime, arrangement: Arrangement)
     requires { IsArrangement arrangement }
 {
-    if os::arg_count() == 4 {
-        write_text(Form {
-            version: 1,
-            depth: 15,
-            arrangement,
-        });
+    if console::argument_count(rt) == 4 {
+        write_text(
+            rt,
+            Form {
+                version: 1,
+                depth: 15,
+                arrangement,
+            },
+        );
         return;
     }
-    let Whole::Is(depth) = console::whole_argument(4) else {
-        usage();
+    let Whole::Is(depth) = console::whole_argument(rt, 4) else {
+        usage(rt);
         return;
     };
     if depth > 15 {
-        console::say_text(b"coverage", 2, 0);
-        usage();
+        console::say_text(rt, b"coverage", 2, 0);
+        usage(rt);
         return;
     }
-    write_text(Form {
-        version: 2,
-        depth,
-        arrangement,
-    });
+    write_text(
+        rt,
+        Form {
+            version: 2,
+            depth,
+            arrangement,
+        },
+    );
 }
 
 // coverage write n s [depth].
-fn write_names() {
-    let Whole::Is(north) = console::whole_argument(2) else {
-        usage();
+fn write_names(rt: &HostRuntime) {
+    let Whole::Is(north) = console::whole_argument(rt, 2) else {
+        usage(rt);
         return;
     };
-    let Whole::Is(south) = console::whole_argument(3) else {
-        usage();
+    let Whole::Is(south) = console::whole_argument(rt, 3) else {
+        usage(rt);
         return;
     };
     let arrangement = Arrangement { north, south };
     let refusal = arrangement.refusal();
     if refusal != 0 {
-        console::say_text(b"coverage", refusal, 0);
-        usage();
+        console::say_text(rt, b"coverage", refusal, 0);
+        usage(rt);
         return;
     }
-    write_depth(arrangement);
+    write_depth(rt, arrangement);
 }
 
 // coverage ask FILE NAME. A name that the room is too short for is over 16 bytes.
-fn ask_file(text: &[u8]) {
+fn ask_file(rt: &HostRuntime, text: &[u8]) {
     let mut word = [0u8; 64];
-    let n = os::arg(3, &mut word);
-    if os::errno() != 0 {
-        refuse(2, 0);
+    let Ok(n) = console::argument(rt, 3, &mut word) else {
+        refuse(rt, 2, 0);
         return;
-    }
+    };
     let mut out = [0u8; 21];
     let shown = ask_text(text, &word[..n], &mut out);
-    show(shown, &out);
+    show(rt, shown, &out);
 }
 
 // coverage frame FILE SIDE. A side that the room is too short for has over 15 digits.
-fn frame_file(text: &[u8]) {
+fn frame_file(rt: &HostRuntime, text: &[u8]) {
     let mut word = [0u8; 64];
-    let n = os::arg(3, &mut word);
-    if os::errno() != 0 {
-        refuse(19, 0);
+    let Ok(n) = console::argument(rt, 3, &mut word) else {
+        refuse(rt, 19, 0);
         return;
-    }
+    };
     let mut codes = [0u64; 65536];
     let mut out = [0u8; 68];
     let put = framing::put_frame(text, &word[..n], &mut codes, &mut out);
     show(
+        rt,
         Shown {
             end: put.end,
             refusal: put.refusal,
@@ -424,10 +449,11 @@ fn frame_file(text: &[u8]) {
 }
 
 // coverage sheet FILE: the sheet to standard output. Where the text is refused nothing goes there, and standard error says why.
-fn write_sheet(text: &[u8]) {
+fn write_sheet(rt: &HostRuntime, text: &[u8]) {
     let mut out = [0u8; 65520];
-    let put = sheet_parts::put_sheet(text, &mut out);
+    let put = sheet_parts::put_sheet(rt, text, &mut out);
     show(
+        rt,
         Shown {
             end: put.end,
             refusal: put.refusal,
@@ -438,50 +464,57 @@ fn write_sheet(text: &[u8]) {
 }
 
 // The line of what checking a sheet answers; and what a refusal means.
-fn show_judged(judged: Judged) {
+fn show_judged(rt: &HostRuntime, judged: Judged) {
     let mut out = [0u8; 24];
     let end = sheet_parts::put_judged(judged, &mut out);
-    console::print_first(&out, end);
+    console::print_first(rt, &out, end);
     let Judged::Refused { refusal, place } = judged else {
         return;
     };
-    console::say_text(b"coverage", refusal, place);
+    console::say_text(rt, b"coverage", refusal, place);
 }
 
-// coverage sheet FILE SHEET. A sheet that cannot be opened counts as empty, and standard error says why.
-fn check_sheet(text: &[u8]) {
-    let mut path = io::buffer();
-    let n = os::arg(3, &mut path);
-    if os::errno() != 0 {
-        console::say_failure(b"coverage", b"SHEET");
-        show_judged(sheet::check(text, b""));
-        return;
+// The sheet with a path, beside a text. One that cannot be opened counts as empty, and standard error says why.
+fn judge_sheet(rt: &HostRuntime, text: &[u8], path: &[u8]) -> Judged {
+    match console::open(rt, path) {
+        Err(error) => {
+            console::say_failure(rt, b"coverage", path, &error);
+            sheet::check(text, b"")
+        }
+        Ok(mut file) => {
+            let mut part = [0u8; 65520];
+            sheet_parts::judge_file(rt, text, &mut file, path, &mut part)
+        }
     }
-    let fd = os::open_read(&path[..n]);
-    if fd < 0 {
-        console::say_failure(b"coverage", &path[..n]);
-        show_judged(sheet::check(text, b""));
-        return;
-    }
-    let mut part = [0u8; 65520];
-    let judged = sheet_parts::judge_file(text, fd, &path[..n], &mut part);
-    libc::close(fd);
-    show_judged(judged);
 }
 
-fn sheet_file(text: &[u8]) {
-    if os::arg_count() == 3 {
-        write_sheet(text);
+// coverage sheet FILE SHEET. A path that there is no room for counts as one of a file that cannot be opened.
+fn check_sheet(rt: &HostRuntime, text: &[u8]) {
+    let mut path = [0u8; 4096];
+    let judged = match console::argument(rt, 3, &mut path) {
+        Err(error) => {
+            console::say_failure(rt, b"coverage", b"SHEET", &error);
+            sheet::check(text, b"")
+        }
+        Ok(n) => judge_sheet(rt, text, &path[..n]),
+    };
+    show_judged(rt, judged);
+}
+
+fn sheet_file(rt: &HostRuntime, text: &[u8]) {
+    if console::argument_count(rt) == 3 {
+        write_sheet(rt, text);
         return;
     }
-    check_sheet(text);
+    check_sheet(rt, text);
 }
 
 // coverage summary FILE.
-fn summary_file(text: &[u8]) {
+fn summary_file(rt: &HostRuntime, text: &[u8]) {
     let mut out = [0u8; 29160];
     let put = districts::put_summary(text, &mut out);
     show(
+        rt,
         Shown {
             end: put.end,
             refusal: put.refusal,
@@ -492,16 +525,16 @@ fn summary_file(text: &[u8]) {
 }
 
 // coverage summary FILE NAME. A name that the room is too short for is over 16 bytes.
-fn question_file(text: &[u8]) {
+fn question_file(rt: &HostRuntime, text: &[u8]) {
     let mut word = [0u8; 64];
-    let n = os::arg(3, &mut word);
-    if os::errno() != 0 {
-        refuse(2, 0);
+    let Ok(n) = console::argument(rt, 3, &mut word) else {
+        refuse(rt, 2, 0);
         return;
-    }
+    };
     let mut out = [0u8; 21];
     let put = districts::put_question(text, &word[..n], &mut out);
     show(
+        rt,
         Shown {
             end: put.end,
             refusal: put.refusal,
@@ -511,40 +544,40 @@ fn question_file(text: &[u8]) {
     );
 }
 
-fn list_file(text: &[u8]) {
+fn list_file(rt: &HostRuntime, text: &[u8]) {
     let mut codes = [0u64; 65536];
     let mut out = [0u8; 65536];
-    let shown = list_text(text, &mut codes, &mut out);
-    show(shown, &out);
+    let shown = list_text(rt, text, &mut codes, &mut out);
+    show(rt, shown, &out);
 }
 
-fn check_file(text: &[u8]) {
+fn check_file(rt: &HostRuntime, text: &[u8]) {
     let mut out = [0u8; 168];
     let shown = check_text(text, &mut out);
-    show(shown, &out);
+    show(rt, shown, &out);
 }
 
 // Where the line of a change has room, behind the first `end` bytes. Where it has none there, all of these go to standard error first.
-fn line_room(lines: &[u8], end: usize) -> usize
+fn line_room(rt: &HostRuntime, lines: &[u8], end: usize) -> usize
     requires { end ≤ length lines.now }
     ensures { result ≡ start_for (length lines.now) end 81 }
 {
     if lines.len() - end < 81 {
-        console::say(&lines[..end]);
+        console::say(rt, &lines[..end]);
         return 0; // all were said
     }
     end
 }
 
 // A line for each change, place, kind and what it means: what is left of them in front, behind what went to standard error.
-fn say_changes(list: &[u64], lines: &mut [u8]) -> usize
+fn say_changes(rt: &HostRuntime, list: &[u64], lines: &mut [u8]) -> usize
     requires { 81 ≤ length lines.old }
     ensures { ChangesIn list.now lines.new result }
 {
     let mut i: usize = 0;
     let mut end: usize = 0;
     while i + 1 < list.len() {
-        let at = line_room(lines, end);
+        let at = line_room(rt, lines, end);
         end = report::put_change(list, i, lines, at);
         i = i + 2;
     }
@@ -552,12 +585,15 @@ fn say_changes(list: &[u64], lines: &mut [u8]) -> usize
 }
 
 // Why there is no proper text. Rescue takes version 1 only.
-fn say_unrescued(refusal: u64, place: u64) {
+fn say_unrescued(rt: &HostRuntime, refusal: u64, place: u64) {
     if refusal == 10 {
-        console::say(b"coverage: refusal 10: rescue takes texts of version 1 only\n");
+        console::say(
+            rt,
+            b"coverage: refusal 10: rescue takes texts of version 1 only\n",
+        );
         return;
     }
-    console::say_text(b"coverage", refusal, place);
+    console::say_text(rt, b"coverage", refusal, place);
 }
 
 // rescue: the proper text in front of one room, what was changed in front of the other. Both rooms are enough for any text.
@@ -583,73 +619,73 @@ fn rescue_text(text: &[u8], out: &mut [u8], list: &mut [u64]) -> RescueRooms
 }
 
 // The first bytes of a buffer to standard output: they must be the proper text of this one.
-fn print_proper(text: &[u8], out: &[u8], end: usize)
+fn print_proper(rt: &HostRuntime, text: &[u8], out: &[u8], end: usize)
     requires end_in_bounds { end ≤ length out.now }
     requires out_value { take end out.now ≡ proper_of text.now }
 {
-    console::print_first(out, end);
+    console::print_first(rt, out, end);
 }
 
 // The first bytes of a buffer to standard error: they must be what is left of the lines of this text's changes.
-fn say_last(text: &[u8], lines: &[u8], end: usize)
+fn say_last(rt: &HostRuntime, text: &[u8], lines: &[u8], end: usize)
     requires { ChangesWritten (changes_of text.now) lines.now end }
 {
-    console::say(&lines[..end]);
+    console::say(rt, &lines[..end]);
 }
 
 // The proper text to standard output, what was changed to standard error. Where it is refused nothing goes to standard output.
-fn show_rescued(text: &[u8], rooms: RescueRooms, out: &[u8], list: &[u64])
+fn show_rescued(rt: &HostRuntime, text: &[u8], rooms: RescueRooms, out: &[u8], list: &[u64])
     requires { RescueLeft rooms.refusal text.now out.now list.now rooms }
 {
     let refusal = rooms.refusal;
     if refusal != 0 {
-        say_unrescued(refusal, rooms.place);
+        say_unrescued(rt, refusal, rooms.place);
         return;
     }
-    print_proper(text, out, rooms.end);
+    print_proper(rt, text, out, rooms.end);
     let numbers = rooms.numbers;
     let mut lines = [0u8; 65536];
-    let end = say_changes(&list[..numbers], &mut lines);
-    say_last(text, &lines, end);
+    let end = say_changes(rt, &list[..numbers], &mut lines);
+    say_last(rt, text, &lines, end);
 }
 
 // coverage rescue FILE. Two changes for each byte are the most, and a change is two numbers.
-fn rescue_file(text: &[u8]) {
+fn rescue_file(rt: &HostRuntime, text: &[u8]) {
     let mut out = [0u8; 65536];
     let mut list = [0u64; 262144];
     let rooms = rescue_text(text, &mut out, &mut list);
-    show_rescued(text, rooms, &out, &list);
+    show_rescued(rt, text, rooms, &out, &list);
 }
 
 // The commands that read a file.
-fn answer(command: Command, text: &[u8]) {
+fn answer(rt: &HostRuntime, command: Command, text: &[u8]) {
     match command {
-        Command::Check => check_file(text),
-        Command::List => list_file(text),
-        Command::Rescue => rescue_file(text),
-        Command::Frame => frame_file(text),
-        Command::Sheet => sheet_file(text),
-        Command::Summary => summary_file(text),
-        Command::Question => question_file(text),
-        _ => ask_file(text),
+        Command::Check => check_file(rt, text),
+        Command::List => list_file(rt, text),
+        Command::Rescue => rescue_file(rt, text),
+        Command::Frame => frame_file(rt, text),
+        Command::Sheet => sheet_file(rt, text),
+        Command::Summary => summary_file(rt, text),
+        Command::Question => question_file(rt, text),
+        _ => ask_file(rt, text),
     }
 }
 
 // The file that is named, into a room that is longer than any text: of a longer file there is a byte more than a text has.
-fn load_text(path: &mut [u8], text: &mut [u8]) -> BytesRead
+fn load_text(rt: &HostRuntime, path: &mut [u8], text: &mut [u8]) -> BytesRead
     requires { 65537 ≤ length text.old }
     ensures { Fits text.new result }
 {
-    console::load(b"coverage", 2, path, text)
+    console::load(rt, b"coverage", 2, path, text)
 }
 
-fn answer_file(command: Command) {
-    let mut path = io::buffer();
+fn answer_file(rt: &HostRuntime, command: Command) {
+    let mut path = [0u8; 4096];
     let mut text = [0u8; 65537];
-    let BytesRead::Count(count) = load_text(&mut path, &mut text) else {
+    let BytesRead::Count(count) = load_text(rt, &mut path, &mut text) else {
         return;
     };
-    answer(command, &text[..count]);
+    answer(rt, command, &text[..count]);
 }
 
 // The command that a word names, with as many arguments as it takes.
@@ -684,13 +720,17 @@ fn command_of(word: &[u8], arguments: usize) -> Command {
     Command::Unknown
 }
 
-fn main() {
+fn main(rt: HostRuntime) {
+    let rt = &rt;
     let mut word = [0u8; 8];
-    let n = os::arg(1, &mut word);
-    let command = command_of(&word[..n], os::arg_count());
+    let Ok(n) = console::argument(rt, 1, &mut word) else {
+        usage(rt); // none, or one that is too long
+        return;
+    };
+    let command = command_of(&word[..n], console::argument_count(rt));
     match command {
-        Command::Unknown => usage(),
-        Command::Write => write_names(),
-        _ => answer_file(command),
+        Command::Unknown => usage(rt),
+        Command::Write => write_names(rt),
+        _ => answer_file(rt, command),
     }
 }

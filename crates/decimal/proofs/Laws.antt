@@ -1,7 +1,6 @@
 pub mod Decimal
 pub mod Fraction
 pub mod Long
-
 -- Reading digits from the left and writing them from the right; what stands ahead of a space and behind it. Assumes nothing.
 use mathlib.Core.Path.{◌≡◌, refl, sym, ap, ap₂, ◌∙◌}
 use mathlib.Core.Bool.{Bool, true, false, ◌&&◌, cond}

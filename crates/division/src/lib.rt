@@ -1,5 +1,6 @@
 // Long division: quotients of numbers that no machine word holds.
 #![tactic(auto)]
+
 ghost use Rattle.std.specs.Prelude.{◌*◌, ◌^◌, ◌<◌};
 ghost use Rattle.division.specs.Division.{Divided};
 

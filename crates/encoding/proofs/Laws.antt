@@ -1,5 +1,4 @@
 pub mod Encoding
-
 -- What each number that is read makes of the answer, and what stands at each turn of the loops. Assumes nothing.
 use mathlib.Core.Path.{◌≡◌, sym, ap, ap₂, ◌∙◌}
 use mathlib.Core.Bool.{Bool}

@@ -1,7 +1,6 @@
 pub mod Number
 pub mod Places
 pub mod Read
-
 -- A number read byte by byte: what stands at each turn of the loop, and what each test makes of the answer. Assumes nothing.
 use mathlib.Core.Path.{◌≡◌, refl, sym, ap, ap₂, ◌∙◌}
 use mathlib.Core.Bool.{cond}

@@ -1,5 +1,6 @@
 // Numbers of fixed widths in bytes, high byte first: read between limits, up to the first byte that is wrong, and written.
 #![tactic(auto)]
+
 ghost use Rattle.std.specs.Prelude.{◌≡◌, ◌+◌, ◌^◌, ◌≤◌, ◌<◌, length};
 ghost use Rattle.std.proofs.lemmas.List.Edits.{sets};
 ghost use Rattle.ternary.specs.Digits.{digits};

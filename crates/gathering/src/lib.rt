@@ -1,5 +1,6 @@
 // A list of codes with one more: nine siblings are merged upwards as they come, so the list has no more room than the fewest cells of what came.
 #![tactic(auto)]
+
 ghost use Rattle.std.specs.Prelude.{◌≡◌, true, ◌*◌, ◌^◌, ◌≤◌, ◌<◌, length, take};
 ghost use Rattle.cell.specs.Cell.{IsArrangement};
 ghost use Rattle.code.specs.Code.{is_code};

@@ -1,5 +1,6 @@
 // The codes of a text's whole cells.
 #![tactic(auto)]
+
 ghost use Rattle.std.specs.Prelude.{◌≡◌, true, ◌++◌, ◌≤◌, length, drop};
 ghost use Rattle.reading.specs.TextReading.{is_text, text_arrangement, body_start};
 ghost use Rattle.logic.specs.Refusal.{given};

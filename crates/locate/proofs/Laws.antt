@@ -5,7 +5,6 @@ pub mod Held
 pub mod Meet
 pub mod Part
 pub mod Turn
-
 -- Facts that the proofs of the functions cite. Assumes nothing.
 use mathlib.Core.Path.{◌≡◌}
 use mathlib.Core.Bool.{Bool, true, false, ◌&&◌}

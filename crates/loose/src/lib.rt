@@ -1,5 +1,6 @@
 // The looser text of a hand-edited body: whether bytes are one, and the place where they are not.
 #![tactic(auto)]
+
 ghost use Rattle.std.specs.Prelude.{◌≡◌, false, ◌+◌, ◌≤◌, ◌<◌, length, drop};
 ghost use Rattle.loose.specs.LooseScan.{lead_one, is_name, scan, depth};
 ghost use Rattle.loose.specs.Look.{loose_refusal, looked};

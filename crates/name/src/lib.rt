@@ -1,5 +1,6 @@
 // Names of cells: a face letter, N to S, and a digit 0 to 8 for each resolution.
 #![tactic(auto)]
+
 ghost use Rattle.std.specs.Prelude.{◌≡◌, not, ◌∷◌, ◌++◌, ◌+◌, ◌≤◌, ◌<◌, length, take, drop};
 ghost use Rattle.logic.specs.Refusal.{refuse, given};
 ghost use Rattle.ternary.specs.Digits.{value, digits};

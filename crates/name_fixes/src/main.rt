@@ -2,6 +2,7 @@
 // With an eccentricity the lines are `longitude sine` (02 W-203). name_fixes settings FILE [REVISION]: the same with the settings of a revision, the
 // newest if none is given (02 W-209).
 #![tactic(auto)]
+
 ghost use Rattle.std.specs.Prelude.{◌≤◌, length};
 ghost use Rattle.name_fixes.specs.Answers.{Answered, AllAnswered};
 
@@ -16,18 +17,30 @@ enum Waiting {
 }
 
 // One line: its answer waits behind what waited before, or behind nothing where all of that was printed to make room.
-fn answer_line(setting: Setting, line: &[u8], out: &mut [u8], waiting: usize) -> Waiting
+fn answer_line(
+    rt: &HostRuntime,
+    setting: Setting,
+    line: &[u8],
+    out: &mut [u8],
+    waiting: usize,
+) -> Waiting
     requires { (waiting ≤ length out.old) × (21 ≤ length out.old) }
     ensures { Answered setting line.now waiting out.old out.new result }
 {
-    let Room::From(start) = console::make_room(out, waiting, 21) else {
+    let Room::From(start) = console::make_room(rt, out, waiting, 21) else {
         return Waiting::Failed;
     };
     Waiting::Count(report::put_answer(setting, line, out, start))
 }
 
 // All lines of the input. Where reading fails, the lines that ended before are answered. No input has so many lines.
-fn answer_all(setting: Setting, bytes: &mut [u8], room: &mut [u8], out: &mut [u8]) -> Waiting
+fn answer_all(
+    rt: &HostRuntime,
+    setting: Setting,
+    bytes: &mut [u8],
+    room: &mut [u8],
+    out: &mut [u8],
+) -> Waiting
     requires { (43 ≤ length room.old) × (21 ≤ length out.old) }
     ensures { AllAnswered setting out.new result }
 {
@@ -36,13 +49,13 @@ fn answer_all(setting: Setting, bytes: &mut [u8], room: &mut [u8], out: &mut [u8
     let mut waiting: usize = 0;
     let mut turns = u64::MAX;
     while turns > 0 {
-        match console::next_line(b"name_fixes", bytes, from, end, room) {
+        match console::next_line(rt, b"name_fixes", bytes, from, end, room) {
             LineRead::Line {
                 length,
                 from: next,
                 end: stop,
             } => {
-                let Waiting::Count(count) = answer_line(setting, &room[..length], out, waiting)
+                let Waiting::Count(count) = answer_line(rt, setting, &room[..length], out, waiting)
                 else {
                     return Waiting::Failed;
                 };
@@ -51,7 +64,7 @@ fn answer_all(setting: Setting, bytes: &mut [u8], room: &mut [u8], out: &mut [u8
                 end = stop;
             }
             LineRead::Last { length } => {
-                return answer_line(setting, &room[..length], out, waiting);
+                return answer_line(rt, setting, &room[..length], out, waiting);
             }
             LineRead::End => return Waiting::Count(waiting),
             LineRead::Failed => return Waiting::Count(waiting),
@@ -61,15 +74,19 @@ fn answer_all(setting: Setting, bytes: &mut [u8], room: &mut [u8], out: &mut [u8
     Waiting::Count(waiting)
 }
 
-fn main() {
-    let Arguments::Good(setting) = console::given_setting(b"name_fixes") else {
+fn main(rt: HostRuntime) {
+    let rt = &rt;
+    let Arguments::Good(setting) = console::given_setting(rt, b"name_fixes") else {
         console::say(
+            rt,
             b"usage: name_fixes n s resolution [eccentricity] < fixes > names\n       name_fixes settings FILE [REVISION] < fixes > names\n",
         );
         console::say(
+            rt,
             b"  n and s are 0 to 3, the resolution is 0 to 15; a fix is a line `longitude z`\n",
         );
         console::say(
+            rt,
             b"  with a squared eccentricity, 0 to 10000000000 in units of 10^-12, it is a line `longitude sine`; so it is with settings\n",
         );
         return;
@@ -77,8 +94,8 @@ fn main() {
     let mut bytes = [0u8; 65536];
     let mut room = [0u8; 64];
     let mut out = [0u8; 65536];
-    let Waiting::Count(waiting) = answer_all(setting, &mut bytes, &mut room, &mut out) else {
+    let Waiting::Count(waiting) = answer_all(rt, setting, &mut bytes, &mut room, &mut out) else {
         return;
     };
-    console::print_first(&out, waiting);
+    console::print_first(rt, &out, waiting);
 }

@@ -1,5 +1,6 @@
 // The place of refusal 9: the scan over letters, brackets and digits.
 #![tactic(auto)]
+
 ghost use Rattle.std.specs.Prelude.{◌≡◌, true, ◌+◌, ◌-◌, ◌≤◌, length, drop};
 ghost use Rattle.reading.specs.Reading.{first, room};
 ghost use Rattle.reading.specs.Scan.{scan, start};

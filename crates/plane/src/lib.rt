@@ -1,6 +1,7 @@
 // The plane: the square, the nucleus and the vertices of a cell, and the cell of a point. Computed in unsigned numbers: how far a point is right of
 // the left edge of O, and how deep below the top of N.
 #![tactic(auto)]
+
 ghost use Rattle.std.specs.Prelude.{◌≡◌, ◌+◌, ◌*◌, ◌≤◌, ◌<◌, ◌^◌};
 ghost use Rattle.cell.specs.Cell.{IsCell, IsArrangement, found};
 ghost use Rattle.plane.specs.Plane.{face_side, side_of, face_left, cell_at, square_of, nucleus_of, vertices_of, point_refusal, point_cell};

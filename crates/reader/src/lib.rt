@@ -1,5 +1,6 @@
 // Checking a coverage text: node reader and list reader call each other.
 #![tactic(auto)]
+
 ghost use Rattle.std.specs.Prelude.{◌≡◌, ◌*◌, ◌^◌, ◌≤◌, ◌<◌, eqb, length, get_or};
 ghost use Rattle.reading.specs.Text.{heading_length};
 ghost use Rattle.reading.specs.Heading.{least, greatest, lead, profile_in};

@@ -1,5 +1,6 @@
 // What the parts of a coverage text are: the letters of faces and the digits of nodes.
 #![tactic(auto)]
+
 ghost use Rattle.std.specs.Prelude.{◌≡◌, eqb, length, get_or};
 ghost use Rattle.reading.specs.Heading.{lead};
 ghost use Rattle.reading.specs.Reading.{first, many, room as room_of};

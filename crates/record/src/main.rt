@@ -2,6 +2,7 @@
 // With an eccentricity the lines are `longitude sine` (02 W-203). With a file the text so far is in it too, after each minute's worth of lines. The
 // text is all that is held of it. record settings FILE [REVISION] [to FILE]: the same with the settings of a revision, the newest if none is given (02 W-209).
 #![tactic(auto)]
+
 ghost use Rattle.std.specs.Prelude.{◌≡◌, ◌⊎◌, false, ◌+◌, ◌≤◌, ◌<◌, length, take};
 ghost use Rattle.lines.specs.Fold.{OfBytes};
 ghost use Rattle.adding.specs.InMind.{InMind};
@@ -12,7 +13,9 @@ ghost use Rattle.record.specs.Recorded.{changed_by, fix_added, refused_added, No
 
 use console::{Arguments, LineRead};
 use flight::{Recording, Setting, Taken};
-use libc::{SEEK_CUR, STDERR_FILENO};
+use std::fs;
+use std::io::IsTerminal;
+use std::os::unix::fs::FileTypeExt;
 
 // So many lines are a minute of a flight, at twenty fixes a second.
 const MINUTE: u64 = 1_200;
@@ -104,11 +107,11 @@ fn with_refused(flight: Flight, refusal: u64) -> Flight
 }
 
 // A refused line is said at once where there is no room for it to wait in. Where that room is full, it is only counted.
-fn say_refused(number: u64, refusal: u64, waits: &mut [u64])
+fn say_refused(rt: &HostRuntime, number: u64, refusal: u64, waits: &mut [u64])
     ensures { waits.new ≡ waits_with number refusal waits.old }
 {
     if waits.len() < 3 {
-        console::say_line(b"record", number, refusal);
+        console::say_line(rt, b"record", number, refusal);
         return;
     }
     let taken = waits[0] as usize;
@@ -122,6 +125,7 @@ fn say_refused(number: u64, refusal: u64, waits: &mut [u64])
 
 // One line, with its number. A line that is refused is said, or will be, and the flight goes on.
 fn record_line(
+    rt: &HostRuntime,
     setting: Setting,
     line: &[u8],
     number: u64,
@@ -139,14 +143,14 @@ fn record_line(
     match flight::take_line(setting, line, text, flight.recording, near) {
         Taken::Fix(recording) => with_fix(flight, recording),
         Taken::Refused(refusal) => {
-            say_refused(number, refusal, waits);
+            say_refused(rt, number, refusal, waits);
             with_refused(flight, refusal)
         }
     }
 }
 
 // Keeps the text in its file, if there is one.
-fn keep_text(path: &[u8], text: &[u8], flight: Flight) -> Flight
+fn keep_text(rt: &HostRuntime, path: &[u8], text: &[u8], flight: Flight) -> Flight
     requires { (length path.now ≤ 4096) × (flight.recording.length ≤ length text.now) }
     ensures { (result ≡ flight) ⊎ (result ≡ kept flight) }
 {
@@ -154,7 +158,7 @@ fn keep_text(path: &[u8], text: &[u8], flight: Flight) -> Flight
     if path.len() == 0 {
         return flight;
     }
-    if !console::keep(b"record", path, &text[..recording.length]) {
+    if !console::keep(rt, b"record", path, &text[..recording.length]) {
         return flight;
     }
     Flight {
@@ -167,7 +171,7 @@ fn keep_text(path: &[u8], text: &[u8], flight: Flight) -> Flight
 }
 
 // The same after each minute's worth of lines in which the text has changed.
-fn checkpoint(path: &[u8], text: &[u8], number: u64, flight: Flight) -> Flight
+fn checkpoint(rt: &HostRuntime, path: &[u8], text: &[u8], number: u64, flight: Flight) -> Flight
     requires { (length path.now ≤ 4096) × (flight.recording.length ≤ length text.now) }
     ensures { Checkpointed number flight result }
 {
@@ -177,11 +181,12 @@ fn checkpoint(path: &[u8], text: &[u8], number: u64, flight: Flight) -> Flight
     if !flight.changed {
         return flight;
     }
-    keep_text(path, text, flight)
+    keep_text(rt, path, text, flight)
 }
 
 // All lines of the flight, or where the input fails those that ended before. No flight has so many lines.
 fn record_all(
+    rt: &HostRuntime,
     setting: Setting,
     path: &[u8],
     bytes: &mut [u8],
@@ -201,13 +206,14 @@ fn record_all(
     let mut number: u64 = 0;
     while number < u64::MAX {
         number = number + 1;
-        match console::next_line(b"record", bytes, from, end, room) {
+        match console::next_line(rt, b"record", bytes, from, end, room) {
             LineRead::Line {
                 length,
                 from: next,
                 end: stop,
             } => {
                 let with_line = record_line(
+                    rt,
                     setting,
                     &room[..length],
                     number,
@@ -216,12 +222,21 @@ fn record_all(
                     near,
                     waits,
                 );
-                flight = checkpoint(path, text, number, with_line);
+                flight = checkpoint(rt, path, text, number, with_line);
                 from = next;
                 end = stop;
             }
             LineRead::Last { length } => {
-                return record_line(setting, &room[..length], number, text, flight, near, waits);
+                return record_line(
+                    rt,
+                    setting,
+                    &room[..length],
+                    number,
+                    text,
+                    flight,
+                    near,
+                    waits,
+                );
             }
             LineRead::End => return flight,
             LineRead::Failed => return flight,
@@ -230,106 +245,117 @@ fn record_all(
     flight
 }
 
-// Whether words cannot end the program, as they do where standard error is a pipe that nobody reads any more: it is a terminal, or has a place to write at.
-fn says_at_once() -> bool {
-    if libc::isatty(STDERR_FILENO) == 1 {
+// Whether words cannot end the program, as they do where standard error is a pipe that nobody reads any more: it is a terminal, or another device, or a file.
+fn says_at_once(rt: &HostRuntime) -> bool {
+    if rt.stderr().is_terminal() {
         return true;
     }
-    libc::lseek(STDERR_FILENO, 0, SEEK_CUR) >= 0
+    let Ok(words) = fs::metadata(rt, "/proc/self/fd/2") else {
+        return false;
+    };
+    let kind = words.file_type();
+    kind.is_file() || kind.is_char_device() || kind.is_block_device()
 }
 
 // Room for 256 refused lines to wait in until the text is written, or none.
-fn room_to_wait() -> usize
+fn room_to_wait(rt: &HostRuntime) -> usize
     ensures { result ≤ 513 }
 {
-    if says_at_once() {
+    if says_at_once(rt) {
         return 0;
     }
     513
 }
 
 // The refused lines that waited.
-fn say_waiting(waits: &[u64]) {
+fn say_waiting(rt: &HostRuntime, waits: &[u64]) {
     let mut i: usize = 1;
     while i + 1 < waits.len() {
         if waits[0] as usize <= i {
             return;
         }
-        console::say_line(b"record", waits[i], waits[i + 1]);
+        console::say_line(rt, b"record", waits[i], waits[i + 1]);
         i += 2;
     }
     if waits.len() > 0 {
-        console::say(b"record: any further refused lines are only counted\n");
+        console::say(rt, b"record: any further refused lines are only counted\n");
     }
 }
 
 // So many, in words for one and for more.
-fn say_count(count: u64, one: &[u8], more: &[u8]) {
-    console::say_whole(count);
+fn say_count(rt: &HostRuntime, count: u64, one: &[u8], more: &[u8]) {
+    console::say_whole(rt, count);
     if count == 1 {
-        console::say(one);
+        console::say(rt, one);
         return;
     }
-    console::say(more);
+    console::say(rt, more);
 }
 
 // How many fixes were taken, and how many lines refused, by number.
-fn say_counts(flight: Flight) {
-    console::say(b"record: ");
-    say_count(flight.fixes, b" fix taken, ", b" fixes taken, ");
+fn say_counts(rt: &HostRuntime, flight: Flight) {
+    console::say(rt, b"record: ");
+    say_count(rt, flight.fixes, b" fix taken, ", b" fixes taken, ");
     say_count(
+        rt,
         flight.bad,
         b" line refused with 6, ",
         b" lines refused with 6, ",
     );
-    console::say_whole(flight.full);
-    console::say(b" with 13\n");
+    console::say_whole(rt, flight.full);
+    console::say(rt, b" with 13\n");
 }
 
 // How many words come before `to FILE`, of so many. These are three or more, the program's own name among them.
-fn words_before(count: usize) -> usize
+fn words_before(rt: &HostRuntime, count: usize) -> usize
     ensures { result ≤ count }
 {
     if count < 5 {
         return count;
     }
-    if console::argument_is(count - 2, b"to") {
+    if console::argument_is(rt, count - 2, b"to") {
         return count - 2;
     }
     count
 }
 
 // The file named by the last of so many words, if it is named.
-fn file_given(words: usize, count: usize, path: &mut [u8]) -> File
+fn file_given(rt: &HostRuntime, words: usize, count: usize, path: &mut [u8]) -> File
     ensures { FileFits path.new result }
 {
     if words >= count {
         return File::None;
     }
-    let length = os::arg(count - 1, path);
+    let Ok(length) = console::argument(rt, count - 1, path) else {
+        return File::Wrong; // too long
+    };
     if length == 0 {
-        return File::Wrong; // none, or too long
+        return File::Wrong; // none
     }
     File::Path(length)
 }
 
-fn say_usage() {
+fn say_usage(rt: &HostRuntime) {
     console::say(
+        rt,
         b"usage: record n s resolution [eccentricity] [to FILE] < flight > text\n       record settings FILE [REVISION] [to FILE] < flight > text\n",
     );
     console::say(
+        rt,
         b"  n and s are 0 to 3, the resolution is 0 to 15; a flight has a line `longitude z` for each fix\n",
     );
     console::say(
+        rt,
         b"  with a squared eccentricity, 0 to 10000000000 in units of 10^-12, the lines are `longitude sine`; so they are with settings\n",
     );
     console::say(
+        rt,
         b"  with a file the text so far is in it too, after each 1200 lines and at the end\n",
     );
 }
 
 // The flight from its first line to its last, and what it came to.
-fn record_flight(setting: Setting, path: &[u8], waits: &mut [u64])
+fn record_flight(rt: &HostRuntime, setting: Setting, path: &[u8], waits: &mut [u64])
     requires { (setting_refusal setting ≡ 0) × (length path.now ≤ 4096) }
 {
     let mut bytes = [0u8; 4096];
@@ -338,34 +364,35 @@ fn record_flight(setting: Setting, path: &[u8], waits: &mut [u64])
     let mut near = [0u64; 3];
     let first = begin(setting, &mut text, &mut near);
     let flight = record_all(
-        setting, path, &mut bytes, &mut room, &mut text, first, &mut near, waits,
+        rt, setting, path, &mut bytes, &mut room, &mut text, first, &mut near, waits,
     );
-    keep_text(path, &text, flight);
-    console::print_first(&text, flight.recording.length);
-    say_waiting(waits);
-    say_counts(flight);
+    keep_text(rt, path, &text, flight);
+    console::print_first(rt, &text, flight.recording.length);
+    say_waiting(rt, waits);
+    say_counts(rt, flight);
 }
 
 // The same, with room for refused lines to wait in.
-fn record_to(setting: Setting, path: &[u8])
+fn record_to(rt: &HostRuntime, setting: Setting, path: &[u8])
     requires { (setting_refusal setting ≡ 0) × (length path.now ≤ 4096) }
 {
     let mut waits = [0u64; 513];
-    let many = room_to_wait();
-    record_flight(setting, path, &mut waits[..many]);
+    let many = room_to_wait(rt);
+    record_flight(rt, setting, path, &mut waits[..many]);
 }
 
-fn main() {
-    let count = os::arg_count();
-    let words = words_before(count);
-    let Arguments::Good(setting) = console::setting_in(b"record", words) else {
-        say_usage();
+fn main(rt: HostRuntime) {
+    let rt = &rt;
+    let count = console::argument_count(rt);
+    let words = words_before(rt, count);
+    let Arguments::Good(setting) = console::setting_in(rt, b"record", words) else {
+        say_usage(rt);
         return;
     };
     let mut path = [0u8; 4080];
-    match file_given(words, count, &mut path) {
-        File::Path(length) => record_to(setting, &path[..length]),
-        File::None => record_to(setting, &path[..0]),
-        File::Wrong => say_usage(),
+    match file_given(rt, words, count, &mut path) {
+        File::Path(length) => record_to(rt, setting, &path[..length]),
+        File::None => record_to(rt, setting, &path[..0]),
+        File::Wrong => say_usage(rt),
     }
 }

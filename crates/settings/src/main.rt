@@ -2,6 +2,7 @@
 // the settings of the office, with their last 32 revisions, in a file (02 W-209). A new history is written beside the old one, brought to the disk and
 // then put in its place, so that a failure at any moment leaves the one or the other.
 #![tactic(auto)]
+
 ghost use Rattle.std.specs.Prelude.{◌≡◌, true, ◌≤◌, length};
 ghost use Rattle.encoding.specs.Encoding.{encoding_of};
 ghost use Rattle.console.specs.Beside.{beside_of};
@@ -12,6 +13,7 @@ ghost use Rattle.settings.specs.Answered.{answered, changed_from, read_line};
 use console::Loaded;
 use decimal::Whole;
 use history::{History, HistoryAnswer, Settings};
+use std::io::ErrorKind;
 
 // A change of a history, with the revision that it was made from; a fresh one has none.
 #[derive(Clone, Copy)]
@@ -37,16 +39,24 @@ enum SettingsGiven {
     Wrong,
 }
 
-fn usage() {
-    console::say(b"usage: settings FILE fresh n s resolution eccentricity\n");
-    console::say(b"       settings FILE change REVISION n s resolution eccentricity\n");
-    console::say(b"       settings FILE back REVISION WANTED\n");
-    console::say(b"       settings FILE read REVISION\n");
-    console::say(b"       settings FILE list\n");
+fn usage(rt: &HostRuntime) {
     console::say(
+        rt,
+        b"usage: settings FILE fresh n s resolution eccentricity\n",
+    );
+    console::say(
+        rt,
+        b"       settings FILE change REVISION n s resolution eccentricity\n",
+    );
+    console::say(rt, b"       settings FILE back REVISION WANTED\n");
+    console::say(rt, b"       settings FILE read REVISION\n");
+    console::say(rt, b"       settings FILE list\n");
+    console::say(
+        rt,
         b"  n and s are 0 to 3, the resolution is 0 to 15, the squared eccentricity 0 to 10000000000 in units of 10^-12;\n",
     );
     console::say(
+        rt,
         b"  REVISION is the newest, from which a change is made; WANTED is one of the last 32\n",
     );
 }
@@ -118,30 +128,33 @@ fn asked_read(revision: Whole) -> Asked
 }
 
 // The settings that the words from this number on say.
-fn settings_from(i: usize) -> SettingsGiven
+fn settings_from(rt: &HostRuntime, i: usize) -> SettingsGiven
     requires { i ≤ 8 }
 {
     settings_given(
-        console::whole_argument(i),
-        console::whole_argument(i + 1),
-        console::whole_argument(i + 2),
-        console::whole_argument(i + 3),
+        console::whole_argument(rt, i),
+        console::whole_argument(rt, i + 1),
+        console::whole_argument(rt, i + 2),
+        console::whole_argument(rt, i + 3),
     )
 }
 
 // What the second word asks for, with as many words as it takes.
-fn asked_for(word: &[u8], words: usize) -> Asked {
+fn asked_for(rt: &HostRuntime, word: &[u8], words: usize) -> Asked {
     if check::same(word, b"fresh") && words == 7 {
-        return asked_fresh(settings_from(3));
+        return asked_fresh(settings_from(rt, 3));
     }
     if check::same(word, b"change") && words == 8 {
-        return asked_change(console::whole_argument(3), settings_from(4));
+        return asked_change(console::whole_argument(rt, 3), settings_from(rt, 4));
     }
     if check::same(word, b"back") && words == 5 {
-        return asked_back(console::whole_argument(3), console::whole_argument(4));
+        return asked_back(
+            console::whole_argument(rt, 3),
+            console::whole_argument(rt, 4),
+        );
     }
     if check::same(word, b"read") && words == 4 {
-        return asked_read(console::whole_argument(3));
+        return asked_read(console::whole_argument(rt, 3));
     }
     if check::same(word, b"list") && words == 3 {
         return Asked::List;
@@ -161,7 +174,7 @@ fn answer(history: History, change: Change) -> HistoryAnswer
 }
 
 // The history after a change, if there was one before it and the change is not refused. A refusal is said.
-fn changed(loaded: Loaded, change: Change) -> Loaded
+fn changed(rt: &HostRuntime, loaded: Loaded, change: Change) -> Loaded
     ensures { result ≡ changed_from loaded change }
 {
     if !loaded.done {
@@ -171,8 +184,8 @@ fn changed(loaded: Loaded, change: Change) -> Loaded
     let refusal = answer.refusal;
     let history = answer.history;
     if refusal != 0 {
-        console::say(b"settings: ");
-        console::say_refusal(refusal);
+        console::say(rt, b"settings: ");
+        console::say_refusal(rt, refusal);
         return Loaded {
             done: false, // refused
             history,
@@ -185,64 +198,64 @@ fn changed(loaded: Loaded, change: Change) -> Loaded
 }
 
 // Before a fresh history there is no file: one that is there stays.
-fn no_file(path: &[u8]) -> Loaded {
-    let fd = os::open_read(path);
-    if fd >= 0 {
-        libc::close(fd);
-        console::say(b"settings: ");
-        console::say(path);
-        console::say(b": it is there already, and a fresh history would destroy it\n");
-        return Loaded {
-            done: false,
-            history: history::no_history(),
-        };
-    }
-    if os::errno() != libc::ENOENT {
-        console::say_failure(b"settings", path);
-        return Loaded {
-            done: false,
-            history: history::no_history(),
-        };
-    }
-    Loaded {
-        done: true,
-        history: history::no_history(),
+fn no_file(rt: &HostRuntime, path: &[u8]) -> Loaded {
+    match console::open(rt, path) {
+        Ok(_) => {
+            console::say(rt, b"settings: ");
+            console::say(rt, path);
+            console::say(
+                rt,
+                b": it is there already, and a fresh history would destroy it\n",
+            );
+            Loaded {
+                done: false,
+                history: history::no_history(),
+            }
+        }
+        Err(error) => {
+            let none = error.kind() == ErrorKind::NotFound;
+            if !none {
+                console::say_failure(rt, b"settings", path, &error);
+            }
+            Loaded {
+                done: none,
+                history: history::no_history(),
+            }
+        }
     }
 }
 
 // The history before a change.
-fn before(path: &[u8], change: Change) -> Loaded {
+fn before(rt: &HostRuntime, path: &[u8], change: Change) -> Loaded {
     match change {
-        Change::Fresh(_) => no_file(path),
-        _ => console::load_history(b"settings", path),
+        Change::Fresh(_) => no_file(rt, path),
+        _ => console::load_history(rt, b"settings", path),
     }
 }
 
 // Makes the file beside the old one, in which the new history will be written. It stands from before the old one is read until it takes its place, so no
 // two changes are made at once; and where it is found, another is being made, or one was cut off.
-fn claimed(beside: &[u8]) -> bool {
-    let fd = os::create(beside);
-    if fd < 0 {
-        let taken = os::errno() == libc::EEXIST;
-        console::say_failure(b"settings", beside);
-        if taken {
+fn claimed(rt: &HostRuntime, beside: &[u8]) -> bool {
+    if let Err(error) = console::make_new(rt, beside) {
+        console::say_failure(rt, b"settings", beside, &error);
+        if error.kind() == ErrorKind::AlreadyExists {
             console::say(
+                rt,
                 b"settings: another change is being made, or one was cut off; if none is being made, remove that file\n",
             );
         }
         return false;
     }
-    libc::close(fd);
     true
 }
 
 // The history after a change and, where there is one, its bytes.
-fn changed_bytes(loaded: Loaded, change: Change, bytes: &mut [u8]) -> Loaded
+fn changed_bytes(rt: &HostRuntime, loaded: Loaded, change: Change, bytes: &mut [u8]) -> Loaded
     requires { 263 ≡ length bytes.old }
     ensures value { result ≡ changed_from loaded change }
     ensures bytes_after { result.done ≡ true → bytes.new ≡ encoding_of result.history }
 {
-    let after = changed(loaded, change);
+    let after = changed(rt, loaded, change);
     if !after.done {
         return after; // nothing is encoded
     }
@@ -251,39 +264,39 @@ fn changed_bytes(loaded: Loaded, change: Change, bytes: &mut [u8]) -> Loaded
 }
 
 // Puts a history's bytes in the file's place: to standard output its newest revision, which the change made.
-fn put_in_place(path: &[u8], history: History, bytes: &[u8])
+fn put_in_place(rt: &HostRuntime, path: &[u8], history: History, bytes: &[u8])
     requires { (length path.now ≤ 4096) × (bytes.now ≡ encoding_of history) }
 {
-    if !console::keep(b"settings", path, bytes) {
+    if !console::keep(rt, b"settings", path, bytes) {
         return;
     }
     let mut out = [0u8; 21];
     let end = report::put_line(history.newest, &mut out);
-    console::print_first(&out, end);
+    console::print_first(rt, &out, end);
 }
 
 // A change of the history in a file, by way of the file beside it.
-fn change_file(path: &[u8], beside: &[u8], change: Change)
+fn change_file(rt: &HostRuntime, path: &[u8], beside: &[u8], change: Change)
     requires { (length path.now ≤ 4096) × (beside.now ≡ beside_of path.now) }
 {
-    if !claimed(beside) {
+    if !claimed(rt, beside) {
         return;
     }
     let mut bytes = [0u8; 263];
-    let after = changed_bytes(before(path, change), change, &mut bytes);
+    let after = changed_bytes(rt, before(rt, path, change), change, &mut bytes);
     if !after.done {
-        console::remove(b"settings", beside);
+        console::remove(rt, b"settings", beside);
         return;
     }
-    put_in_place(path, after.history, &bytes);
+    put_in_place(rt, path, after.history, &bytes);
 }
 
-fn make_change(path: &[u8], change: Change)
+fn make_change(rt: &HostRuntime, path: &[u8], change: Change)
     requires { length path.now ≤ 4096 }
 {
     let mut room = [0u8; 4101];
     let end = console::beside(path, &mut room);
-    change_file(path, &room[..end], change);
+    change_file(rt, path, &room[..end], change);
 }
 
 // Puts the settings of a revision in front, or nothing where it is not kept: where they end.
@@ -299,50 +312,58 @@ fn put_read(history: History, revision: u64, out: &mut [u8]) -> usize
     report::put_settings(answer.settings, out, 0)
 }
 
-fn show_read(path: &[u8], revision: u64) {
-    let loaded = console::load_history(b"settings", path);
+fn show_read(rt: &HostRuntime, path: &[u8], revision: u64) {
+    let loaded = console::load_history(rt, b"settings", path);
     if !loaded.done {
         return;
     }
     let mut out = [0u8; 84];
     let end = put_read(loaded.history, revision, &mut out);
-    console::print_first(&out, end);
+    console::print_first(rt, &out, end);
     if end == 0 {
-        console::say(b"settings: ");
-        console::say_refusal(18);
+        console::say(rt, b"settings: ");
+        console::say_refusal(rt, 18);
     }
 }
 
-fn show_list(path: &[u8]) {
-    let loaded = console::load_history(b"settings", path);
+fn show_list(rt: &HostRuntime, path: &[u8]) {
+    let loaded = console::load_history(rt, b"settings", path);
     if !loaded.done {
         return;
     }
     let mut out = [0u8; 3360];
     let end = report::put_history(loaded.history, &mut out);
-    console::print_first(&out, end);
+    console::print_first(rt, &out, end);
 }
 
-fn answer_to(path: &[u8], asked: Asked)
+fn answer_to(rt: &HostRuntime, path: &[u8], asked: Asked)
     requires { length path.now ≤ 4096 }
 {
     match asked {
-        Asked::Changed(change) => make_change(path, change),
-        Asked::Read(revision) => show_read(path, revision),
-        Asked::List => show_list(path),
-        Asked::Wrong => usage(),
+        Asked::Changed(change) => make_change(rt, path, change),
+        Asked::Read(revision) => show_read(rt, path, revision),
+        Asked::List => show_list(rt, path),
+        Asked::Wrong => usage(rt),
     }
 }
 
-fn main() {
+fn main(rt: HostRuntime) {
+    let rt = &rt;
+    let count = console::argument_count(rt);
     let mut word = [0u8; 8];
-    let m = os::arg(2, &mut word);
-    let asked = asked_for(&word[..m], os::arg_count());
-    let mut path = io::buffer();
-    let n = os::arg(1, &mut path);
-    if os::errno() == libc::ENAMETOOLONG {
-        console::say_failure(b"settings", b"FILE");
-        return;
+    let asked = match console::argument(rt, 2, &mut word) {
+        Ok(m) => asked_for(rt, &word[..m], count),
+        Err(_) => Asked::Wrong, // none, or too long
+    };
+    let mut path = [0u8; 4096];
+    match console::argument(rt, 1, &mut path) {
+        Ok(n) => answer_to(rt, &path[..n], asked),
+        Err(error) => {
+            if count < 2 {
+                usage(rt);
+                return;
+            }
+            console::say_failure(rt, b"settings", b"FILE", &error);
+        }
     }
-    answer_to(&path[..n], asked);
 }

@@ -20,7 +20,7 @@ use Rattle.sheet.specs.declared.Next.{Next}
 use Rattle.sheet.specs.declared.Next.TheVariants.{Whole, End}
 use Rattle.sheet.specs.declared.Standing.{Standing}
 use Rattle.sheet.specs.Sheet.{record_of, records_of, bytes_of, joined}
-use Rattle.sheet.specs.Verdict.{starts, leading}
+use Rattle.sheet.specs.Verdict.{starts}
 use Rattle.sheet.specs.Parts.{Stands, ours_in, next_records, PartPut}
 use Rattle.sheet.specs.Internal.Compared.{PartCompared}
 use Rattle.sheet.specs.Internal.Next.{NextIs}

@@ -1,5 +1,5 @@
 -- The record of a code: its cell was found, and its neighbours are cells. Assumes nothing.
-use mathlib.Core.Path.{◌≡◌, sym, ap, ◌∙◌, subst}
+use mathlib.Core.Path.{◌≡◌, sym, ◌∙◌, subst}
 use mathlib.Core.Bool.{true}
 use Prim.Native.Nat.{ℕ}
 use Rattle.cell.specs.declared.Cell.{Cell}

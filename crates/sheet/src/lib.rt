@@ -1,5 +1,6 @@
 // A partner's neighbour sheet (02, W-211): for each whole cell of a coverage text a record of five numbers.
 #![tactic(auto)]
+
 ghost use Rattle.std.specs.Prelude.{◌≡◌, true, ◌+◌, ◌≤◌, ◌<◌, leb, length, drop};
 ghost use Rattle.std.proofs.lemmas.List.Edits.{sets};
 ghost use Rattle.logic.specs.Refusal.{given};

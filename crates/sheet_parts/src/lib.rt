@@ -1,5 +1,6 @@
 // What `coverage sheet` reads and prints: a neighbour sheet part by part, since the longest has more bytes than a program holds at once.
 #![tactic(auto)]
+
 ghost use Rattle.std.specs.Prelude.{◌≡◌, true, ◌*◌, ◌%◌, ◌≤◌, ◌<◌, length};
 ghost use Rattle.reading.specs.Ground.{whole_cells};
 ghost use Rattle.reading.specs.TextReading.{nodes_of, is_text, text_arrangement, body_start};
@@ -12,6 +13,7 @@ use cell::Arrangement;
 use console::BytesRead;
 use reader::Checked;
 use sheet::Judged;
+use std::fs::File;
 
 // Where the bytes that wait end; and the refusal that is to be said, 0 for none, with its place.
 #[derive(Clone, Copy)]
@@ -31,6 +33,7 @@ fn bytes_of(records: u64, room: usize) -> usize
 
 // The sheet of an accepted text with so many whole cells: what is left of it in front, behind what was printed.
 fn put_parts(
+    rt: &HostRuntime,
     text: &[u8],
     arrangement: Arrangement,
     body: usize,
@@ -44,7 +47,7 @@ fn put_parts(
     let mut standing = sheet::start(body);
     let mut end: usize = 0;
     while standing.records < cells {
-        console::print_first(out, end);
+        console::print_first(rt, out, end);
         let next = sheet::put_part(text, arrangement, standing, out);
         end = bytes_of(next.records - standing.records, out.len());
         standing = next;
@@ -53,7 +56,7 @@ fn put_parts(
 }
 
 // The sheet of any bytes, part by part: nothing where they are no text.
-pub fn put_sheet(text: &[u8], out: &mut [u8]) -> SheetPut
+pub fn put_sheet(rt: &HostRuntime, text: &[u8], out: &mut [u8]) -> SheetPut
     requires { 40 ≤ length out.old }
     ensures sheet_written { SheetWritten (text_refusal text.now) text.now out.new result }
     ensures end_in_bounds { result.end ≤ length out.new }
@@ -74,7 +77,7 @@ pub fn put_sheet(text: &[u8], out: &mut [u8]) -> SheetPut
         } => {
             let arrangement = Arrangement { north, south };
             SheetPut {
-                end: put_parts(text, arrangement, body, cells, out),
+                end: put_parts(rt, text, arrangement, body, cells, out),
                 refusal: 0,
                 place: 0,
             }
@@ -84,10 +87,11 @@ pub fn put_sheet(text: &[u8], out: &mut [u8]) -> SheetPut
 
 // Checks the sheet that comes from an open file, beside an accepted text. One that cannot be read counts as empty, and standard error says why.
 fn judge_parts(
+    rt: &HostRuntime,
     text: &[u8],
     arrangement: Arrangement,
     body: usize,
-    fd: i32,
+    file: &mut File,
     path: &[u8],
     part: &mut [u8],
 ) -> Judged
@@ -97,8 +101,7 @@ fn judge_parts(
 {
     let mut standing = sheet::start(body);
     loop {
-        let BytesRead::Count(count) = console::read_all(fd, part) else {
-            console::say_failure(b"coverage", path);
+        let BytesRead::Count(count) = console::read_all(rt, b"coverage", path, file, part) else {
             return sheet::told(text, sheet::start(body));
         };
         standing = sheet::go_over(text, arrangement, standing, &part[..count]);
@@ -112,7 +115,13 @@ fn judge_parts(
 }
 
 // The same of any bytes as a text: 13, 10, 9 where they are none.
-pub fn judge_file(text: &[u8], fd: i32, path: &[u8], part: &mut [u8]) -> Judged
+pub fn judge_file(
+    rt: &HostRuntime,
+    text: &[u8],
+    file: &mut File,
+    path: &[u8],
+    part: &mut [u8],
+) -> Judged
     requires { (0 < length part.old) × (length part.old % 40 ≡ 0) }
     ensures { JudgesText (text_refusal text.now) text.now part.new result }
 {
@@ -127,7 +136,7 @@ pub fn judge_file(text: &[u8], fd: i32, path: &[u8], part: &mut [u8]) -> Judged
             body,
         } => {
             let arrangement = Arrangement { north, south };
-            judge_parts(text, arrangement, body, fd, path, part)
+            judge_parts(rt, text, arrangement, body, file, path, part)
         }
     }
 }
@@ -139,9 +148,9 @@ pub fn put_judged(judged: Judged, out: &mut [u8]) -> usize
     ensures upper_bound { result ≤ 24 }
 {
     match judged {
-        Judged::Right => bytes::copy(b"yes\n", out),
+        Judged::Right => copying::copy(b"yes\n", out),
         Judged::Wrong(record) => {
-            let at = bytes::copy(b"no ", out);
+            let at = copying::copy(b"no ", out);
             let end = decimal::put_whole(record, out, at);
             out[end] = b'\n';
             end + 1

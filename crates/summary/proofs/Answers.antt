@@ -11,19 +11,19 @@ use lib.ListN.{get_or}
 use borrow.Author.Tests.{eq-eqb, ne_eqb, lt-ltb, le-ltb}
 use Rattle.logic.specs.Laws.Bools.{and_none}
 use Rattle.logic.specs.Laws.Order.{lt-or}
-use Rattle.logic.specs.Refusal.{refuse, ◌otherwise◌, given}
+use Rattle.logic.specs.Refusal.{refuse, ◌otherwise◌}
 use Rattle.logic.specs.Laws.Refusal.{stops, passes, both, given-value, given-none}
 use Rattle.ternary.proofs.Laws.Powers.{nine-le, nine-lt}
 use Rattle.cell.specs.declared.Arrangement.{Arrangement}
 use Rattle.cell.specs.Cell.{arrangement_refusal}
-use Rattle.code.specs.Code.{cell_of, code_refusal, is_code, is_of, size_of}
+use Rattle.code.specs.Code.{cell_of, is_code, is_of, size_of}
 use Rattle.code.proofs.Laws.Code.{a-code, code-is-cell, code-passes, code-stops}
 use Rattle.code.specs.Inside.{start_of, end_of}
 use Rattle.code.proofs.Laws.Inside.{end-small}
 use Rattle.reading.specs.declared.Profile.{Profile}
 use Rattle.reading.specs.Ground.{whole_cells}
 use Rattle.reading.specs.TextReading.{nodes_of}
-use Rattle.reader.specs.Check.{text_refusal, place_with}
+use Rattle.reader.specs.Check.{text_refusal}
 use Rattle.reader.specs.Laws.Answer.{TextChecked, TextRefused}
 use Rattle.summary.specs.declared.Summarized.TheVariants as summarized-as
 use Rattle.summary.specs.declared.Questioned.TheVariants as questioned-as

@@ -1,5 +1,6 @@
 // A summary kept beside a text: for each cell of resolution 2, a district, the number of covered finest cells inside it.
 #![tactic(auto)]
+
 ghost use Rattle.std.specs.Prelude.{◌≡◌, true, ◌+◌, ◌≤◌};
 ghost use Rattle.cell.specs.Cell.{IsArrangement};
 ghost use Rattle.reading.specs.Ground.{whole_cells};

@@ -2,6 +2,7 @@
 // looked up. To take apart, two digits at a time are looked up, and the row and the column stand in one number. A batch takes a table of three
 // digits once and lends it on (02, W-202).
 #![tactic(auto)]
+
 ghost use Rattle.std.specs.Prelude.{◌≡◌, ◌*◌, ◌/◌, ◌%◌, ◌^◌, ◌≤◌, ◌<◌};
 ghost use Rattle.ternary.specs.Threes.{Apart, Woven};
 ghost use Rattle.ternary.specs.Weave.{weave, row_in, column_in, both_in};

@@ -1,5 +1,6 @@
 // The walk over the body of a text that was accepted: the cell that each letter and digit stands for.
 #![tactic(auto)]
+
 ghost use Rattle.std.specs.Prelude.{◌≡◌, true, ◌+◌, ◌^◌, ◌≤◌, ◌<◌, length, drop};
 ghost use Rattle.walk.specs.Walk.{Fits, number_in, after, goes_on, whole_at};
 ghost use Rattle.walk.specs.Past.{open_past, shut_in, node_in};

@@ -1,6 +1,7 @@
 // Whole numbers of two and of three words of 64 bits, by value: the squares that decide a floor over a root stay below 2^168. And the upper word
 // of a product, for the one sum that is rounded (02 W-203).
 #![tactic(auto)]
+
 ghost use Rattle.std.specs.Prelude.{◌≡◌, ◌+◌, ◌*◌, ◌^◌, ◌≤◌, leb};
 ghost use Rattle.wide.specs.High.{high_word};
 ghost use Rattle.wide.specs.Value.{two, three};

@@ -1,5 +1,6 @@
 // The accepted text of a list of cells.
 #![tactic(auto)]
+
 ghost use Rattle.std.specs.Prelude.{◌≡◌, true, not, map, ◌+◌, ◌-◌, ◌*◌, ◌^◌, ◌≤◌, ◌<◌, length, set};
 ghost use Rattle.std.proofs.lemmas.List.Edits.{sets};
 ghost use Rattle.writing.specs.Internal.Measure.{cell_start, StartAtPlace, NodeMeasured, ListMeasured};

@@ -17,7 +17,7 @@ a-code c = sym c.is_code.ensures ∙ c.if-not-is_code.false
 -- the text was read
 read-in :
     (c : In-Text) →
-    let t = c.args.text.now in 
+    let t = c.args.text.now in
     TextChecked t c.in-Text.profile c.in-Text.north c.in-Text.south c.in-Text.cells c.in-Text.size c.in-Text.body
 read-in c = text-checked _ (sym c.in-Text.is ∙ c.check.ensures)
 

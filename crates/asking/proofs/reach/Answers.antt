@@ -25,7 +25,7 @@ abbrev to : ℕ → ℕ
 to code = end_of (cell_of code)
 
 -- what the two calls gave
-known : (c : After-size_in ) → let a = c.args in
+known : (c : After-size_in) → let a = c.args in
     (c.start_in-from.result ≡ from a.code) × (c.start_in-from.result + c.size_in.result ≡ to a.code) × (from a.code < to a.code)
 unfolding end_of
 known c =
@@ -34,7 +34,7 @@ known c =
 
 -- what was found, as the contract has it
 gives :
-    {b : Bool} {at : ℕ} (c : After-size_in ) → let a = c.args in
+    {b : Bool} {at : ℕ} (c : After-size_in) → let a = c.args in
     Found a.text.now (above_in a.text.now (from a.code) (to a.code)) at b (any_in (from a.code) (to a.code) 0 (9 ^ 15) (nodes_of a.text.now)) →
     body_start a.text.now ≤ at → at ≤ length a.text.now → Reaches a.text.now a.code b at
 gives c = let s = c in reached s.args.text.now s.requires.0 s.args.code s.requires.2 s.requires.3

@@ -1,13 +1,12 @@
 -- What an answer of comparing says of the lent codes. Assumes nothing.
 use Rattle.std.proofs.Math.Path.{◌≡◌, refl, sym}
-use Rattle.std.proofs.Common.{ap, ap₂, ◌∙◌, arith, length-append}
-use Rattle.std.specs.Prelude.{List, ◌++◌, take, drop}
+use Rattle.std.proofs.Common.{ap, ◌∙◌, arith, length-append}
+use Rattle.std.specs.Prelude.{List, take, drop}
 use Prim.Native.Nat.{ℕ, zero, suc, ◌≤◌}
 use Rattle.std.proofs.Math.ListN.{length}
 use Rattle.std.proofs.lemmas.List.{length-map}
 use Rattle.std.proofs.Math.Seq.{take-append_seam, drop-append_seam}
 use Rattle.logic.specs.Lent.{in_front}
-use Rattle.logic.specs.Refusal.{given}
 use Rattle.logic.specs.Laws.Refusal.{given-value}
 use Rattle.cell.specs.declared.Cell.{Cell}
 use Rattle.code.specs.Code.{code_of}

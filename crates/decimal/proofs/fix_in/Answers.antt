@@ -2,12 +2,11 @@
 -- Assumes nothing.
 use mathlib.Core.Path.{◌≡◌, sym, ap, ap₂, ◌∙◌}
 use mathlib.Core.List.{List}
-use Prim.Native.Nat.{ℕ, ◌+◌, ◌^◌, ◌≤◌, ◌<◌}
-use Rattle.std.specs.Int.Signed.{mag}
+use Rattle.std.proofs.Common.{rules, w64, to_z, of_z}
+use Prim.Native.Nat.{ℕ, ◌+◌, ◌≤◌}
 use native.Mathlib.Omega.{arith}
 use lib.ListN.{length, take, drop}
 use lib.Seq.{length-take-le}
-use Rattle.signed.specs.Laws.Sign.{back-result}
 use Rattle.decimal.specs.declared.FixLine.TheVariants.{Fix}
 use Rattle.decimal.specs.Decimal.{number_in, ahead, behind, trimmed}
 use Rattle.decimal.proofs.Laws.{from_on, take-ahead, ahead-le, drop-ahead, take-trimmed, no-space, no-first, no_second, two-numbers}
@@ -79,9 +78,7 @@ returns-in_default-number_in c = no_second c.args.line.now
 
 pub returns : goal.returns
 returns c =
-    let a = c.in-Is in
-    let b = c.in-Is-number_in in
-    let low : mag a.longitude < 2 ^ 63 = omega arith in
-    let high : mag b.z < 2 ^ 63 = omega arith in
-    ap₂ Fix (back-result a.longitude low) (back-result b.z high) ∙ two-numbers c.args.line.now a.longitude b.z
-    (sym a.is ∙ first-is (goal.at.returns c).After-number_in) (sym b.is ∙ second_is (goal.at.returns c).After-number_in-2)
+    let x : to_z w64 (of_z w64 c.in-Is.longitude) ≡ c.in-Is.longitude = search rules in
+    let y : to_z w64 (of_z w64 c.in-Is-number_in.z) ≡ c.in-Is-number_in.z = search rules in
+    ap₂ Fix x y ∙ two-numbers c.args.line.now c.in-Is.longitude c.in-Is-number_in.z
+    (sym c.in-Is.is ∙ first-is (goal.at.returns c).After-number_in) (sym c.in-Is-number_in.is ∙ second_is (goal.at.returns c).After-number_in-2)

@@ -1,6 +1,5 @@
 -- What stands ahead of the point and behind it, as whole numbers; together they stay below 10^15. Assumes nothing.
 use mathlib.Core.Path.{◌≡◌, sym, ap, ap₂, ◌∙◌}
-use mathlib.Core.List.{List}
 use Prim.Native.Nat.{ℕ, ◌+◌, ◌-◌, ◌*◌, ◌^◌, ◌≤◌, ◌<◌}
 use native.Mathlib.Omega.{arith}
 use lib.ListN.{length, take, drop}
@@ -14,17 +13,30 @@ use Rattle.decimal.proofs.Laws.{from_on, take-ahead, ahead-le, drop-ahead}
 use Rattle.decimal.proofs.Laws.Fraction.{whole_below, scaled-below}
 use Rattle.decimal.proofs.Places.{no-point, long-point, short-point, places-are}
 use Rattle.decimal.proofs.fraction_in.Goals as goal
-use Rattle.decimal.proofs.fraction_in.Goals.{After-ten_to-scale}
+use Rattle.decimal.proofs.fraction_in.Goals.{After-ten_to-scale, After-whole_in, After-whole_in-2, Else-point-text, Else-text-gt16}
 
 -- the point stands inside the text
-inside : (s : List ℕ) (p : ℕ) → p ≡ length (ahead 46 s) → (p ≡ length s → ⊥) → p + 1 ≤ length s
-inside s p e n = omega (arith, e, ahead-le 46 s, n)
+inside : (c : Else-point-text) → c.ahead_of-point.result + 1 ≤ length c.args.text.now
+inside c =
+    let s = c.args.text.now in
+    omega (arith, c.ahead_of-point.ensures, ahead-le 46 s, c.if-point-text.false)
 
-front-is : (s : List ℕ) (p : ℕ) (r : Whole) → p ≡ length (ahead 46 s) → r ≡ whole_in (take p s) → r ≡ whole_in (ahead 46 s)
-front-is s p r e h = h ∙ ap whole_in (ap (λ (n : ℕ). take n s) e ∙ take-ahead 46 s)
+has-point : (c : Else-point-text) → length (ahead 46 c.args.text.now) ≡ length c.args.text.now → ⊥
+has-point c e = c.if-point-text.false (c.ahead_of-point.ensures ∙ e)
 
-back_is : (s : List ℕ) (p : ℕ) (r : Whole) → p ≡ length (ahead 46 s) → r ≡ whole_in (take (length s - (p + 1)) (drop (p + 1) s)) → r ≡ whole_in (behind 46 s)
-back_is s p r e h = h ∙ ap whole_in (from_on (p + 1) s ∙ ap (λ (n : ℕ). drop (n + 1) s) e ∙ drop-ahead 46 s)
+short : (c : Else-text-gt16) → length c.args.text.now ≤ 16
+short c = omega (arith, c.if-text-gt16.false)
+
+front-is : (c : After-whole_in) → c.whole_in.result ≡ whole_in (ahead 46 c.args.text.now)
+front-is c =
+    let s = c.args.text.now in
+    c.whole_in.ensures ∙ ap whole_in (ap (λ (n : ℕ). take n s) c.ahead_of-point.ensures ∙ take-ahead 46 s)
+
+back_is : (c : After-whole_in-2) → c.whole_in-2.result ≡ whole_in (behind 46 c.args.text.now)
+back_is c =
+    let s = c.args.text.now in
+    let p = c.ahead_of-point in
+    c.whole_in-2.ensures ∙ ap whole_in (from_on (p.result + 1) s ∙ ap (λ (n : ℕ). drop (n + 1) s) p.ensures ∙ drop-ahead 46 s)
 
 -- the scale, and what the two parts come to
 scale-is : (c : After-ten_to-scale) → c.ten_to-scale.result ≡ 10 ^ length (behind 46 c.args.text.now)
@@ -33,18 +45,18 @@ scale-is c =
     c.ten_to-scale.ensures ∙ ap (λ (n : ℕ). 10 ^ n) (ap (λ (n : ℕ). length s - (n + 1)) c.ahead_of-point.ensures ∙ places-are s)
 
 front : (c : After-ten_to-scale) → whole_in (ahead 46 c.args.text.now) ≡ Wholes.Is c.in-Is.front
-front c = sym (front-is c.args.text.now c.ahead_of-point.result _ c.ahead_of-point.ensures c.whole_in.ensures) ∙ c.in-Is.is
+front c = sym (front-is (goal.at.After-ten_to-scale c).After-whole_in) ∙ c.in-Is.is
 
 back : (c : After-ten_to-scale) → whole_in (behind 46 c.args.text.now) ≡ Wholes.Is c.in-Is-whole_in.back
-back c = sym (back_is c.args.text.now c.ahead_of-point.result _ c.ahead_of-point.ensures c.whole_in-2.ensures) ∙ c.in-Is-whole_in.is
+back c = sym (back_is (goal.at.After-ten_to-scale c).After-whole_in-2) ∙ c.in-Is-whole_in.is
 
 small : (c : After-ten_to-scale) → c.in-Is.front * c.ten_to-scale.result + c.in-Is-whole_in.back < 10 ^ 15
 small c =
     let s = c.args.text.now in
     let f = whole_below (ahead 46 s) _ (front c) in
     let b = whole_below (behind 46 s) _ (back c) in
-    let i = inside s c.ahead_of-point.result c.ahead_of-point.ensures c.if-point-text.false in
-    let h : length (ahead 46 s) + length (behind 46 s) ≤ 15 = omega (arith, sym (places-are s), i, c.ahead_of-point.ensures, c.if-text-gt16.false) in
+    let h : length (ahead 46 s) + length (behind 46 s) ≤ 15 =
+    omega (arith, sym (places-are s), inside (goal.at.After-ten_to-scale c).Else-point-text, c.ahead_of-point.ensures, short (goal.at.After-ten_to-scale c).Else-text-gt16) in
     scaled-below _ _ (length (ahead 46 s)) (length (behind 46 s)) (scale-is c) f b h
 
 pub returns-then-point-text : goal.returns-then-point-text
@@ -53,26 +65,26 @@ returns-then-point-text c =
     c.whole_fraction.ensures ∙ no-point k.args.text.now (sym k.ahead_of-point.ensures ∙ c.if-point-text.true)
 
 pub returns-then-text-gt16 : goal.returns-then-text-gt16
-returns-then-text-gt16 c = long-point c.args.text.now (λ e. c.if-point-text.false (c.ahead_of-point.ensures ∙ e)) c.if-text-gt16.true
+returns-then-text-gt16 c = long-point c.args.text.now (has-point (goal.at.returns-then-text-gt16 c).Else-point-text) c.if-text-gt16.true
 
 pub slice_bounds-whole_in-end : goal.slice_bounds-whole_in-end
-slice_bounds-whole_in-end c = sym (length-take-le _ _ (omega (arith, inside c.args.text.now _ c.ahead_of-point.ensures c.if-point-text.false)))
+slice_bounds-whole_in-end c = sym (length-take-le _ _ (omega (arith, inside (goal.at.slice_bounds-whole_in-end c).Else-point-text)))
 
 pub returns-in_default : goal.returns-in_default
 returns-in_default c =
     let w = c in
     let two = w in
     let s = w.args.text.now in
-    ap (λ (x : Whole). with_places (length (behind 46 s)) x (whole_in (behind 46 s))) (sym c.in_default.is ∙ front-is c.args.text.now c.ahead_of-point.result _ c.ahead_of-point.ensures c.whole_in.ensures) ∙ short-point s (λ e. c.if-point-text.false (c.ahead_of-point.ensures ∙ e)) (omega (arith, c.if-text-gt16.false))
+    ap (λ (x : Whole). with_places (length (behind 46 s)) x (whole_in (behind 46 s))) (sym c.in_default.is ∙ front-is (goal.at.returns-in_default c).After-whole_in) ∙ short-point s (has-point (goal.at.returns-in_default c).Else-point-text) (short (goal.at.returns-in_default c).Else-text-gt16)
 
 pub overflow_add-rest : goal.overflow_add-rest
-overflow_add-rest c = omega (arith, inside c.args.text.now _ c.ahead_of-point.ensures c.if-point-text.false)
+overflow_add-rest c = omega (arith, inside (goal.at.overflow_add-rest c).Else-point-text)
 
 pub slice_bounds-whole_in-count : goal.slice_bounds-whole_in-count
-slice_bounds-whole_in-count c = omega (arith, inside c.args.text.now _ c.ahead_of-point.ensures c.if-point-text.false)
+slice_bounds-whole_in-count c = omega (arith, inside (goal.at.slice_bounds-whole_in-count c).Else-point-text)
 
 pub slice_bounds-whole_in-start : goal.slice_bounds-whole_in-start
-slice_bounds-whole_in-start c = omega (arith, inside c.args.text.now _ c.ahead_of-point.ensures c.if-point-text.false)
+slice_bounds-whole_in-start c = omega (arith, inside (goal.at.slice_bounds-whole_in-start c).Else-point-text)
 
 pub returns-in_default-whole_in : goal.returns-in_default-whole_in
 returns-in_default-whole_in c =
@@ -81,8 +93,8 @@ returns-in_default-whole_in c =
     let w = f in
     let two = w in
     let s = w.args.text.now in
-    ap₂ (λ (x y : Whole). with_places (length (behind 46 s)) x y) (sym f.in-Is.is ∙ front-is c.args.text.now c.ahead_of-point.result _ c.ahead_of-point.ensures c.whole_in.ensures) (sym c.in_default-whole_in.is ∙ back_is c.args.text.now c.ahead_of-point.result _ c.ahead_of-point.ensures c.whole_in-2.ensures)
-    ∙ short-point s (λ e. c.if-point-text.false (c.ahead_of-point.ensures ∙ e)) (omega (arith, c.if-text-gt16.false))
+    ap₂ (λ (x y : Whole). with_places (length (behind 46 s)) x y) (sym f.in-Is.is ∙ front-is (goal.at.returns-in_default-whole_in c).After-whole_in) (sym c.in_default-whole_in.is ∙ back_is (goal.at.returns-in_default-whole_in c).After-whole_in-2)
+    ∙ short-point s (has-point (goal.at.returns-in_default-whole_in c).Else-point-text) (short (goal.at.returns-in_default-whole_in c).Else-text-gt16)
 
 pub overflow_mul-result : goal.overflow_mul-result
 overflow_mul-result c = let h = small (goal.at.overflow_mul-result c).After-ten_to-scale in record { fits = omega arith }
@@ -92,8 +104,8 @@ overflow_add-result c = let h = small (goal.at.overflow_add-result c).After-ten_
 
 pub returns : goal.returns
 returns c =
-    let k = (goal.at.returns c).After-ten_to-scale in
-    let s : List ℕ = c.args.text.now in
-    let f = ap₂ (λ (x y : Whole). with_places (length (behind 46 s)) x y) (front k) (back k) in
-    ap (λ (n : ℕ). Fractions.Is (c.in-Is.front * n + c.in-Is-whole_in.back) n) (scale-is k) ∙ sym f
-    ∙ short-point s (λ e. c.if-point-text.false (c.ahead_of-point.ensures ∙ e)) (omega (arith, c.if-text-gt16.false))
+    let s = c.args.text.now in
+    let d = (goal.at.returns c).After-ten_to-scale in
+    let f = ap₂ (λ (x y : Whole). with_places (length (behind 46 s)) x y) (front d) (back d) in
+    ap (λ (n : ℕ). Fractions.Is (c.in-Is.front * n + c.in-Is-whole_in.back) n) (scale-is d) ∙ sym f
+    ∙ short-point s (has-point (goal.at.returns c).Else-point-text) (short (goal.at.returns c).Else-text-gt16)

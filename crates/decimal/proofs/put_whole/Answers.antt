@@ -33,4 +33,5 @@ returns c =
     let f = ap (λ (i : ℕ). take i s) (sym e) ∙ l.invariant.3 ∙ ap (λ (i : ℕ). take i a.out.now) e in
     let g = ap₂ (λ (i j : ℕ). last_bytes i l.rest ++ drop j s) (sym z) (sym e) ∙ l.invariant.4 in
     let r = ap₂ (λ (i j : ℕ). last_bytes i a.x ++ drop (a.at + j) a.out.now) k m ∙ ap (λ (p : List ℕ). p ++ drop (a.at + length (printed a.x)) a.out.now)
-    (sym (printed-last a.x)) in record { value = omega arith; upper_bound = omega arith; out_after = sym (take-append-drop a.at s) ∙ ap₂ ◌++◌ f (g ∙ r) }
+    (sym (printed-last a.x)) in
+    record { value = omega arith; upper_bound = omega arith; out_after = sym (take-append-drop a.at s) ∙ ap₂ ◌++◌ f (g ∙ r) }

@@ -8,7 +8,7 @@ use Rattle.division.proofs.scaled.Goals as goal
 use Rattle.division.proofs.scaled.Goals.{In-loop-i}
 
 -- the next whole part is below base^(i + 1), which is at most base^k
-next_small : (c : In-loop-i ) →
+next_small : (c : In-loop-i) →
     c.loop-i.whole * c.args.base + c.loop-i.rest * c.args.base / c.args.d < 2 ^ 64
 next_small c =
     let l = c.loop-i in

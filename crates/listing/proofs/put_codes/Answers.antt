@@ -16,11 +16,11 @@ use Rattle.listing.proofs.put_codes.Goals.{After-code_as, After-opens_at, Then-o
 
 -- where a whole cell stands, and its code was made
 stands :
-    (c : After-code_as ) →
+    (c : After-code_as) →
     whole_at (drop c.loop-i.i c.args.text.now) ≡ true
 stands c = sym c.whole_at-whole.ensures ∙ c.if-whole.true
 
-room : (c : After-code_as ) → let l = c.loop-i in l.count < length l.codes
+room : (c : After-code_as) → let l = c.loop-i in l.count < length l.codes
 room c =
     let b = c in
     let l = b.loop-i in
@@ -28,7 +28,7 @@ room c =
 
 -- past a byte that is no whole cell's
 past :
-    (c : After-opens_at ) →
+    (c : After-opens_at) →
     let l = c.loop-i in
     let s = c in
     Lists s.args.text.now s.args.codes.now l.codes l.count (l.i + 1) c.after-spot.result
@@ -39,7 +39,7 @@ past c =
 
 -- at a `(` behind it
 opening :
-    (c : Then-opens_at ) →
+    (c : Then-opens_at) →
     eqb (get_or c.args.text.now
     (c.loop-i.i + 1) 0) 40 ≡ true
 opening c = sym c.opens_at.ensures ∙ c.if-opens_at.true

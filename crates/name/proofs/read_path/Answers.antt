@@ -19,7 +19,7 @@ next p i b h k l =
     omega arith
 
 small :
-    (c : Else-b-gt56 ) →
+    (c : Else-b-gt56) →
     let l = c.loop-i in
     let s = c.args.name.now in
     l.path * 9 + (get_or s l.i 0 - 48) < 205891132094649

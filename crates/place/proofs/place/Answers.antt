@@ -13,17 +13,17 @@ use Rattle.place.proofs.place.Goals.{Else-not-may_open, Else-not-may_shut, Else-
 
 -- what was asked may come
 opened :
-    (c : Else-not-may_open ) →
+    (c : Else-not-may_open) →
     let v = c.scan in
     let a = c.args in
     may_open a.level a.depth v.k (get_or v.lo v.k 0) v.named ≡ true
 opened c = sym c.may_open.ensures ∙ not-false c.may_open.result c.if-not-may_open.false-raw
 
-shut : (c : Else-not-may_shut ) → let v = c.scan in may_shut v.k (get_or v.lo v.k 0) (get_or v.whole v.k 0) ≡ true
+shut : (c : Else-not-may_shut) → let v = c.scan in may_shut v.k (get_or v.lo v.k 0) (get_or v.whole v.k 0) ≡ true
 shut c = sym c.may_shut.ensures ∙ not-false c.may_shut.result c.if-not-may_shut.false-raw
 
 stood :
-    (c : Else-not-may_stand ) →
+    (c : Else-not-may_stand) →
     let v = c.scan in
     let a = c.args in
     may_stand a.level a.depth v.k (get_or v.lo v.k 0) (get_or v.whole v.k 0) (get_or a.text.now v.i 0) ≡ true

@@ -112,6 +112,6 @@ nodes-overflow_add-result-2 t c = omega (arith, rd.runs-fits c.loop-at.invariant
 
 pub nodes-returns : goal.nodes-returns
 nodes-returns t c = elim c.loop-at-test.branch [
-    nodes-else-loop-at-test w ↦ rd.runs-end c.loop-at.invariant w.loop-at-test.false
+  | nodes-else-loop-at-test w ↦ rd.runs-end c.loop-at.invariant w.loop-at-test.false
   | nodes-then-loop-at-test+then-b-eq41 w ↦ rd.runs_close c.loop-at.invariant w.loop-at-test.true w.if-b-eq41.true
-  ]
+]

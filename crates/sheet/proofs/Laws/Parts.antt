@@ -11,7 +11,7 @@ use Rattle.sheet.specs.declared.Judged.TheVariants.{Right, Wrong}
 use Rattle.sheet.specs.Sheet.{records_of, bytes_of, joined, sheet_of}
 use Rattle.sheet.specs.Verdict.{starts, leading, same, verdict}
 use Rattle.sheet.specs.Parts.{start_at, told_of, Behind, ours_in, GoesOver, Through, all_bytes, WholeRecords, next_records, PartPut}
-use Rattle.sheet.proofs.Laws.Bytes.{length-bytes, length-joined, starts-long, lead-end, same-ltb, same-done}
+use Rattle.sheet.proofs.Laws.Bytes.{length-bytes, length-joined, lead-end, same-ltb, same-done}
 use Rattle.sheet.proofs.Laws.Stands.{stands-start}
 use Rattle.sheet.proofs.Laws.Sheet.{starts-take, lead-past}
 

@@ -3,12 +3,12 @@ use Rattle.std.proofs.Math.Path.{◌≡◌, refl, sym, ap, ap₂, subst}
 use Rattle.std.proofs.Common.{◌∙◌, inl, inr, ⊎_elim, arith, length-append, take_at, drop_at, drop-drop, length-take-le, eqb-true, eq-eqb}
 use Rattle.std.specs.Prelude.{◌⊎◌, Bool, ◌&&◌, take, drop, eqb}
 use Rattle.std.proofs.Math.Bool.{true, false, cond}
-use mathlib.Core.List.{List, [], ◌∷◌, ◌++◌, map, append-nil, append_assoc}
+use mathlib.Core.List.{List, [], ◌∷◌, ◌++◌, map, append_assoc}
 use Prim.Native.Nat.{ℕ, zero, suc, ◌+◌, ◌*◌, ◌≤◌, ◌<◌}
 use Rattle.std.proofs.Math.ListN.{length}
 use Rattle.std.proofs.Math.Seq.{take-append_seam}
 use Rattle.logic.specs.Lists.{All, Mem}
-use Rattle.logic.specs.Laws.Lists.{all-each, all-mem}
+use Rattle.logic.specs.Laws.Lists.{all-mem}
 use Rattle.logic.specs.Laws.Bools.{clash, and_left, and_right, refuted}
 use Rattle.logic.specs.Laws.Order.{three_ways}
 use Rattle.logic.specs.Laws.Refusal.{both}

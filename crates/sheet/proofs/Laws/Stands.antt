@@ -1,12 +1,11 @@
 -- What lies before a sheet that stands beside the walk: the next whole cell and its record. Assumes nothing.
 use Rattle.std.specs.Prelude.{◌≡◌, refl, true, ℕ, zero, suc, ◌+◌, ◌≤◌, ◌<◌}
 use Rattle.std.proofs.Math.Path.{sym, ap, ap₂}
-use Rattle.std.proofs.Common.{◌∙◌, subst, arith, drop-drop}
+use Rattle.std.proofs.Common.{◌∙◌, arith, drop-drop}
 use mathlib.Core.List.{List, [], ◌∷◌, map}
 use Rattle.std.proofs.Math.ListN.{length, drop, length-drop}
 use Rattle.std.proofs.lemmas.List.{length-map}
 use Rattle.cell.specs.declared.Cell.{Cell}
-use Rattle.cell.specs.declared.Arrangement.{Arrangement}
 use Rattle.code.specs.Code.{code_of, cell_of, arrangement_of, is_code}
 use Rattle.code.proofs.Laws.Code.{cell-code, cell-has-code, arrangement-code}
 use Rattle.code.proofs.Laws.Number.{code-as}
@@ -17,7 +16,7 @@ use Rattle.reading.specs.TextReading.{nodes_of, text_arrangement, is_text, body_
 use Rattle.reading.proofs.Laws.TextReading.{reads-body, body-nodes, text-arranged}
 use Rattle.reading.proofs.Laws.Demand.{whole_cells_lem, count-whole}
 use Rattle.walk.specs.declared.Spot.{Spot}
-use Rattle.walk.specs.Walk.{origin, spot_of, walk, Walks}
+use Rattle.walk.specs.Walk.{spot_of, walk, Walks}
 use Rattle.walk.specs.Laws.Walk.{walk-text, walks-start}
 use Rattle.listing.proofs.Laws.List.{spot_code}
 use Rattle.sheet.specs.declared.Record.{Record}

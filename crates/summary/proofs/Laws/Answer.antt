@@ -1,6 +1,6 @@
 -- What an answer of summing up says of the text. Assumes nothing.
 use Rattle.std.proofs.Math.Path.{◌≡◌, refl, sym}
-use Rattle.std.proofs.Common.{ap, ◌∙◌, arith}
+use Rattle.std.proofs.Common.{◌∙◌, arith}
 use Rattle.std.specs.Prelude.{List}
 use Prim.Native.Nat.{ℕ, zero, suc}
 use Rattle.reading.specs.TextReading.{text_arrangement}

@@ -1,5 +1,5 @@
 -- A counter is the number of covered finest cells inside its cell, and the counters together are the text's size sum (02, W-207). Assumes nothing.
-use Rattle.std.specs.Prelude.{◌≡◌, refl, Bool, true, false, ◌||◌, List, [], ◌∷◌, ℕ, ◌+◌, ◌-◌, ◌*◌, ◌^◌, ◌≤◌, ◌<◌, length, get_or}
+use Rattle.std.specs.Prelude.{◌≡◌, refl, Bool, true, false, ◌||◌, List, [], ◌∷◌, ℕ, ◌+◌, ◌*◌, ◌^◌, ◌≤◌, ◌<◌, length, get_or}
 use Rattle.std.proofs.Common.{sym, ap, ap₂, subst, ◌∙◌, inl, inr, ⊎_elim, arith, ext_get_or}
 use Rattle.std.proofs.lemmas.List.{length-replicate, get_or-replicate}
 use Rattle.logic.specs.Laws.Bools.{or-either, or-right-true, clash}
@@ -8,7 +8,6 @@ use Rattle.counting.specs.Laws.Count.{count_none, count_most, count-either, betw
 use Rattle.counting.specs.Laws.Count.{length-tabulate, at-tabulate, sum-tabulate}
 use Rattle.cell.specs.declared.Cell.{Cell}
 use Rattle.cell.specs.Cell.{IsCell}
-use Rattle.code.specs.Code.{size_of}
 use Rattle.code.specs.Inside.{Inside, start_of, end_of}
 use Rattle.code.proofs.Laws.Inside.{apart-ranges, end-small, inside-finest, finest-inside}
 use Rattle.code.proofs.Laws.Size.{finest-at, finest-between, size-between}

@@ -9,7 +9,7 @@ use Rattle.counting.specs.Laws.Count.{count_same, count_none, count-some, count-
 use Rattle.cell.specs.declared.Cell.{Cell}
 use Rattle.cell.specs.Cell.{IsCell}
 use Rattle.code.specs.Finest.{Finest}
-use Rattle.code.specs.Inside.{Inside, start_of, end_of}
+use Rattle.code.specs.Inside.{start_of, end_of}
 use Rattle.code.proofs.Laws.Inside.{inside-within, apart-ranges, size-pos}
 use Rattle.code.specs.Number.{number_of}
 use Rattle.code.proofs.Laws.Number.{start-as, end-as}

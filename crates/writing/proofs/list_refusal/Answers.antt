@@ -12,7 +12,7 @@ use Rattle.writing.proofs.list_refusal.Goals as goal
 use Rattle.writing.proofs.list_refusal.Goals.{Else-not-is_code}
 
 -- the code at hand is a cell's where the test let it pass
-a-code : (c : Else-not-is_code ) → is_code (get_or c.args.codes.now c.loop-i.i 0) ≡ true
+a-code : (c : Else-not-is_code) → is_code (get_or c.args.codes.now c.loop-i.i 0) ≡ true
 a-code c = sym c.is_code.ensures ∙ c.if-not-is_code.false
 
 pub returns-then-not-is_code : goal.returns-then-not-is_code
