@@ -1,7 +1,7 @@
 -- The answers of `add`, in the order of its tests. Assumes nothing.
 use mathlib.Core.Path.{◌≡◌, refl, sym, ap, ◌∙◌}
 use mathlib.Core.Bool.{Bool, true, false, not}
-use mathlib.Core.List.{List, ◌++◌}
+use mathlib.Core.List.{List}
 use Prim.Native.Nat.{ℕ, zero, suc, ◌≤◌, ◌<◌}
 use native.Mathlib.Omega.{arith}
 use lib.Dec.{ltb}
@@ -9,15 +9,14 @@ use lib.ListN.{length, take}
 use borrow.Author.Tests.{lt-ltb, le-ltb}
 use Rattle.logic.specs.Refusal.{refuse, ◌otherwise◌, given}
 use Rattle.logic.specs.Laws.Refusal.{stops, passes}
-use Rattle.cell.specs.declared.Cell.{Cell}
 use Rattle.cell.specs.declared.Arrangement.{Arrangement}
 use Rattle.code.specs.Code.{cell_of, is_of, code_refusal}
 use Rattle.reading.specs.declared.Profile.{Profile}
-use Rattle.reader.specs.Check.{text_refusal, place_with}
+use Rattle.reader.specs.Check.{place_with}
 use Rattle.reader.specs.Laws.Answer.{TextChecked, TextRefused, checked-arrangement}
 use Rattle.asking.specs.Ask.{ask_refusal}
 use Rattle.adding.specs.declared.Added.{Added}
-use Rattle.adding.specs.declared.Added.TheVariants.{Length, Refused}
+use Rattle.adding.specs.declared.Added.TheVariants.{Refused}
 use Rattle.adding.specs.Add.{text_with, keeps_with, size_refusal, with_refusal, add_refusal, added, resized, placed, Gains}
 
 -- neither 15 nor 13 nor 8 has a place

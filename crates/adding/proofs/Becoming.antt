@@ -1,17 +1,15 @@
 -- The lent bytes with an edited text in front. Assumes nothing.
 use mathlib.Core.Path.{◌≡◌, refl, sym, ap, ap₂, ◌∙◌}
 use mathlib.Core.List.{List, [], ◌∷◌, ◌++◌, append_assoc}
-use Prim.Native.Nat.{ℕ, zero, suc, ◌+◌, ◌-◌, ◌*◌, ◌≤◌, ◌<◌}
+use Prim.Native.Nat.{ℕ, zero, suc, ◌+◌, ◌-◌, ◌≤◌, ◌<◌}
 use native.Mathlib.Omega.{arith}
-use lib.Dec.{ltb}
 use lib.ListN.{length, take, drop, length-append, length-drop, take-append-drop}
-use lib.Seq.{take-take, length-take-le, take-append-le, drop_at, take_at, sets, sets-eq, paste, drop-nil}
+use lib.Seq.{take-take, length-take-le, take-append-le, drop_at, sets, sets-eq, paste}
 use borrow.Author.Tests.{lt-ltb, le-ltb}
-use Rattle.logic.specs.Refusal.{refuse, ◌otherwise◌, given}
+use Rattle.logic.specs.Refusal.{◌otherwise◌, given}
 use Rattle.adding.specs.declared.Added.{Added}
 use Rattle.adding.specs.declared.Added.TheVariants.{Length, Refused}
-use Rattle.adding.specs.declared.Edit.{Edit}
-use Rattle.adding.specs.declared.Edit.TheVariants.{Covered, Put, Cut, Full}
+use Rattle.adding.specs.declared.Edit.TheVariants.{Put, Cut}
 use Rattle.adding.specs.Internal.Edit.{nested, edited}
 use Rattle.adding.specs.Add.{size_refusal, resized, placed}
 use Rattle.adding.specs.Internal.Become.{Becomes}

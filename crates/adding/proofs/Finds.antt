@@ -3,30 +3,29 @@ use mathlib.Core.Path.{◌≡◌, refl, sym, ap, ap₂, ◌∙◌, subst}
 use mathlib.Core.Logic.{inl, ⊎_elim}
 use mathlib.Core.Bool.{Bool, true, false, cond}
 use mathlib.Core.List.{List, [], ◌∷◌, ◌++◌}
-use Prim.Native.Nat.{ℕ, zero, suc, ◌+◌, ◌-◌, ◌≤◌, ◌<◌}
+use Prim.Native.Nat.{ℕ, suc, ◌+◌, ◌-◌, ◌≤◌, ◌<◌}
 use native.Mathlib.Omega.{arith}
-use lib.ListN.{length, take, drop, get_or, get_or-eq_default, take-append-drop, length-drop, length-append}
+use lib.ListN.{length, take, drop, get_or, get_or-eq_default, length-drop}
 use lib.Seq.{drop-drop, length-take-le}
-use lib.Dec.{eqb, ltb}
+use lib.Dec.{eqb}
 use borrow.Author.Tests.{lt-ltb, le-ltb, eq-eqb, ne_eqb, eqb-true, eqb-false}
 use Rattle.logic.specs.Laws.Bools.{clash}
 use Rattle.logic.specs.Laws.Order.{lt-or}
 use Rattle.ternary.specs.Digits.{Below}
 use Rattle.reading.specs.declared.Level.{Level}
 use Rattle.reading.specs.declared.Level.TheVariants.{Digits}
-use Rattle.reading.specs.Reading.{Nodes, end, whole, listed, first, many, room, wholes, render, Good}
+use Rattle.reading.specs.Reading.{Nodes, end, whole, listed, first, room, wholes, render, Good}
 use Rattle.reading.proofs.Laws.Reading.{first-big}
 use Rattle.reading.specs.Prefix.{Name}
 use Rattle.walk.specs.Walk.{whole_at}
 use Rattle.walk.specs.Past.{node_in}
 use Rattle.adding.specs.declared.Edit.{Edit}
 use Rattle.adding.specs.declared.Edit.TheVariants.{Covered, Put, Cut, Full}
-use Rattle.adding.specs.declared.Skipped.{Skipped}
 use Rattle.adding.specs.Internal.Grow.{by, grow}
 use Rattle.adding.specs.Internal.Edit.{name_bytes, run, to_whole, to_put, over, size, edit_of}
 use Rattle.adding.specs.Internal.EditLaws.{Says, says}
 use Rattle.adding.specs.InMind.{LeadsTo}
-use Rattle.adding.specs.Internal.Find.{run_in, whole_as, put_as, over_as, EndsIn, Stands, EditIs, Lands, From, SkipIs}
+use Rattle.adding.specs.Internal.Find.{run_in, whole_as, put_as, over_as, EndsIn, Stands, EditIs, Lands, From}
 use Rattle.adding.proofs.Skips.{On}
 use Rattle.adding.proofs.Bytes.{inside, byte, stop-byte, whole_here, list-here, listed_here, node-size, list-in, list-past, size_fits, run-nodes}
 

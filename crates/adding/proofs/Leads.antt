@@ -1,31 +1,27 @@
 -- A list that numbers of a name lead to: an edit of it is the edit of the text, and it stays where it is. Assumes nothing.
 use mathlib.Core.Path.{◌≡◌, refl, sym, ap, ap₂, ◌∙◌, subst}
-use mathlib.Core.Logic.{◌⊎◌, inl, inr, ⊎_elim}
-use mathlib.Core.Bool.{Bool, true, false, cond}
-use mathlib.Core.List.{List, [], ◌∷◌, ◌++◌, append_assoc}
-use Prim.Native.Nat.{ℕ, zero, suc, ◌+◌, ◌-◌, ◌≤◌, ◌<◌}
+use mathlib.Core.Logic.{inl, inr, ⊎_elim}
+use mathlib.Core.Bool.{Bool, false, cond}
+use mathlib.Core.List.{List, [], ◌∷◌, ◌++◌}
+use Prim.Native.Nat.{ℕ, suc, ◌+◌, ◌-◌, ◌≤◌, ◌<◌}
 use native.Mathlib.Omega.{arith}
-use lib.ListN.{length, take, drop, length-append}
-use lib.Seq.{drop-drop, take_at, length-take-le}
+use lib.ListN.{length, drop}
 use borrow.Author.Tests.{ne_eqb}
-use lib.Dec.{eqb}
 use Rattle.logic.specs.Laws.Bools.{clash}
-use Rattle.ternary.specs.Digits.{Below}
 use Rattle.reading.specs.declared.Level.{Level}
 use Rattle.reading.specs.declared.Level.TheVariants.{Digits}
-use Rattle.reading.specs.Reading.{Nodes, end, whole, listed, first, many, room, wholes, render, Good}
+use Rattle.reading.specs.Reading.{Nodes, end, whole, listed, room, wholes, render, Good}
 use Rattle.reading.proofs.Laws.Parse.{Stop}
 use Rattle.reading.specs.Prefix.{Name}
 use Rattle.adding.specs.declared.Edit.{Edit}
 use Rattle.adding.specs.declared.Edit.TheVariants.{Covered, Put, Cut, Full}
 use Rattle.adding.specs.InMind.{LeadsTo}
 use Rattle.adding.specs.Internal.Grow.{by, merged, grow}
-use Rattle.adding.specs.Internal.Edit.{name_bytes, over, size, edit_of}
-use Rattle.adding.specs.Internal.EditLaws.{Says, says}
-use Rattle.adding.specs.Internal.Find.{Stands, EditIs, Deep, Led, becomes_whole}
+use Rattle.adding.specs.Internal.Edit.{over, size, edit_of}
+use Rattle.adding.specs.Internal.Find.{becomes_whole}
 use Rattle.adding.proofs.Bytes.{after, list-in, list-past, size_fits}
 use Rattle.adding.proofs.Skips.{before}
-use Rattle.adding.proofs.Finds.{at_x, Holds, name-length}
+use Rattle.adding.proofs.Finds.{at_x}
 
 -- nodes lead only to numbers that may stand among them
 leads-low : (ns : Nodes) (l : Level) (d lo i x : ℕ) (p : Name) (at : ℕ) (is : Nodes) → Good l d lo ns → LeadsTo i (x ∷ p) ns at is → lo ≤ x

@@ -1,11 +1,11 @@
 -- Bytes moved on, from the last, and back, from the first. Assumes nothing.
 use mathlib.Core.Path.{◌≡◌, refl, sym, ap, ap₂, ◌∙◌}
-use mathlib.Core.List.{List, [], ◌∷◌, ◌++◌, append_assoc}
+use mathlib.Core.List.{List, [], ◌∷◌, ◌++◌}
 use Prim.Native.Nat.{ℕ, suc, ◌+◌, ◌-◌, ◌*◌, ◌≤◌, ◌<◌}
 use native.Mathlib.Numerals.{add-one}
 use native.Mathlib.Omega.{arith}
 use lib.ListN.{length, take, drop, get_or, set, length-set, length-drop, length-append, take-append-drop, drop_of_length-le}
-use lib.Seq.{drop-cons, drop_at, take-take, take-set-le, set_split, get_or-take, get_or-drop, get_or-append-add, length-take-le, paste, paste-suc, paste-zero, length-paste}
+use lib.Seq.{drop-cons, drop_at, take-take, take-set-le, set_split, get_or-take, get_or-drop, get_or-append-add, length-take-le, paste, paste-suc, length-paste}
 use lib.Seq.{length_paste_head, sets, length-sets}
 use Rattle.logic.specs.Laws.Stores.{sets-append}
 use Rattle.walk.specs.Laws.Walk.{byte_at}

@@ -1,17 +1,15 @@
 -- The bytes of a code's name, and what adding its cell makes of the lent bytes. Assumes nothing.
 use mathlib.Core.Path.{◌≡◌, refl, sym, ap, ap₂, ◌∙◌, subst}
 use mathlib.Core.Bool.{Bool, true, false, not}
-use mathlib.Core.List.{List, [], ◌∷◌, ◌++◌}
-use Prim.Native.Nat.{ℕ, zero, suc, ◌+◌, ◌-◌, ◌≤◌, ◌<◌}
+use mathlib.Core.List.{List, ◌++◌}
+use Prim.Native.Nat.{ℕ, zero, suc, ◌+◌, ◌≤◌}
 use native.Mathlib.Omega.{arith}
-use lib.Dec.{ltb}
 use lib.ListN.{length, take, drop, get_or, length-append, length-drop}
 use lib.Seq.{take_at, length-take-le, get_or-take}
-use borrow.Author.Tests.{le-ltb, ltb-false, not-false}
+use borrow.Author.Tests.{le-ltb, ltb-false}
 use Rattle.logic.specs.Refusal.{refuse, ◌otherwise◌, given}
 use Rattle.logic.specs.Laws.Refusal.{passes, both, allowed}
 use Rattle.cell.specs.declared.Cell.{Cell}
-use Rattle.cell.specs.Cell.{IsCell}
 use Rattle.code.specs.Code.{is_code, cell_of}
 use Rattle.code.proofs.Laws.Code.{code-passes, code-is-cell}
 use Rattle.name.specs.declared.Named.{Named}
@@ -22,14 +20,14 @@ use Rattle.reading.specs.declared.Profile.{Profile}
 use Rattle.reading.specs.Text.{heading_length}
 use Rattle.reading.specs.TextReading.{is_text, profile_of, body_start}
 use Rattle.adding.specs.declared.Added.{Added}
-use Rattle.adding.specs.declared.Added.TheVariants.{Length, Refused}
+use Rattle.adding.specs.declared.Added.TheVariants.{Refused}
 use Rattle.adding.specs.declared.Edit.{Edit}
 use Rattle.adding.specs.Add.{text_with, keeps_with, size_refusal, with_refusal, resized, placed, length_after, Holding, Gains}
 use Rattle.adding.proofs.Laws.Add.{with-text, with-heading}
 use Rattle.adding.specs.Internal.Become.{Becomes}
 use Rattle.adding.specs.Internal.Edit.{edited, EditFits}
 use Rattle.adding.specs.Internal.Fit.{breaks}
-use Rattle.adding.specs.Internal.WithLaws.{cell_digits, cell_bytes, text_edit, name-bytes, edited-with, edit-fits, keeps-edit}
+use Rattle.adding.specs.Internal.WithLaws.{cell_bytes, text_edit, name-bytes, edited-with, edit-fits, keeps-edit}
 
 -- ---- the name
 

@@ -1,9 +1,9 @@
 -- Where adding begins, and what is kept of its way: a list of the text, and of the text with the cell. Assumes nothing.
 use mathlib.Core.Path.{◌≡◌, refl, sym, ap, ap₂, ◌∙◌, subst}
-use mathlib.Core.Logic.{◌⊎◌, inl, inr, ⊎_elim}
+use mathlib.Core.Logic.{inl, inr, ⊎_elim}
 use mathlib.Core.Bool.{true, false}
 use mathlib.Core.List.{List, [], ◌∷◌, ◌++◌}
-use Prim.Native.Nat.{ℕ, zero, suc, ◌+◌, ◌≤◌, ◌<◌}
+use Prim.Native.Nat.{ℕ, zero, suc, ◌+◌, ◌<◌}
 use native.Mathlib.Omega.{arith}
 use lib.ListN.{length, take, drop, get_or, length-drop, take-append-drop}
 use lib.Seq.{take_at, length-take-le}
@@ -19,7 +19,7 @@ use Rattle.reading.specs.declared.Level.TheVariants.{Faces, Digits}
 use Rattle.reading.specs.Reading.{Nodes, first}
 use Rattle.reading.specs.Prefix.{Name, numbers_of}
 use Rattle.reading.specs.Text.{heading_length}
-use Rattle.reading.specs.TextReading.{nodes_of, profile_of, is_text, body_start}
+use Rattle.reading.specs.TextReading.{nodes_of, is_text, body_start}
 use Rattle.reading.proofs.Laws.TextReading.{read-nodes, read-profile}
 use Rattle.adding.specs.declared.Added.{Added}
 use Rattle.adding.specs.declared.Edit.{Edit}
@@ -31,7 +31,7 @@ use Rattle.adding.specs.Internal.Grow.{grow}
 use Rattle.adding.specs.Internal.Edit.{name_bytes, edit_of}
 use Rattle.adding.specs.Internal.Find.{Stands, EditIs, Deep, Led, becomes_whole, StartIs, NearEdit}
 use Rattle.adding.specs.Internal.WithLaws.{cell_digits, cell_bytes, text_edit, name-bytes, nodes-with, stands-text}
-use Rattle.adding.proofs.Ways.{own-stands, led-edit, deep-grow}
+use Rattle.adding.proofs.Ways.{own-stands, deep-grow}
 
 -- the same bytes are the same numbers
 same_numbers : (k : ℕ) (l : Level) (p r : Name) → take k (name_bytes l p) ≡ take k (name_bytes l r) → take k p ≡ take k r

@@ -1,10 +1,10 @@
 -- The whole nodes that stand first, counted. Assumes nothing.
-use mathlib.Core.Path.{◌≡◌, refl, sym, ap, ◌∙◌}
+use mathlib.Core.Path.{◌≡◌, sym, ap, ◌∙◌}
 use mathlib.Core.Bool.{Bool, true, false, cond}
-use mathlib.Core.List.{List, [], ◌∷◌}
+use mathlib.Core.List.{List}
 use Prim.Native.Nat.{ℕ, suc, ◌+◌, ◌-◌, ◌≤◌, ◌<◌}
 use native.Mathlib.Omega.{arith}
-use lib.ListN.{length, drop, get_or, drop_of_length-le}
+use lib.ListN.{length, drop, drop_of_length-le}
 use Rattle.walk.specs.Walk.{whole_at}
 use Rattle.walk.specs.Laws.Walk.{byte_at}
 use Rattle.adding.specs.Internal.Find.{run_in}

@@ -1,21 +1,19 @@
 -- Nodes that come before a cell's are passed over: the nodes behind them decide. Assumes nothing.
 use mathlib.Core.Path.{◌≡◌, refl, sym, ap, ◌∙◌}
-use mathlib.Core.Logic.{inr, ⊎_elim}
+use mathlib.Core.Logic.{inr}
 use mathlib.Core.Bool.{Bool, true, false, cond}
 use mathlib.Core.List.{List, [], ◌∷◌, ◌++◌}
 use Prim.Native.Nat.{ℕ, suc, ◌+◌, ◌≤◌, ◌<◌}
 use native.Mathlib.Omega.{arith}
 use lib.ListN.{length, drop, get_or}
-use lib.Dec.{eqb, ltb}
+use lib.Dec.{eqb}
 use borrow.Author.Tests.{lt-ltb}
 use Rattle.logic.specs.Laws.Bools.{clash}
-use Rattle.reading.specs.declared.Level.{Level}
-use Rattle.reading.specs.Reading.{Nodes, end, whole, listed, first, many, render, Good}
+use Rattle.reading.specs.Reading.{Nodes, end, whole, listed, first, render, Good}
 use Rattle.reading.specs.Prefix.{Name}
 use Rattle.walk.specs.Walk.{whole_at}
 use Rattle.walk.specs.Past.{node_in}
 use Rattle.adding.specs.Internal.Grow.{by}
-use Rattle.adding.specs.declared.Edit.{Edit}
 use Rattle.adding.specs.Internal.Edit.{size, edit_of}
 use Rattle.adding.specs.InMind.{LeadsTo}
 use Rattle.adding.specs.Internal.Find.{Stands, Lands, From}

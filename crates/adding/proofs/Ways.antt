@@ -1,9 +1,9 @@
 -- The way to a list, for one name in one text: the list's own edit, one list further down, and the nodes with the cell. Assumes nothing.
 use mathlib.Core.Path.{◌≡◌, refl, sym, ap, ap₂, ◌∙◌, subst}
-use mathlib.Core.Logic.{◌⊎◌, inl, inr, ⊎_elim}
-use mathlib.Core.Bool.{true, false}
+use mathlib.Core.Logic.{inl, inr, ⊎_elim}
+use mathlib.Core.Bool.{false}
 use mathlib.Core.List.{List, [], ◌∷◌, ◌++◌, append_assoc}
-use Prim.Native.Nat.{ℕ, zero, suc, ◌+◌, ◌-◌, ◌≤◌, ◌<◌}
+use Prim.Native.Nat.{ℕ, suc, ◌+◌, ◌≤◌, ◌<◌}
 use native.Mathlib.Omega.{arith}
 use lib.ListN.{length, take, drop, get_or, length-append}
 use lib.Seq.{length-take-le}
@@ -11,19 +11,18 @@ use Rattle.logic.specs.Laws.Bools.{clash}
 use Rattle.ternary.specs.Digits.{Below}
 use Rattle.reading.specs.declared.Level.{Level}
 use Rattle.reading.specs.declared.Level.TheVariants.{Digits}
-use Rattle.reading.specs.Reading.{Nodes, wholes, render}
+use Rattle.reading.specs.Reading.{wholes, render}
 use Rattle.reading.specs.Prefix.{Name}
 use Rattle.adding.specs.declared.Edit.{Edit}
 use Rattle.adding.specs.declared.Edit.TheVariants.{Covered, Put, Cut, Full}
 use Rattle.walk.specs.Walk.{whole_at}
 use Rattle.adding.specs.declared.Skipped.{Skipped}
-use Rattle.adding.specs.declared.ListAt.{ListAt}
 use Rattle.adding.specs.InMind.{LeadsTo}
 use Rattle.adding.specs.Internal.Grow.{grow}
 use Rattle.adding.specs.Internal.Edit.{name_bytes, edit_of}
 use Rattle.adding.specs.Internal.EditLaws.{Says, says}
 use Rattle.adding.specs.Internal.Find.{Stands, EditIs, SkipIs, Deep, Led, OnWay, ReachIs, becomes_whole}
-use Rattle.adding.proofs.Leads.{leads-on, leads-edit, leads-grow, ListBytes, leads-lists}
+use Rattle.adding.proofs.Leads.{leads-on, leads-edit, leads-grow, leads-lists}
 use Rattle.adding.proofs.Finds.{name-byte, byte-some, Holds, holds, name-length}
 
 drop-bytes : (p : Name) (l : Level) (x : ℕ) (r : Name) → drop (suc (length p)) (name_bytes l (x ∷ (p ++ r))) ≡ name_bytes Digits r

@@ -1,18 +1,17 @@
 -- The text of no cell. Assumes nothing.
 use mathlib.Core.Path.{◌≡◌, refl, sym, ap, ap₂, ◌∙◌, subst}
-use mathlib.Core.Bool.{Bool, true, false}
+use mathlib.Core.Bool.{true, false}
 use mathlib.Core.List.{List, [], ◌∷◌, ◌++◌}
-use Prim.Native.Nat.{ℕ, zero, suc, ◌≤◌}
+use Prim.Native.Nat.{ℕ, ◌≤◌}
 use native.Mathlib.Omega.{arith}
-use lib.Dec.{ltb}
 use lib.ListN.{length, take, drop, length-append, length-drop}
 use lib.Seq.{take_at}
 use borrow.Author.Tests.{le-ltb}
-use Rattle.logic.specs.Refusal.{refuse, ◌otherwise◌, given}
+use Rattle.logic.specs.Refusal.{◌otherwise◌, given}
 use Rattle.logic.specs.Laws.Bools.{clash}
 use Rattle.logic.specs.Laws.Refusal.{passes}
 use Rattle.cell.specs.declared.Arrangement.{Arrangement}
-use Rattle.cell.specs.Cell.{IsArrangement, arrangement_refusal}
+use Rattle.cell.specs.Cell.{IsArrangement}
 use Rattle.cell.proofs.Laws.Cell.{arrangement-is}
 use Rattle.code.specs.Code.{is_code, is_cell_code}
 use Rattle.reading.specs.declared.Profile.TheVariants.{Full}
@@ -24,10 +23,8 @@ use Rattle.reading.proofs.Laws.Written.{written-reads}
 use Rattle.writing.specs.declared.Written.{Written}
 use Rattle.writing.specs.declared.Written.TheVariants as written_as
 use Rattle.writing.specs.Write.{all_codes, all_of, ordered, codes_refusal, is_version, text_of, fit_refusal, write_refusal, text_in, written}
-use Rattle.adding.specs.Add.{text_with, Holding}
 use Rattle.adding.specs.InMind.{InMind}
 use Rattle.adding.proofs.Laws.InMind.{near-faces}
-use Rattle.flight.specs.declared.Recording.{Recording}
 use Rattle.flight.specs.Recording.{Records}
 
 -- no code is that great

@@ -1,23 +1,19 @@
 -- The ways of a code into the text: the cell of the last fix is there already; else adding's two answers. Assumes nothing.
 use mathlib.Core.Path.{◌≡◌, refl, sym, ap, ap₂, ◌∙◌, subst}
-use mathlib.Core.Bool.{Bool, true, not}
+use mathlib.Core.Bool.{true}
 use mathlib.Core.List.{List, ◌++◌}
-use Prim.Native.Nat.{ℕ, zero, suc, ◌≤◌}
+use Prim.Native.Nat.{ℕ, zero, suc}
 use native.Mathlib.Omega.{arith}
-use lib.Dec.{ltb}
 use lib.ListN.{length, take, drop, take-append-drop}
 use lib.Seq.{take_at, length-take-le}
 use borrow.Author.Tests.{le-ltb}
-use Rattle.logic.specs.Refusal.{refuse, ◌otherwise◌, given}
-use Rattle.logic.specs.Laws.Refusal.{passes, both, allowed}
-use borrow.Author.Tests.{not-false}
+use Rattle.logic.specs.Refusal.{◌otherwise◌, given}
 use Rattle.cell.specs.declared.Cell.{Cell}
 use Rattle.code.specs.declared.Coded.{Coded}
 use Rattle.code.specs.declared.Coded.TheVariants as coded-as
 use Rattle.code.specs.Code.{is_code, cell_of}
 use Rattle.code.proofs.Laws.Code.{code-is-cell}
 use Rattle.reading.specs.declared.Profile.TheVariants as profile-as
-use Rattle.adding.specs.declared.Added.{Added}
 use Rattle.adding.specs.declared.Added.TheVariants as added-as
 use Rattle.adding.specs.Add.{text_with, keeps_with, size_refusal, with_refusal, resized, placed, Holding, Gains}
 use Rattle.adding.proofs.Laws.Add.{full-keeps, with-again}

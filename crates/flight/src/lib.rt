@@ -1,5 +1,6 @@
 // A line of a flight: the code of its fix, and the text with its cell.
 #![tactic(auto)]
+
 ghost use Rattle.std.specs.Prelude.{◌≡◌, true, [], ◌≤◌, length, take};
 ghost use Rattle.cell.specs.Cell.{IsArrangement, found};
 ghost use Rattle.code.specs.Code.{is_code, found_code};

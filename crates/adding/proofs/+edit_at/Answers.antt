@@ -1,6 +1,6 @@
 -- `adding::edit_at` meets its contract. Assumes nothing.
 use native.Mathlib.Omega.{arith}
-use mathlib.Core.Path.{◌≡◌, sym, ◌∙◌}
+use mathlib.Core.Path.{sym, ◌∙◌}
 use Prim.Native.Nat.{ℕ}
 use Rattle.adding.specs.Internal.Find.{Stands, Lands, From}
 use Rattle.adding.proofs.Finds.{eqb_yes, eqb_no, name-byte, byte-some, stands-inside, find-put, find-covered, holds, past_is, past_fits, find-whole, stands-in, ends-in, find-list}

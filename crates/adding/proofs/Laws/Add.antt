@@ -1,30 +1,26 @@
 -- The text with a cell is accepted, keeps its heading, and its ground is the old one and the cell's; cells added one by one give the text of all of
 -- them, in whatever order they come. 15 is given exactly where no accepted text of that heading has that ground. What the lent bytes are then. Assumes
 -- nothing.
-use Rattle.std.specs.Prelude.{◌≡◌, ◌↔◌, ◌⊎◌, Bool, true, false, not, List, [], ◌∷◌, ◌++◌, ltb, length, drop}
+use Rattle.std.specs.Prelude.{◌≡◌, ◌↔◌, ◌⊎◌, true, false, not, List, ◌∷◌, ltb, length, drop}
 use Rattle.std.proofs.Math.Path.{refl, sym, ap, ap₂}
 use Rattle.std.proofs.Common.{◌∙◌, subst, inl, inr, arith, le-ltb, ltb-false}
 use Rattle.std.proofs.Math.Logic.{⊎_elim}
-use Prim.Native.Nat.{ℕ, zero, suc, ◌+◌, ◌≤◌, ◌<◌}
+use Prim.Native.Nat.{ℕ, zero, suc, ◌+◌, ◌≤◌}
 use Rattle.std.proofs.Math.Seq.{drop-append_seam}
 use Rattle.std.proofs.lemmas.Bool.{not-true}
 use Rattle.logic.specs.Refusal.{given}
-use Rattle.logic.specs.Laws.Bools.{clash}
-use Rattle.logic.specs.Laws.Order.{lt-or}
 use Rattle.cell.specs.declared.Cell.{Cell}
 use Rattle.cell.specs.Cell.{IsCell}
 use Rattle.code.specs.Code.{cell_of}
-use Rattle.code.specs.Inside.{Inside}
 use Rattle.reading.specs.declared.Profile.{Profile}
-use Rattle.reading.specs.declared.Profile.TheVariants.{Full, Handheld}
-use Rattle.reading.specs.Reading.{Nodes, room}
-use Rattle.reading.specs.Ground.{whole_cells, Finest, Covers, SameGround, Cells}
+use Rattle.reading.specs.declared.Profile.TheVariants.{Full}
+use Rattle.reading.specs.Reading.{room}
+use Rattle.reading.specs.Ground.{whole_cells, Covers, SameGround, Cells}
 use Rattle.reading.specs.Fewest.{FewestOf}
 use Rattle.reading.specs.Text.{IsProfile, level_of, depth_of, ReadsAs}
 use Rattle.reading.specs.TextReading.{nodes_of, profile_of, north_of, south_of, is_text}
 use Rattle.reading.specs.Written.{nodes_for, written_text, fitting, keeps, Allows}
-use Rattle.reading.proofs.Laws.Demand.{whole_cells_lem, same-ground}
-use Rattle.reading.proofs.Laws.Fits.{faces-of, depth-most}
+use Rattle.reading.proofs.Laws.Demand.{whole_cells_lem}
 use Rattle.reading.proofs.Laws.TextReading.{reads-own, reads-body, read-text, read-nodes, read-profile, read-north, read-south}
 use Rattle.reading.proofs.Laws.Written.{written-reads, written-ground, listed-written, one-nodes, one-text, TextOf, keeps-exactly}
 use Rattle.reading.proofs.Laws.FewestOf.{text-fewest}

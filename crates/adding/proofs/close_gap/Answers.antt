@@ -1,5 +1,4 @@
 -- `adding::close_gap` meets its contract. Assumes nothing.
-use Prim.Native.Nat.{◌-◌}
 use Rattle.adding.proofs.Moves.{closed-long, closed-more}
 use Rattle.adding.proofs.close_gap.Goals as goal
 

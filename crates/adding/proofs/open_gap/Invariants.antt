@@ -1,5 +1,5 @@
 -- `adding::open_gap` meets its contract. Assumes nothing.
-use Prim.Native.Nat.{◌+◌, ◌-◌, ◌≤◌}
+use Prim.Native.Nat.{◌+◌, ◌≤◌}
 use lib.ListN.{length}
 use Rattle.adding.proofs.Moves.{Opened}
 use Rattle.adding.proofs.open_gap.Given as goal

@@ -1,6 +1,5 @@
 -- `adding::reach` meets its contract. Assumes nothing.
 use mathlib.Core.Path.{refl, sym, ◌∙◌}
-use Prim.Native.Nat.{◌-◌}
 use Rattle.adding.proofs.Finds.{eqb_yes, stands-inside}
 use Rattle.adding.proofs.Ways.{reach-byte, reach-down}
 use native.Mathlib.Omega.{arith}

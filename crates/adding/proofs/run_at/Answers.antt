@@ -1,6 +1,5 @@
 -- `adding::run_at` meets its contract. Assumes nothing.
 use mathlib.Core.Path.{sym, ◌∙◌}
-use Prim.Native.Nat.{◌-◌}
 use Rattle.adding.proofs.Runs.{runs-end, runs-stop, runs_on}
 use native.Mathlib.Omega.{arith}
 use Rattle.adding.proofs.run_at.Goals as goal

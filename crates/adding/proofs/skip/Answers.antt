@@ -1,6 +1,5 @@
 -- `adding::skip` meets its contract. Assumes nothing.
 use mathlib.Core.Path.{sym, ◌∙◌}
-use Prim.Native.Nat.{◌-◌}
 use lib.ListN.{drop}
 use Rattle.walk.specs.Laws.Past.{node-some}
 use Rattle.adding.proofs.Skips.{skips-whole, skips-list, skips-end, skips-shut, skips-from}

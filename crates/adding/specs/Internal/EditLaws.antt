@@ -1,7 +1,7 @@
 -- The edited text is that of the nodes with the cell. Assumes nothing.
-use Rattle.std.specs.Prelude.{◌≡◌, ◌⊎◌, Bool, true, false, cond, ℕ, zero, suc, ◌+◌, ◌-◌, ◌*◌, ◌≤◌, ◌<◌, take, drop, eqb, ltb}
+use Rattle.std.specs.Prelude.{◌≡◌, Bool, true, false, cond, ℕ, suc, ◌+◌, ◌-◌, ◌*◌, ◌≤◌, ◌<◌, take, drop, eqb, ltb}
 use Rattle.std.proofs.Math.Path.{refl, sym, ap}
-use Rattle.std.proofs.Common.{ap₂, ◌∙◌, subst, inl, inr, ⊎_elim, arith, length-drop, drop_of_length-le, take-append-drop, drop_at, take_at, drop-drop, length-take-le, ltb-true, ltb-false, eqb-true, eq-eqb, ne_eqb}
+use Rattle.std.proofs.Common.{ap₂, ◌∙◌, subst, ⊎_elim, arith, length-drop, drop_of_length-le, take-append-drop, drop_at, take_at, drop-drop, length-take-le, ltb-true, ltb-false, eqb-true, eq-eqb, ne_eqb}
 use mathlib.Core.List.{List, [], ◌∷◌, ◌++◌, append_assoc, append-nil}
 use Rattle.std.proofs.Math.ListN.{length, length-append}
 use Rattle.std.proofs.lemmas.Bool.{eqb-false}
@@ -9,12 +9,11 @@ use Rattle.logic.specs.Laws.Bools.{by_cond}
 use Rattle.logic.specs.Laws.Order.{lt-or}
 use Rattle.ternary.specs.Digits.{Below}
 use Rattle.reading.specs.declared.Level.{Level}
-use Rattle.reading.specs.declared.Level.TheVariants.{Faces, Digits}
-use Rattle.reading.specs.Reading.{Nodes, end, whole, listed, first, many, room, wholes, render, Some, Good}
-use Rattle.reading.proofs.Laws.Reading.{room-le, wholes-most, many-most}
+use Rattle.reading.specs.declared.Level.TheVariants.{Digits}
+use Rattle.reading.specs.Reading.{Nodes, end, whole, listed, first, many, room, wholes, render, Good}
+use Rattle.reading.proofs.Laws.Reading.{wholes-most, many-most}
 use Rattle.reading.specs.Prefix.{Name}
 use Rattle.adding.specs.Internal.Grow.{by, fresh, merged, grow}
-use Rattle.adding.specs.Internal.GrowLaws.{by_way}
 use Rattle.adding.specs.declared.Edit.{Edit}
 use Rattle.adding.specs.declared.Edit.TheVariants.{Covered, Put, Cut, Full}
 use Rattle.adding.specs.Internal.Edit.{name_bytes, nested, run, to_whole, to_put, over, size, edit_of, edited, EditFits}

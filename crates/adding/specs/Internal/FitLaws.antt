@@ -1,7 +1,7 @@
 -- A cell with more digits than may lie below its face breaks the profile of a text, unless it is covered: no eight of its siblings are there, so it
 -- merges with none. Assumes nothing.
-use Rattle.std.specs.Prelude.{◌≡◌, refl, ◌⊎◌, Bool, true, false, ◌&&◌, not, cond, List, [], ◌∷◌, ℕ, zero, suc, ◌+◌, ◌-◌, ◌≤◌, ◌<◌, ltb, eqb, length}
-use Rattle.std.proofs.Common.{sym, ap, ◌∙◌, inl, inr, ⊎_elim, arith, lt-ltb, le-ltb, ltb-true, ltb-false, ne_eqb}
+use Rattle.std.specs.Prelude.{◌≡◌, refl, ◌⊎◌, Bool, true, false, ◌&&◌, not, [], ◌∷◌, ℕ, suc, ◌+◌, ◌-◌, ◌≤◌, ◌<◌, ltb, eqb, length}
+use Rattle.std.proofs.Common.{sym, ap, ◌∙◌, inl, inr, ⊎_elim, arith, lt-ltb, le-ltb, ne_eqb}
 use Rattle.logic.specs.Laws.Bools.{by_cond}
 use Rattle.logic.specs.Laws.Order.{lt-or}
 use Rattle.ternary.specs.Digits.{Below}
@@ -15,8 +15,8 @@ use Rattle.reading.specs.Written.{fitting}
 use Rattle.reading.proofs.Laws.Fits.{good-fits}
 use Rattle.adding.specs.declared.Edit.{Edit}
 use Rattle.adding.specs.declared.Edit.TheVariants.{Covered, Put, Cut, Full}
-use Rattle.adding.specs.Internal.Grow.{by, fresh, merged, grow}
-use Rattle.adding.specs.Internal.GrowLaws.{by_way, grow-good}
+use Rattle.adding.specs.Internal.Grow.{fresh, merged, grow}
+use Rattle.adding.specs.Internal.GrowLaws.{grow-good}
 use Rattle.adding.specs.Internal.Edit.{run, to_whole, to_put, over, size, edit_of}
 use Rattle.adding.specs.Internal.EditLaws.{by_two}
 use Rattle.adding.specs.Internal.Fit.{breaks}

@@ -1,15 +1,15 @@
 -- Nodes with one more cell are of the grammar, and cover the cell and what they covered. Assumes nothing.
-use Rattle.std.specs.Prelude.{◌≡◌, refl, ◌⊎◌, Bool, true, false, cond, List, [], ◌∷◌, ◌++◌, map, ℕ, zero, suc, ◌+◌, ◌-◌, ◌≤◌, ◌<◌, length, eqb, ltb}
+use Rattle.std.specs.Prelude.{◌≡◌, ◌⊎◌, [], ◌∷◌, ℕ, zero, suc, ◌-◌, ◌≤◌, ◌<◌, length, eqb, ltb}
 use Rattle.std.proofs.Common.{sym, ap, ◌∙◌, inl, inr, ⊎_elim, arith, ltb-true, ltb-false, eqb-true}
 use Rattle.std.proofs.lemmas.Bool.{eqb-false}
 use Rattle.logic.specs.Laws.Order.{lt-or}
 use Rattle.logic.specs.Laws.Bools.{by_cond}
 use Rattle.ternary.specs.Digits.{Below}
 use Rattle.reading.specs.declared.Level.{Level}
-use Rattle.reading.specs.declared.Level.TheVariants.{Faces, Digits}
-use Rattle.reading.specs.Reading.{Nodes, end, whole, listed, many, room, wholes, Some, Good, names}
-use Rattle.reading.proofs.Laws.Reading.{room-le, wholes-most}
-use Rattle.reading.specs.Prefix.{Name, Prefix, Covered, Digs}
+use Rattle.reading.specs.declared.Level.TheVariants.{Digits}
+use Rattle.reading.specs.Reading.{Nodes, end, whole, listed, many, room, wholes, Some, Good}
+use Rattle.reading.proofs.Laws.Reading.{room-le}
+use Rattle.reading.specs.Prefix.{Name, Prefix, Digs}
 use Rattle.reading.proofs.Laws.Ground.{In, in→covered, covered→in, nine-cover}
 use Rattle.adding.specs.Internal.Grow.{by, fresh, merged, grow}
 

@@ -1,26 +1,22 @@
 -- The text with the cell is that of the nodes with the cell, and so the edited text. Assumes nothing.
-use Rattle.std.specs.Prelude.{◌≡◌, refl, ◌⊎◌, Bool, true, ℕ, suc, ◌+◌, ◌≤◌, ◌<◌, length, drop}
-use Rattle.std.proofs.Common.{sym, ap₂, ◌∙◌, subst, inl, inr, ⊎_elim, arith}
+use Rattle.std.specs.Prelude.{◌≡◌, refl, true, ℕ, ◌+◌, length}
+use Rattle.std.proofs.Common.{sym, ◌∙◌, subst, inl, inr, ⊎_elim, arith}
 use Rattle.std.proofs.Math.Path.{ap}
 use Rattle.std.proofs.Math.Bool.{not}
 use mathlib.Core.List.{List, [], ◌∷◌, ◌++◌, map, append-nil}
-use Rattle.ternary.specs.Digits.{Below}
 use Rattle.cell.specs.declared.Cell.{Cell}
 use Rattle.cell.specs.Cell.{IsCell}
 use Rattle.code.specs.Code.{digits_of}
 use Rattle.code.proofs.Laws.Code.{length-digits-of}
-use Rattle.reading.specs.declared.Level.{Level}
 use Rattle.reading.specs.declared.Level.TheVariants.{Faces, Digits}
-use Rattle.reading.specs.declared.Profile.{Profile}
-use Rattle.reading.specs.declared.Profile.TheVariants.{Full, Handheld}
-use Rattle.reading.specs.Reading.{Nodes, many, room, wholes, render, Good, names}
+use Rattle.reading.specs.Reading.{Nodes, wholes, render, Good, names}
 use Rattle.reading.specs.Prefix.{Name, numbers_of, SameNames, IsName, AreNames}
-use Rattle.reading.specs.Ground.{whole_cells, Cells}
-use Rattle.reading.specs.Text.{level_of, depth_of, heading, heading_length}
+use Rattle.reading.specs.Ground.{whole_cells}
+use Rattle.reading.specs.Text.{level_of, depth_of, heading}
 use Rattle.reading.specs.TextReading.{nodes_of, profile_of, north_of, south_of, is_text, body_start}
-use Rattle.reading.specs.Written.{built, nodes_for, written_text, fitting, keeps}
+use Rattle.reading.specs.Written.{built, nodes_for, written_text, fitting}
 use Rattle.reading.proofs.Laws.Reading.{wholes-most, six-faces}
-use Rattle.reading.proofs.Laws.Ground.{In, in→covered, covered→in, same_names}
+use Rattle.reading.proofs.Laws.Ground.{in→covered, covered→in, same_names}
 use Rattle.reading.proofs.Laws.Fewest.{names-good}
 use Rattle.reading.proofs.Laws.Named.{cell-is-named, names-named}
 use Rattle.reading.proofs.Laws.Heading.{length-head}

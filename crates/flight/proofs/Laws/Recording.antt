@@ -5,9 +5,9 @@ use Rattle.std.proofs.Math.Path.{refl, ap, ap₂}
 use Rattle.std.proofs.Common.{sym, ◌∙◌, subst, inl, inr, ⊎_elim, arith, take_at}
 use Rattle.std.proofs.Math.Bool.{true, false}
 use mathlib.Core.List.{List, [], ◌∷◌}
-use Prim.Native.Nat.{ℕ, zero, suc, ◌+◌, ◌≤◌, ◌<◌}
+use Prim.Native.Nat.{ℕ, zero, suc, ◌+◌, ◌≤◌}
 use borrow.Author.Tests.{le-ltb, ltb-false}
-use Rattle.logic.specs.Lists.{Any, Mem}
+use Rattle.logic.specs.Lists.{Mem}
 use Rattle.logic.specs.Laws.Lists.{any-mem, mem-any}
 use Rattle.logic.specs.Refusal.{refuse, ◌otherwise◌, given}
 use Rattle.logic.specs.Laws.Bools.{by_cond}
@@ -19,8 +19,8 @@ use Rattle.code.specs.Code.{cell_of}
 use Rattle.code.specs.Inside.{Inside}
 use Rattle.code.proofs.Laws.Code.{code-is-cell}
 use Rattle.reading.specs.declared.Profile.TheVariants as profile-as
-use Rattle.reading.specs.Ground.{Covers, SameGround, Cells}
-use Rattle.reading.specs.Written.{written_text, keeps}
+use Rattle.reading.specs.Ground.{Covers, Cells}
+use Rattle.reading.specs.Written.{keeps}
 use Rattle.reading.proofs.Laws.Fits.{good-fits}
 use Rattle.reading.specs.TextReading.{is_text}
 use Rattle.reading.proofs.Laws.Written.{nodes-good, written-reads, one-text}

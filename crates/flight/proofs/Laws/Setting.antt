@@ -1,13 +1,13 @@
 -- A setting can be used exactly where its numbers are in range, and a line's refusal is the setting's, then 6. Assumes nothing.
 use Rattle.std.proofs.Math.Path.{◌≡◌, refl, sym, ap}
 use Rattle.std.proofs.Common.{◌∙◌, arith, ltb-false, lt-ltb, le-ltb, leb-true, leb-false}
-use Rattle.std.specs.Prelude.{◌↔◌, Bool, ◌&&◌, not, List, ℕ, zero, suc, ◌≤◌, ℤ, leb, ltb}
+use Rattle.std.specs.Prelude.{◌↔◌, Bool, ◌&&◌, not, List, ℕ, zero, suc, ℤ, leb, ltb}
 use Rattle.std.proofs.Math.Bool.{true, false}
 use Rattle.logic.specs.Laws.Bools.{clash, refuted}
 use Rattle.logic.specs.Refusal.{refuse, ◌otherwise◌}
 use Rattle.logic.specs.Laws.Refusal.{both, passes, allowed}
 use Rattle.cell.specs.declared.Arrangement.{Arrangement}
-use Rattle.cell.specs.Cell.{IsArrangement, arrangement_refusal}
+use Rattle.cell.specs.Cell.{arrangement_refusal}
 use Rattle.cell.proofs.Laws.Cell.{is-arrangement, arrangement-is}
 use Rattle.code.specs.declared.Coded.{Coded}
 use Rattle.code.specs.declared.Coded.TheVariants.{Code, Refused}

@@ -1,0 +1,18 @@
+-- `flight::take_line` meets its contract. Assumes nothing.
+use mathlib.Core.Path.{sym, ◌∙◌, subst}
+use Rattle.code.specs.declared.Coded.{Coded}
+use Rattle.flight.specs.declared.Taken.TheVariants.{Refused}
+use Rattle.flight.proofs.Laws.Code.{line-is-code}
+use Rattle.flight.proofs.Takes.{Takes, takes_none}
+use Rattle.flight.proofs.take_line.Goals as goal
+
+pub take_code-requires : goal.take_code-requires
+take_code-requires c = let s = c in
+    (s.requires.0, line-is-code _ _ _ (sym c.line_code.ensures ∙ c.in-Code.is), s.requires.1)
+
+pub returns-in-Refused : goal.returns-in-Refused
+returns-in-Refused c =
+    let s = c in
+    let t =
+    subst (λ (x : Coded). Takes x s.args.text.now s.args.recording (Refused c.in-Refused.refusal) s.args.text.now)
+    (sym c.in-Refused.is ∙ c.line_code.ensures) (takes_none _ s.args.text.now s.args.recording s.requires.0) in record { value = t.0; text_after = t.1.0; records = t.1.1; in_mind = s.requires.1 }
