@@ -2,7 +2,7 @@
 use Prim.Native.Nat.{◌-◌, ◌≤◌}
 use lib.ListN.{length}
 use Rattle.listing.specs.List.{codes_of}
-use Rattle.listing.proofs.Laws.{Lists}
+use Rattle.listing.proofs.Facts.{Lists}
 use Rattle.listing.proofs.put_codes.Given as goal
 
 abbrev pub invariant-loop-i : goal.invariant-loop-i
