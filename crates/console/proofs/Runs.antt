@@ -9,14 +9,12 @@ use borrow.Rule.Slice.PartMut.{put_mid, post_of}
 
 -- path and then part
 pub put_both :
-    (path part room first second : List ℕ) (n m k : ℕ) → n ≡ length path → m ≡ length part → first ≡ take (length path) path ++ drop (length path) room →
-    (rest : List ℕ) → second ≡ take (length part) part ++ rest → take (n + m) (put_mid n k first second) ≡ path ++ part
+    (path part room first second : List ℕ) (n m k : ℕ) → n ≡ length path → m ≡ length part → first ≡ path ++ drop (length path) room →
+    (rest : List ℕ) → second ≡ part ++ rest → take (n + m) (put_mid n k first second) ≡ path ++ part
 put_both path part room first second n m k a b f rest g =
-    let x : take n first ≡ path =
-    ap₂ take a (f ∙ ap (λ (l : List ℕ). l ++ drop (length path) room) (take-length path)) ∙ take_at path (drop (length path) room) (length path) refl in
-    let y : second ≡ part ++ rest = g ∙ ap (λ (l : List ℕ). l ++ rest) (take-length part) in
+    let x : take n first ≡ path = ap₂ take a f ∙ take_at path (drop (length path) room) (length path) refl in
     ap (take (n + m))
-    (ap₂ (λ (l r : List ℕ). l ++ (r ++ post_of n k first)) x y
+    (ap₂ (λ (l r : List ℕ). l ++ (r ++ post_of n k first)) x g
     ∙ ap (λ (l : List ℕ). path ++ l) (append_assoc part rest (post_of n k first))
     ∙ sym (append_assoc path part (rest ++ post_of n k first)))
     ∙ take_at (path ++ part) (rest ++ post_of n k first) (n + m) (omega (arith, length-append path part))

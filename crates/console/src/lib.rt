@@ -71,17 +71,17 @@ pub enum Room {
     Failed,
 }
 
-// Room for what an error prints.
-struct Words {
-    bytes: [u8; 128],
+// Room for what an error prints, and how much of it stands in front.
+struct Words<'a> {
+    room: &'a mut [u8],
     length: usize,
 }
 
-impl fmt::Write for Words {
+impl fmt::Write for Words<'_> {
     fn write_str(&mut self, s: &str) -> fmt::Result {
         for byte in s.as_bytes() {
-            if self.length < self.bytes.len() {
-                self.bytes[self.length] = *byte;
+            if self.length < self.room.len() {
+                self.room[self.length] = *byte;
                 self.length += 1;
             }
         }
@@ -108,22 +108,29 @@ fn words_of(bytes: &[u8]) -> usize
     bytes.len()
 }
 
-// Why something failed, to standard error.
-fn say_why(rt: &HostRuntime, error: &io::Error) {
-    let mut words = Words {
-        bytes: [0u8; 128],
-        length: 0,
-    };
-    let _ = write!(words, "{error}");
-    let Words { bytes, length } = words;
+// The first bytes of what an error prints, to standard error: of one that the system gives, its own words.
+fn say_words(rt: &HostRuntime, error: &io::Error, bytes: &[u8], length: usize) {
     if length > bytes.len() {
         return;
     }
+    let printed = &bytes[..length];
     let mut n = length;
     if error.raw_os_error().is_some() {
-        n = words_of(&bytes[..length]);
+        n = words_of(printed);
     }
-    say(rt, &bytes[..n]);
+    say(rt, &printed[..n]);
+}
+
+// Why something failed, to standard error.
+fn say_why(rt: &HostRuntime, error: &io::Error) {
+    let mut bytes = [0u8; 128];
+    let mut words = Words {
+        room: &mut bytes,
+        length: 0,
+    };
+    let _ = write!(words, "{error}");
+    let Words { room, length } = words;
+    say_words(rt, error, room, length);
 }
 
 // What failed, and why, to the end of the line.

@@ -1,5 +1,6 @@
 // The largest whole cells of a looser text: the codes of its whole cells, sorted, those inside others left out. Its proper text is what is written of them.
 #![tactic(auto)]
+
 ghost use Rattle.std.specs.Prelude.{◌≡◌, true, ◌++◌, ◌≤◌, length, take, drop};
 ghost use Rattle.cell.specs.Cell.{IsArrangement};
 ghost use Rattle.writing.specs.Write.{all_codes};

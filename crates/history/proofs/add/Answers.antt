@@ -4,7 +4,7 @@ use borrow.Author.Tests.{le-leb, lt-leb}
 use mathlib.Core.Bool.{Bool}
 use Rattle.logic.specs.Refusal.{refuse}
 use Rattle.history.specs.History.{next, added}
-use Rattle.history.proofs.Laws.{refused, accepted}
+use Rattle.history.proofs.Facts.{refused, accepted}
 use native.Mathlib.Omega.{arith}
 use Rattle.history.proofs.add.Goals as goal
 

@@ -4,7 +4,7 @@ use Prim.Native.Nat.{ℕ}
 use Rattle.logic.specs.Laws.Refusal.{passes}
 use Rattle.history.specs.Settings.{next_refusal}
 use Rattle.history.specs.History.{answer, next, placed, added, backed}
-use Rattle.history.proofs.Laws.{refused, at_once, stale, latest, not-kept, is-kept}
+use Rattle.history.proofs.Facts.{refused, at_once, stale, latest, not-kept, is-kept}
 use native.Mathlib.Omega.{arith}
 use Rattle.history.proofs.back.Goals as goal
 

@@ -4,7 +4,7 @@ use Prim.Native.Nat.{ℕ}
 use Rattle.logic.specs.Laws.Refusal.{passes}
 use Rattle.history.specs.Settings.{next_refusal}
 use Rattle.history.specs.History.{answer, next, added, changed}
-use Rattle.history.proofs.Laws.{refused, at_once, stale, latest}
+use Rattle.history.proofs.Facts.{refused, at_once, stale, latest}
 use native.Mathlib.Omega.{arith}
 use Rattle.history.proofs.change.Goals as goal
 

@@ -5,7 +5,7 @@ use Rattle.history.specs.declared.Settings.{Settings}
 use Rattle.history.specs.declared.History.{History}
 use Rattle.history.specs.Settings.{none}
 use Rattle.history.specs.History.{empty, fresh}
-use Rattle.history.proofs.Laws.{refused, accepted}
+use Rattle.history.proofs.Facts.{refused, accepted}
 use Rattle.history.proofs.fresh.Goals as goal
 
 -- revision 0

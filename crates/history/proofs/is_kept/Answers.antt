@@ -1,5 +1,5 @@
 -- `history::is_kept` meets its contract. Assumes nothing.
-use Rattle.history.proofs.Laws.{not_made, made}
+use Rattle.history.proofs.Facts.{not_made, made}
 use mathlib.Core.Path.{sym}
 use Rattle.history.proofs.is_kept.Goals as goal
 

@@ -1,7 +1,7 @@
 -- `history::read` meets its contract. Assumes nothing.
 use mathlib.Core.Path.{sym, ◌∙◌}
 use Rattle.history.specs.History.{read_of}
-use Rattle.history.proofs.Laws.{unread, is_read}
+use Rattle.history.proofs.Facts.{unread, is_read}
 use Rattle.history.proofs.read.Goals as goal
 
 pub returns-then-not-is_kept : goal.returns-then-not-is_kept

@@ -1,6 +1,6 @@
 -- Codes put one behind the other along the walk: those that were put, and those of what is left of the text, are the text's. Assumes nothing.
-use Rattle.std.specs.Prelude.{◌≡◌, refl, Bool, true, false, List, [], ◌∷◌, ◌++◌, map, ℕ, suc, ◌+◌, ◌≤◌, ◌<◌, length, take, drop, get_or, set}
-use Rattle.std.proofs.Common.{sym, ap, ap₂, ◌∙◌, subst, append-nil, append_assoc, add-one, arith, length-set, length-append, take-append-drop, length-take-le, take-suc-set, drop-set-lt, drop-drop}
+use Rattle.std.specs.Prelude.{◌≡◌, refl, true, false, List, [], ◌∷◌, ◌++◌, map, ℕ, ◌+◌, ◌≤◌, ◌<◌, length, take, drop, get_or, set}
+use Rattle.std.proofs.Common.{sym, ap, ap₂, ◌∙◌, append-nil, append_assoc, add-one, arith, length-set, length-append, take-append-drop, length-take-le, take-suc-set, drop-set-lt, drop-drop}
 use Rattle.loose.specs.LooseText.{LooseBody}
 use Rattle.loose.specs.LooseScan.{loose_nodes}
 use Rattle.walk.specs.declared.Spot.{Spot}

@@ -1,5 +1,5 @@
 -- "Kind 3 is the opening bracket of an empty list", over the bytes of the text. Assumes nothing.
-use Rattle.std.specs.Prelude.{◌≡◌, refl, true, ◌↔◌, ◌⊎◌, List, [], ◌∷◌, ◌++◌, ℕ, zero, suc, ◌+◌, ◌-◌, ◌≤◌, ◌<◌, length, get_or}
+use Rattle.std.specs.Prelude.{◌≡◌, refl, true, ◌↔◌, List, [], ◌∷◌, ◌++◌, ℕ, zero, suc, ◌+◌, ◌-◌, ◌≤◌, ◌<◌, length, get_or}
 use Rattle.std.proofs.Common.{sym, ap, ap₂, ◌∙◌, inl, inr, ⊎_elim, arith, length-append, get_or-append-add}
 use Rattle.std.proofs.Math.ListN.{get_or-append}
 use Rattle.logic.specs.Lists.{Mem}
@@ -12,7 +12,7 @@ use Rattle.reading.specs.Reading.{Nodes, end, whole, listed, first, render}
 use Rattle.reading.specs.Prefix.{Name}
 use Rattle.reading.specs.Text.{heading}
 use Rattle.loose.specs.LooseText.{LooseAs}
-use Rattle.proper.specs.Changes.{Item, is_end, items, changes}
+use Rattle.proper.specs.Changes.{Item, items, changes}
 use Rattle.proper.proofs.Laws.Lists.{IMem, imem-left, imem-right, imem-or}
 use Rattle.proper.proofs.Laws.Given.{at}
 use Rattle.proper.proofs.Laws.Told.{told-void}

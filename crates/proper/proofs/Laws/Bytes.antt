@@ -11,12 +11,10 @@ use Rattle.logic.specs.Laws.Bools.{clash}
 use Rattle.logic.specs.Laws.Order.{lt-or}
 use Rattle.reading.specs.declared.Level.{Level}
 use Rattle.reading.specs.declared.Level.TheVariants.{Faces, Digits}
-use Rattle.reading.specs.declared.Profile.TheVariants.{Full}
 use Rattle.reading.specs.Reading.{Nodes, end, whole, listed, first, many, render}
 use Rattle.reading.proofs.Laws.Reading.{first-big}
 use Rattle.reading.specs.Loose.{Loose}
 use Rattle.reading.specs.Prefix.{Name}
-use Rattle.reading.specs.Text.{heading}
 use Rattle.loose.specs.LooseText.{LooseAs}
 use Rattle.proper.specs.Changes.{Item, is_end, items}
 use Rattle.proper.proofs.Laws.Lists.{IMem, imem-left, imem-right, imem-or}

@@ -1,11 +1,11 @@
 -- "The list is empty exactly for a proper text": where nothing is changed, the reading is proper. Assumes nothing.
-use Rattle.std.specs.Prelude.{◌≡◌, Bool, ◌&&◌, ◌||◌, not, cond, ◌⊎◌, ℕ, zero, suc, ◌+◌, ◌-◌, ◌≤◌, ◌<◌, eqb, ltb, length}
+use Rattle.std.specs.Prelude.{◌≡◌, Bool, ◌&&◌, ◌||◌, not, ◌⊎◌, ℕ, zero, suc, ◌+◌, ◌-◌, ◌≤◌, ◌<◌, ltb, length}
 use Rattle.std.proofs.Math.Path.{refl}
 use Rattle.std.proofs.Common.{sym, ap, ap₂, ◌∙◌, inl, inr, ⊎_elim, arith, length-append, ltb-false}
 use Rattle.std.proofs.Math.Bool.{true, false}
 use mathlib.Core.List.{List, [], ◌∷◌, ◌++◌, map, append_assoc}
 use Rattle.logic.specs.Laws.Order.{lt-or}
-use Rattle.logic.specs.Laws.Bools.{clash, and_left, and_right, or_left, or_right}
+use Rattle.logic.specs.Laws.Bools.{clash, and_left, and_right, or_right}
 use Rattle.ternary.specs.Digits.{Below}
 use Rattle.reading.specs.declared.Level.{Level}
 use Rattle.reading.specs.declared.Level.TheVariants.{Faces, Belt, Digits}
@@ -14,16 +14,15 @@ use Rattle.reading.proofs.Laws.Reading.{wholes-most}
 use Rattle.reading.specs.Prefix.{Name, Prefix, Covered, Digs, FinestName, SameNames, IsName, AreNames}
 use Rattle.reading.proofs.Laws.Ground.{covered_whole}
 use Rattle.reading.proofs.Laws.Fewest.{names-good, mem-covered}
-use Rattle.reading.specs.Written.{built}
 use Rattle.reading.proofs.Laws.Built.{built-good, built-ground}
 use Rattle.reading.specs.Loose.{Loose}
 use Rattle.loose.proofs.Laws.Names.{names-loose}
 use Rattle.proper.specs.Proper.{answer}
-use Rattle.proper.specs.Changes.{Item, Change, is_end, items, same, larger, any, has, names-whole, names-larger, stands-for, kind_1, kind_2, kind_3, kind-4, when, changes_at, changes_from, changes}
+use Rattle.proper.specs.Changes.{Item, is_end, items, same, larger, any, has, names-whole, names-larger, stands-for, kind_1, kind_2, kind_3, kind-4, when, changes_at, changes_from, changes}
 use Rattle.logic.specs.Lists.{Mem}
 use Rattle.logic.specs.Laws.Lists.{mem-all}
 use Rattle.proper.proofs.Laws.Lists.{IMem, same_true, same_self, larger-below, imem-left, imem-right, imem-or, mem-left, mem-right, mem-or, mem-map, map-mem, covered-mem}
-use Rattle.proper.proofs.Laws.Lists.{any_some, some-any, has-mem, mem-has, none_left, when-none}
+use Rattle.proper.proofs.Laws.Lists.{any_some, some-any, has-mem, none_left, when-none}
 
 -- ---- nothing is changed at an item
 

@@ -1,5 +1,5 @@
 -- Some rescues, computed, and compared with the second program. Assumes nothing.
-use Rattle.std.specs.Prelude.{◌≡◌, refl, List, [], ◌∷◌, ℕ}
+use Rattle.std.specs.Prelude.{◌≡◌, refl, [], ◌∷◌, ℕ}
 use Rattle.reading.specs.Reading.{Nodes, end, whole, listed}
 use Rattle.reading.specs.Written.{built, tails, any_ends, node_of, side}
 use Rattle.proper.specs.Proper.{answer}

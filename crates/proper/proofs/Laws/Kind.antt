@@ -1,13 +1,13 @@
 -- How kinds 1 and 4 are found by looking a cell up in two rising lists: the whole cells that lie in no other, and the cells of the answer. Assumes nothing.
-use Rattle.std.specs.Prelude.{◌≡◌, refl, Bool, true, false, ◌&&◌, ◌||◌, not, ◌⊎◌, List, [], ◌∷◌, ◌++◌, ℕ, suc, ◌≤◌, ◌<◌, eqb, length}
-use Rattle.std.proofs.Common.{sym, ap, ap₂, ◌∙◌, inl, inr, ⊎_elim, arith, eqb-true, eq-eqb}
+use Rattle.std.specs.Prelude.{◌≡◌, refl, Bool, true, false, ◌&&◌, ◌||◌, not, List, [], ◌∷◌, eqb}
+use Rattle.std.proofs.Common.{sym, ap₂, ◌∙◌, inl, inr, arith, eqb-true, eq-eqb}
 use Rattle.logic.specs.Laws.Bools.{same_truth, clash, and_left, and_right}
 use Rattle.reading.specs.declared.Level.TheVariants.{Faces}
 use Rattle.reading.specs.Reading.{Nodes, Good, names}
-use Rattle.reading.specs.Prefix.{Name, Prefix, Covered, SameNames, IsName, AreNames, Ahead, AheadAll, InOrder}
+use Rattle.reading.specs.Prefix.{Name, Prefix, SameNames, IsName, Ahead, AheadAll, InOrder}
 use Rattle.reading.proofs.Laws.Ground.{covered_whole}
 use Rattle.reading.proofs.Laws.Rising.{names-rise}
-use Rattle.reading.proofs.Laws.Fewest.{names-good, mem-covered, prefix_trans}
+use Rattle.reading.proofs.Laws.Fewest.{mem-covered, prefix_trans}
 use Rattle.reading.proofs.Laws.Built.{built-good, built-ground}
 use Rattle.reading.specs.Loose.{Loose}
 use Rattle.loose.proofs.Laws.Names.{names-loose}

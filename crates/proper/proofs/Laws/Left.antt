@@ -1,5 +1,5 @@
 -- The codes that are left are those of the largest whole cells. Assumes nothing.
-use Rattle.std.specs.Prelude.{◌≡◌, refl, ◌⊎◌, cond, List, [], ◌∷◌, map, ℕ, ltb, drop}
+use Rattle.std.specs.Prelude.{◌≡◌, refl, List, [], ◌∷◌, map, ℕ, ltb, drop}
 use Rattle.std.proofs.Common.{sym, ap, ◌∙◌, inl, inr, ⊎_elim, arith}
 use Rattle.logic.specs.Lists.{All, Mem}
 use Rattle.logic.specs.Laws.Bools.{by_cond}

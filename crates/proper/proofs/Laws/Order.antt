@@ -11,7 +11,7 @@ use Rattle.reading.specs.declared.Level.TheVariants.{Digits}
 use Rattle.reading.specs.Reading.{Nodes, end, whole, listed, render, names}
 use Rattle.reading.specs.Prefix.{Name}
 use Rattle.proper.specs.Proper.{answer}
-use Rattle.proper.specs.Changes.{Item, Change, is_end, items, kind_1, kind_2, kind_3, kind-4, when, changes_at, changes_from, changes}
+use Rattle.proper.specs.Changes.{Item, Change, items, kind_1, kind_2, kind_3, kind-4, when, changes_at, changes_from, changes}
 use Rattle.proper.proofs.Laws.Lists.{IMem, imem-or}
 
 -- ---- where items stand

@@ -1,8 +1,7 @@
 -- The answer is a proper text, of the same ground, with the fewest whole cells, and no longer (02, W-206). Assumes nothing.
-use Rattle.std.specs.Prelude.{◌≡◌, List, ◌++◌, map, ℕ, ◌≤◌, length, take}
+use Rattle.std.specs.Prelude.{◌≡◌, List, ℕ, ◌≤◌, length, take}
 use Rattle.std.proofs.Math.Path.{refl, ap}
-use Rattle.std.proofs.Common.{sym, ◌∙◌, arith, length-append}
-use Rattle.cell.specs.declared.Cell.{Cell}
+use Rattle.std.proofs.Common.{sym, arith, length-append}
 use Rattle.reading.specs.declared.Level.TheVariants.{Faces}
 use Rattle.reading.specs.declared.Profile.TheVariants.{Full}
 use Rattle.reading.specs.Reading.{Nodes, render, names, Good}

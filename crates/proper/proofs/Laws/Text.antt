@@ -1,14 +1,14 @@
 -- What the writer makes of the codes that are left. Assumes nothing.
-use Rattle.std.specs.Prelude.{◌≡◌, Bool, true, not, ℕ, ◌≤◌, ◌<◌, take, drop}
+use Rattle.std.specs.Prelude.{◌≡◌, Bool, true, not, ℕ, ◌≤◌, take, drop}
 use Rattle.std.proofs.Math.Path.{refl, ap}
 use Rattle.std.proofs.Common.{sym, ap₂, ◌∙◌, ⊎_elim, take_all}
 use Rattle.std.proofs.Math.Bool.{false}
-use mathlib.Core.List.{List, ◌++◌, map}
+use mathlib.Core.List.{List, map}
 use native.Mathlib.Omega.{arith}
 use Rattle.std.proofs.Math.Dec.{ltb}
 use Rattle.std.proofs.Math.ListN.{length, length-map, length-drop}
 use borrow.Author.Tests.{le-ltb}
-use Rattle.logic.specs.Refusal.{refuse, ◌otherwise◌}
+use Rattle.logic.specs.Refusal.{refuse}
 use Rattle.logic.specs.Laws.Refusal.{passes}
 use Rattle.logic.specs.Laws.Order.{lt-or}
 use Rattle.cell.specs.declared.Arrangement.{Arrangement}
@@ -18,18 +18,17 @@ use Rattle.code.specs.Code.{code_of, cell_of}
 use Rattle.reading.specs.declared.Level.TheVariants.{Faces}
 use Rattle.reading.specs.declared.Profile.TheVariants.{Full}
 use Rattle.reading.specs.Reading.{names}
-use Rattle.reading.specs.Report.{count}
 use Rattle.reading.specs.Ground.{cell_named, whole_cells}
 use Rattle.reading.proofs.Laws.Report.{count-names, count_most}
 use Rattle.reading.specs.Written.{keeps, nodes_for}
 use Rattle.reading.proofs.Laws.Written.{nodes-good}
 use Rattle.reading.proofs.Laws.Fits.{good-fits}
-use Rattle.writing.specs.Write.{all_codes, codes_refusal, is_version, text_of, fit_refusal, write_refusal}
+use Rattle.writing.specs.Write.{all_codes, is_version, text_of, fit_refusal, write_refusal}
 use Rattle.sorting.specs.Sorted.{sorted}
 use Rattle.loose.specs.LooseText.{LooseBody}
 use Rattle.loose.specs.LooseScan.{loose_nodes}
 use Rattle.loose.specs.Look.{loose_north, loose_south, loose_arrangement, IsLoose}
-use Rattle.proper.specs.Proper.{rescued, proper_of}
+use Rattle.proper.specs.Proper.{proper_of}
 use Rattle.proper.proofs.Laws.Proper.{rescued-short}
 use Rattle.proper.specs.Thin.{thinned}
 use Rattle.proper.proofs.Laws.Thin.{coded-all, thinned-coded, thinned-good}

@@ -1,6 +1,6 @@
 -- Writing the thinned codes of a looser text's whole cells gives the proper text. Assumes nothing.
-use Rattle.std.specs.Prelude.{◌≡◌, refl, true, cond, ◌⊎◌, List, [], ◌∷◌, ◌++◌, map, ℕ, leb, drop}
-use Rattle.std.proofs.Common.{sym, ap₂, ◌∙◌, inl, inr, ⊎_elim}
+use Rattle.std.specs.Prelude.{◌≡◌, refl, true, List, [], ◌∷◌, ◌++◌, map, ℕ, leb, drop}
+use Rattle.std.proofs.Common.{◌∙◌, inl, inr}
 use Rattle.std.proofs.Math.Path.{ap}
 use Rattle.logic.specs.Lists.{Mem}
 use Rattle.logic.specs.Laws.Bools.{by_cond}
@@ -24,7 +24,7 @@ use Rattle.sorting.proofs.Laws.Sorted.{sorted-rising, sorted-mem}
 use Rattle.loose.specs.LooseText.{LooseBody}
 use Rattle.loose.specs.LooseScan.{loose_nodes}
 use Rattle.loose.proofs.Laws.Names.{loose-cells}
-use Rattle.proper.specs.Proper.{answer, rescued}
+use Rattle.proper.specs.Proper.{rescued}
 use Rattle.proper.proofs.Laws.Proper.{answer-for}
 use Rattle.proper.specs.Thin.{thinned, Coded}
 use Rattle.proper.proofs.Laws.Thin.{coded-all, thinned-coded, thinned-ground}

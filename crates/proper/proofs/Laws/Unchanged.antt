@@ -1,14 +1,14 @@
 -- "The list is empty exactly for a proper text, which comes back unchanged": of a proper text nothing is changed. Assumes nothing.
-use Rattle.std.specs.Prelude.{◌≡◌, Bool, true, ◌&&◌, ◌||◌, not, cond, ◌⊎◌, ℕ, zero, suc, ◌+◌, ◌-◌, ◌≤◌, ◌<◌, eqb, ltb, length}
+use Rattle.std.specs.Prelude.{◌≡◌, Bool, true, ◌&&◌, not, ◌⊎◌, ℕ, suc, ◌+◌, ◌-◌, ◌≤◌, ◌<◌, eqb, length}
 use Rattle.std.proofs.Math.Path.{refl, ap}
-use Rattle.std.proofs.Common.{sym, ap₂, ◌∙◌, inl, inr, arith, le-ltb, eqb-true}
+use Rattle.std.proofs.Common.{sym, ◌∙◌, inl, inr, arith, le-ltb, eqb-true}
 use Rattle.std.proofs.Math.Bool.{false}
 use Rattle.std.proofs.Math.Logic.{⊎_elim}
-use mathlib.Core.List.{List, [], ◌∷◌, ◌++◌, map, append_assoc}
+use mathlib.Core.List.{List, [], ◌∷◌, ◌++◌, append_assoc}
 use Rattle.logic.specs.Laws.Bools.{clash, and_left, and_right, or-either}
 use Rattle.reading.specs.declared.Level.{Level}
-use Rattle.reading.specs.declared.Level.TheVariants.{Faces, Belt, Digits}
-use Rattle.reading.specs.Reading.{Nodes, end, whole, listed, many, room, render, Some, Good, names}
+use Rattle.reading.specs.declared.Level.TheVariants.{Faces, Digits}
+use Rattle.reading.specs.Reading.{Nodes, end, whole, listed, room, render, Some, Good, names}
 use Rattle.reading.specs.Prefix.{Name, AreNames, Ahead}
 use Rattle.reading.proofs.Laws.Ground.{same_names}
 use Rattle.reading.proofs.Laws.Fewest.{names-good}
@@ -18,10 +18,9 @@ use Rattle.reading.specs.Written.{built}
 use Rattle.reading.proofs.Laws.Built.{built-good, built-ground}
 use Rattle.reading.specs.Loose.{Loose}
 use Rattle.proper.specs.Proper.{answer, rescued}
-use Rattle.proper.specs.Changes.{Item, Change, is_end, items, same, larger, any, has, names-whole, names-larger, stands-for, kind_1, kind_2, kind_3, kind-4, when, changes_at, changes_from, changes}
-use Rattle.logic.specs.Lists.{Mem}
-use Rattle.proper.proofs.Laws.Lists.{IMem, same_true, same_self, imem-left, imem-right, imem-or, any_some, some-any, has-mem, mem-has}
-use Rattle.proper.proofs.Laws.Change.{own_name, name-own, empty-proper}
+use Rattle.proper.specs.Changes.{Item, Change, is_end, items, same, larger, any, has, names-whole, names-larger, kind_1, kind-4, changes_at, changes_from, changes}
+use Rattle.proper.proofs.Laws.Lists.{IMem, same_true, same_self, imem-or, any_some, some-any, mem-has}
+use Rattle.proper.proofs.Laws.Change.{own_name, empty-proper}
 
 -- ---- the answer of a proper reading is itself
 

@@ -1,14 +1,13 @@
 -- The proper text is never longer than the looser one, so 13 is never asked of it. Assumes nothing.
 use Rattle.std.specs.Prelude.{◌≡◌, refl, Bool, true, false, ◌||◌, cond, ◌⊎◌, List, [], ◌∷◌, ◌++◌, map, ℕ, zero, suc, ◌+◌, ◌-◌, ◌≤◌, ◌<◌, eqb, length}
-use Rattle.std.proofs.Common.{sym, ap, ap₂, ◌∙◌, inl, inr, ⊎_elim, append-nil, arith, length-append, eqb-true, eq-eqb, ne_eqb}
-use Rattle.std.proofs.lemmas.Bool.{eqb-false}
+use Rattle.std.proofs.Common.{sym, ap, ◌∙◌, inl, inr, ⊎_elim, append-nil, arith, length-append, eqb-true, eq-eqb, ne_eqb}
 use Rattle.logic.specs.Laws.Order.{lt-or}
-use Rattle.logic.specs.Laws.Bools.{by_cond, clash, or-either, or_left, or_right}
+use Rattle.logic.specs.Laws.Bools.{by_cond, clash, or-either}
 use Rattle.reading.specs.declared.Level.{Level}
 use Rattle.reading.specs.declared.Level.TheVariants.{Faces, Digits}
-use Rattle.reading.specs.Reading.{Nodes, end, whole, listed, many, wholes, render, names}
+use Rattle.reading.specs.Reading.{Nodes, end, whole, listed, wholes, render, names}
 use Rattle.reading.specs.Prefix.{Name}
-use Rattle.reading.specs.Written.{tails, any_ends, node_of, side, built, under}
+use Rattle.reading.specs.Written.{tails, any_ends, node_of, side, under}
 use Rattle.reading.proofs.Laws.Built.{built-side}
 use Rattle.reading.specs.Loose.{Loose}
 use Rattle.proper.specs.Proper.{answer}

@@ -1,9 +1,9 @@
 -- How far thinning has come. Assumes nothing.
-use Rattle.std.specs.Prelude.{◌≡◌, refl, Bool, true, false, cond, ltb, length, take}
+use Rattle.std.specs.Prelude.{◌≡◌, refl, true, length, take}
 use Rattle.std.proofs.Math.Path.{sym, ap}
-use Rattle.std.proofs.Common.{ap₂, ◌∙◌, add-one, arith, length-drop, drop_of_length-le, drop-cons, take_all, length-take-le, get_or-take, drop_at, take_at, lt-ltb, le-ltb}
+use Rattle.std.proofs.Common.{ap₂, ◌∙◌, add-one, arith, length-drop, drop_of_length-le, drop-cons, length-take-le, get_or-take, lt-ltb, le-ltb}
 use mathlib.Core.List.{List, [], ◌∷◌, ◌++◌, append_assoc, append-nil}
-use Prim.Native.Nat.{ℕ, zero, suc, ◌+◌, ◌-◌, ◌/◌, ◌^◌, ◌≤◌, ◌<◌}
+use Prim.Native.Nat.{ℕ, zero, suc, ◌+◌, ◌-◌, ◌≤◌, ◌<◌}
 use Rattle.std.proofs.Math.ListN.{drop, set, get_or, length-append}
 use Rattle.std.proofs.Math.Seq.{set_at}
 use Rattle.code.specs.Code.{cell_of, is_code, size_of}

@@ -4,7 +4,7 @@ use borrow.Author.Tests.{lt-ltb, le-ltb}
 use Rattle.logic.specs.Refusal.{◌otherwise◌}
 use Rattle.logic.specs.Laws.Refusal.{passes}
 use Rattle.history.specs.Settings.{settings_refusal}
-use Rattle.history.proofs.Laws.{at_once}
+use Rattle.history.proofs.Facts.{at_once}
 use Rattle.history.proofs.Settings.refusal.Goals as goal
 
 pub returns-then-refusal-ne0 : goal.returns-then-refusal-ne0

@@ -1,0 +1,7 @@
+-- `is_proper` meets its contract: what the reader accepts is read as version 1. Assumes nothing.
+use mathlib.Core.Path.{sym, ◌∙◌}
+use Rattle.rescue.specs.Internal.Same.{text_same}
+use Rattle.rescue.proofs.is_proper.Goals as goal
+
+pub returns-in-Text : goal.returns-in-Text
+returns-in-Text c = λ _. let s = c in text_same s.args.text.now s.requires (sym c.in-Text.is ∙ c.check.ensures)
