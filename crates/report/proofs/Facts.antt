@@ -1,30 +1,28 @@
 -- A cell's name, where it has room; bytes put into a part of the lent memory; names one after the other. Assumes nothing.
-use mathlib.Core.Path.{◌≡◌, refl, sym, ap, ap₂, ◌∙◌, subst}
+use mathlib.Core.Path.{◌≡◌, refl, sym, ap, ◌∙◌, subst}
 use mathlib.Core.Bool.{Bool}
 use mathlib.Core.List.{List, [], ◌∷◌, ◌++◌, append-nil}
-use Prim.Native.Nat.{ℕ, zero, suc, ◌+◌, ◌-◌, ◌≤◌, ◌<◌}
+use Prim.Native.Nat.{ℕ, zero, suc, ◌+◌, ◌≤◌, ◌<◌}
 use native.Mathlib.Numerals.{add-one}
 use native.Mathlib.Omega.{arith}
-use lib.ListN.{length, take, drop, get_or, length-drop}
-use lib.Seq.{take_all, take-suc, drop-length, drop-drop}
+use lib.ListN.{length, take, drop, get_or}
+use lib.Seq.{take-suc}
 use lib.Dec.{ltb}
-use borrow.Rule.Slice.PartMut.{put_mid, post_of, Post-is}
 use borrow.Author.Tests.{le-ltb}
 use Rattle.logic.specs.Refusal.{refuse, ◌otherwise◌, given}
 use Rattle.logic.specs.Laws.Refusal.{stops, passes, given-value}
 use Rattle.code.specs.declared.Coded.{Coded}
 use Rattle.code.specs.declared.Coded.TheVariants as coded-as
 use Rattle.code.specs.Code.{cell_of, code_refusal}
-use Rattle.code.proofs.Laws.Code.{a-code, code-passes, code-is-cell}
+use Rattle.code.proofs.Laws.Code.{code-passes}
 use Rattle.name.specs.declared.Named.{Named}
 use Rattle.name.specs.declared.Named.TheVariants.{Length, Refused}
 use Rattle.name.specs.Name.{name_of, name_in, code_name_refusal, named, length_in}
-use Rattle.name.specs.Laws.Name.{length-name}
 use Rattle.decimal.specs.Decimal.{printed}
 use Rattle.flight.specs.declared.Setting.{Setting}
 use Rattle.flight.specs.Flight.{line_code}
 use Rattle.flight.proofs.Laws.Code.{line-is-code}
-use Rattle.report.specs.Put.{put_at, Put}
+use Rattle.report.specs.Put.{Put}
 use Rattle.report.specs.Answer.{answer_of, answer_line}
 use Rattle.report.specs.Names.{name_bytes, name_line, names_of}
 use Rattle.report.proofs.Laws.Names.{names-append, name-short}

@@ -1,6 +1,6 @@
 -- The revisions that are listed are those that are kept. Assumes nothing.
-use Rattle.std.specs.Prelude.{◌≡◌, refl, ◌↔◌, Bool, true, cond, [], ◌∷◌, ℕ, ◌+◌, ◌≤◌, ◌<◌, ltb, replicate}
-use Rattle.std.proofs.Common.{ap, ◌∙◌, ⊎_elim, arith, lt-ltb, le-ltb}
+use Rattle.std.specs.Prelude.{◌≡◌, refl, ◌↔◌, Bool, cond, [], ◌∷◌, ℕ, ◌+◌, ◌≤◌, ◌<◌, replicate}
+use Rattle.std.proofs.Common.{ap, ⊎_elim, arith, lt-ltb, le-ltb}
 use Rattle.logic.specs.Laws.Order.{lt-or}
 use Rattle.decimal.specs.Decimal.{printed}
 use Rattle.history.specs.Settings.{none, read_refusal}
