@@ -1,5 +1,4 @@
 -- `report::put_names` meets its contract: one name more after each turn. Assumes nothing.
-use Prim.Native.Nat.{◌-◌}
 use Rattle.report.proofs.Laws.Put.{then-put}
 use Rattle.report.proofs.Facts.{name-more, put_as}
 use native.Mathlib.Omega.{arith}
