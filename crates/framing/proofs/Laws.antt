@@ -2,7 +2,6 @@ pub mod Framing
 pub mod Hexadecimal
 pub mod Side
 pub mod Worked
-
 -- A double's bits have sixteen hexadecimal digits; edges that are numbers; which line is put. Assumes nothing.
 use mathlib.Core.Path.{◌≡◌, refl, sym, ap, ◌∙◌, subst}
 use mathlib.Core.Logic.{⊎_elim}

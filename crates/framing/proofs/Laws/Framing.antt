@@ -1,6 +1,6 @@
 -- The frame around an accepted text's whole cells: with a side that is taken, the first cell's box, grown by that of each further cell; so it holds the
 -- box of each, each of its edges is one of theirs, and every edge is a number. Which line is put, in every case. Assumes nothing.
-use Rattle.std.specs.Prelude.{◌≡◌, refl, Bool, true, false, not, List, [], ◌∷◌, map, ℕ, suc, Float}
+use Rattle.std.specs.Prelude.{◌≡◌, Bool, true, false, not, List, [], ◌∷◌, map, ℕ, suc, Float}
 use Rattle.std.proofs.Common.{sym, ◌∙◌, subst, arith}
 use Rattle.std.proofs.Math.Path.{ap}
 use Rattle.logic.specs.Lists.{All}
@@ -12,7 +12,7 @@ use Rattle.cell.specs.Cell.{IsArrangement}
 use Rattle.code.specs.Code.{code_of, is_code}
 use Rattle.code.proofs.Laws.Code.{cell-has-code}
 use Rattle.reading.specs.Ground.{whole_cells, Cells}
-use Rattle.reading.specs.TextReading.{nodes_of, text_arrangement, is_text}
+use Rattle.reading.specs.TextReading.{nodes_of, text_arrangement}
 use Rattle.reading.proofs.Laws.TextReading.{reads-body, text-arranged}
 use Rattle.reading.proofs.Laws.Demand.{whole_cells_lem}
 use Rattle.reader.specs.Check.{text_refusal}
@@ -20,7 +20,6 @@ use Rattle.reader.specs.Laws.Answer.{text-read}
 use Rattle.report.specs.Lines.{number_line}
 use Rattle.listing.specs.List.{codes_of, listing_refusal}
 use Rattle.metres.specs.Metres.{is_side, side_refusal}
-use Rattle.plotter.specs.declared.Around.{Around}
 use Rattle.plotter.specs.declared.Around.TheVariants as around-as
 use Rattle.plotter.specs.Plotter.{box_in, frame_over, frame_around, Holds, EdgesOf}
 use Rattle.plotter.proofs.Laws.Box.{cells-held, cells-edges}

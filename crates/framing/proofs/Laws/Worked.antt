@@ -1,11 +1,10 @@
 -- Worked out by hand: a line of four edges, and sides as people write them. Assumes nothing.
-use Rattle.std.specs.Prelude.{◌≡◌, refl, true, false, List, [], ◌∷◌, ℕ, pos, negsuc, Float}
+use Rattle.std.specs.Prelude.{◌≡◌, refl, true, false, [], ◌∷◌, pos, negsuc}
 use Rattle.std.specs.Float.{fin}
 use Rattle.std.specs.Float.Ieee.{to_bits, of_int, div, round}
 use Rattle.ternary.specs.Digits.{value}
 use Rattle.decimal.specs.Decimal.{all_decimal, whole_in}
 use Rattle.decimal.specs.Fraction.{whole_fraction, point_fraction, fraction_in}
-use Rattle.plotter.specs.declared.Frame.{Frame}
 use Rattle.framing.specs.Framing.{side_in, hexadecimal, edges_line}
 
 -- left 1, bottom -1/4, right 2, top 1/2: `3ff0000000000000 bfd0000000000000 4000000000000000 3fe0000000000000` and a line feed

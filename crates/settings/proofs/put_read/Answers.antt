@@ -18,5 +18,8 @@ pub returns : goal.returns
 returns c =
     let a = c.args in
     let r = c.read-answer in
-    let p = c.put_settings in record { put = subst (λ (t : List ℕ). Put 0 t a.out.now p.new.out p.result)
-          (the-line a.history a.revision r.result r.ensures c.if-answer-ne0.false) p.ensures.put; upper_bound = omega (arith, p.ensures.upper_bound) }
+    let p = c.put_settings in record {
+      put = subst (λ (t : List ℕ). Put 0 t a.out.now p.new.out p.result)
+          (the-line a.history a.revision r.result r.ensures c.if-answer-ne0.false) p.ensures.put;
+      upper_bound = omega (arith, p.ensures.upper_bound);
+    }
