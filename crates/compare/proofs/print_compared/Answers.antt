@@ -56,4 +56,4 @@ returns-in-Refused c =
     let w = c4.put_line-end in
     let k = c15.compare in
     number-written s.args.first.now s.args.second.now s.args.two.now s.args.three.now _
-    (refusal-given k.ensures c7.in-Refused.is) w.ensures.0 (omega (arith, w.ensures.1, s.requires.0))
+    (refusal-given k.ensures c7.in-Refused.is) w.ensures.put (omega (arith, w.ensures.upper_bound, s.requires.0))
