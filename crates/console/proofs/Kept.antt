@@ -1,11 +1,10 @@
 -- What was decoded, and what was read of a history, make the answers. Assumes nothing.
-use mathlib.Core.Path.{◌≡◌, refl, sym, ap, ◌∙◌}
-use mathlib.Core.Bool.{Bool, true, false}
+use mathlib.Core.Path.{◌≡◌, sym, ap, ◌∙◌}
+use mathlib.Core.Bool.{true, false}
 use mathlib.Core.List.{List, []}
 use Prim.Native.Nat.{ℕ}
 use lib.Dec.{eqb}
 use borrow.Author.Tests.{eq-eqb, ne_eqb}
-use Rattle.logic.specs.Refusal.{given}
 use Rattle.logic.specs.Laws.Refusal.{given-value, given-none}
 use Rattle.history.specs.declared.Settings.{Settings}
 use Rattle.history.specs.declared.History.{History}
@@ -15,9 +14,7 @@ use Rattle.history.specs.History.{empty, placed, read_of}
 use Rattle.encoding.specs.declared.Decoded.{Decoded}
 use Rattle.encoding.specs.Decoding.{decoded_of}
 use Rattle.encoding.proofs.Laws.Encoding.{decode-nothing}
-use Rattle.console.specs.declared.Arguments.{Arguments}
 use Rattle.console.specs.declared.Arguments.TheVariants.{Good, Wrong}
-use Rattle.console.specs.declared.Loaded.{Loaded}
 use Rattle.console.specs.History.{loaded_from, setting_from, setting_at}
 
 module _ (t : List ℕ) (d : Decoded) (e : d ≡ decoded_of t) where

@@ -1,7 +1,6 @@
 pub mod Arguments
 pub mod History
 pub mod Input
-
 -- The line at hand, while parts of the input come in. Assumes nothing.
 use mathlib.Core.Path.{◌≡◌, refl, sym, ap, ap₂, ◌∙◌, subst}
 use mathlib.Core.List.{List, [], ◌∷◌, ◌++◌, append_assoc, append-nil}

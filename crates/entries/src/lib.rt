@@ -1,5 +1,6 @@
 // What the public entries answer: a struct for each shape of answer, `refusal` first. The definitions and laws of the answers are in specs/.
 #![tactic(auto)]
+
 #[repr(C)]
 #[derive(Clone, Copy)]
 pub struct CodeAnswer {

@@ -1,6 +1,7 @@
 // The public entries, for C and whatever links a C library. Each takes any numbers and any bytes: what is bad gets its refusal number,
 // zeros for the other answers, and no lent byte changed.
 #![tactic(auto)]
+
 ghost use Rattle.std.specs.Prelude.{◌≡◌, cond, length, take};
 ghost use Rattle.logic.specs.Refusal.{given};
 ghost use Rattle.cell.specs.Cell.{IsCell};

@@ -1,5 +1,4 @@
 pub mod Files
-
 -- What the tests of `settings` make of its answers. Assumes nothing.
 use mathlib.Core.Path.{◌≡◌, refl, sym, ap, ◌∙◌}
 use mathlib.Core.Bool.{Bool, true, false, cond}

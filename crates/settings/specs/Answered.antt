@@ -1,5 +1,5 @@
 -- What `settings` makes of a history (02 W-209). Assumes nothing.
-use Rattle.std.specs.Prelude.{Bool, cond, List, [], ℕ, eqb}
+use Rattle.std.specs.Prelude.{cond, List, [], ℕ, eqb}
 use Rattle.logic.specs.Refusal.{given}
 use Rattle.history.specs.declared.History.{History}
 use Rattle.history.specs.declared.HistoryAnswer.{HistoryAnswer}

@@ -1,5 +1,4 @@
 -- What the words of `settings` ask for. Which words there are no statement can say. Assumes nothing.
-use Rattle.std.specs.Prelude.{ℕ}
 use Rattle.decimal.specs.declared.Whole.{Whole}
 use Rattle.decimal.specs.declared.Whole.TheVariants.{Is, Not}
 use Rattle.settings.specs.declared.Change.TheVariants.{Fresh, To, Back}

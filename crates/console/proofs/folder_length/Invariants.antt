@@ -1,6 +1,6 @@
 -- `console::folder_length` meets its contract: no byte behind is a slash. Assumes nothing.
 use mathlib.Core.Path.{◌≡◌}
-use Prim.Native.Nat.{ℕ, ◌-◌, ◌≤◌, ◌<◌}
+use Prim.Native.Nat.{ℕ, ◌≤◌, ◌<◌}
 use lib.ListN.{length, get_or}
 use Rattle.console.proofs.folder_length.Given as goal
 

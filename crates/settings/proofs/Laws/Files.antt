@@ -25,7 +25,6 @@ use Rattle.encoding.proofs.Laws.Encoding.{decode-encode}
 use Rattle.report.specs.History.{settings_line, revision_line}
 use Rattle.console.specs.declared.Loaded.{Loaded}
 use Rattle.console.specs.History.{loaded_from}
-use Rattle.settings.specs.declared.Change.{Change}
 use Rattle.settings.specs.declared.Change.TheVariants.{Fresh}
 use Rattle.settings.specs.Answered.{answered, changed_from, read_line}
 use Rattle.settings.specs.Files.{command_of, file_after, files_after}
