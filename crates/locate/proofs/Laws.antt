@@ -1,3 +1,4 @@
+pub mod Above
 pub mod Bottom
 pub mod Fix
 pub mod Floors

@@ -13,35 +13,10 @@ use Rattle.authalic.specs.Internal.SumLaws.{above-is, above_odd, times-opposite,
 use Rattle.authalic.specs.Internal.SeriesLaws.{exact}
 use Rattle.authalic.specs.Internal.AnswerLaws.{sine-near, sine-small, sine-zero, sine-pole, sine-sphere, sine-rises}
 use Rattle.authalic.specs.Authalic.{Geodetic, is_sine, is_geodetic, sine_refusal, eccentricity_refusal, Authalic}
-
-tested : (t : Bool) → T t → t ≡ true
-tested true h = refl
-tested false h = absurd h
-
-passed : (t : Bool) → t ≡ true → T t
-passed true e = tt
-passed false e = clash (sym e)
+use Rattle.authalic.proofs.Laws.Range.{tested, passed}
+pub use Rattle.authalic.proofs.Laws.Range.{geodetic-tests, geodetic-range}
 
 -- ---- the range
-
-pub geodetic-tests : {S : ℤ} {E : ℕ} → Geodetic S E → is_geodetic S E ≡ true
-unfolding is_geodetic is_sine
-geodetic-tests {S} {E} g =
-    rw (
-      tested (le_z (neg_ℤ (pos (10 ^ 18))) S) g.south.le,
-      tested (le_z S (pos (10 ^ 18))) g.north.le,
-      le-leb E 10000000000 g.eccentricity,
-    )
-
-pub geodetic-range : {S : ℤ} {E : ℕ} → is_geodetic S E ≡ true → Geodetic S E
-unfolding is_geodetic is_sine
-geodetic-range {S} {E} e =
-    let s = and_left (is_sine S) (leb E 10000000000) e in
-    record {
-      south = record { le = passed (le_z (neg_ℤ (pos (10 ^ 18))) S) (and_left (le_z (neg_ℤ (pos (10 ^ 18))) S) (le_z S (pos (10 ^ 18))) s) };
-      north = record { le = passed (le_z S (pos (10 ^ 18))) (and_right (le_z (neg_ℤ (pos (10 ^ 18))) S) (le_z S (pos (10 ^ 18))) s) };
-      eccentricity = leb-true E 10000000000 (and_right (is_sine S) (leb E 10000000000) e);
-    }
 
 -- 6 is given exactly where S or E is out of range
 pub six-exactly : (S : ℤ) (E : ℕ) → (sine_refusal S E ≡ 6) ↔ (Geodetic S E → ⊥)

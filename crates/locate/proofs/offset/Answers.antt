@@ -4,7 +4,8 @@ use Prim.Native.Nat.{ℕ, ◌-◌, ◌*◌}
 use native.Mathlib.Omega.{arith}
 use lib.IntN.{ℤ, pos, nat_abs, ◌+ℤ◌}
 use Rattle.signed.specs.Laws.Sign.{back}
-use Rattle.locate.specs.Internal.RangeLaws.{above-bottom, offset_up}
+use Rattle.locate.specs.Internal.RangeLaws.{offset_up}
+use Rattle.locate.proofs.Laws.Above.{above-bottom}
 use Rattle.locate.proofs.offset.Goals as goal
 use Rattle.locate.proofs.offset.Goals.{After-shifted-up}
 

@@ -74,9 +74,6 @@ unfolding is_belt
 belt-ends (pos a) = same_test a 666666666666666666 (3 * a) (2 * 10 ^ 18) (omega arith) (omega arith)
 belt-ends (negsuc a) = and-true (leb a 666666666666666665) ∙ same_test a 666666666666666665 (3 * suc a) (2 * 10 ^ 18) (omega arith) (omega arith)
 
-pub above-bottom : (z : ℤ) → is_belt z ≡ true → le_z (neg_ℤ (pos 666666666666666666)) z ≡ true
-above-bottom z t = and_left _ _ (belt-ends z ∙ t)
-
 -- 2 x 10^18 - 3z, by how far z is above the bottom
 pub offset_up : (z : ℤ) → is_belt z ≡ true → (3 * nat_abs (z +ℤ pos 666666666666666666) ≤ 3999999999999999998) ×
     (3999999999999999998 - 3 * nat_abs (z +ℤ pos 666666666666666666) ≡ offset_of z)
