@@ -1,0 +1,16 @@
+-- `answer_all` meets its contract: each turn answers the line that it was handed. Assumes nothing.
+use mathlib.Core.Path.{◌≡◌}
+use mathlib.Core.List.{[]}
+use Prim.Native.Nat.{◌≤◌}
+use lib.ListN.{length}
+use Rattle.lines.specs.Fold.{OfEnded}
+use Rattle.name_fixes.specs.Answers.{with_answer, Written}
+use Rattle.name_fixes.proofs.answer_all.Given as goal
+
+abbrev pub invariant-loop-turns : goal.invariant-loop-turns
+invariant-loop-turns l =
+    (l.from ≤ l.end) × (l.end ≤ length l.bytes) × (l.waiting ≤ length l.out) × (length l.bytes ≡ length l.initial.bytes) × (length l.room ≡ length l.initial.room)
+    × (length l.out ≡ length l.initial.out) × Written (OfEnded (with_answer l.setting) []) l.out l.waiting
+
+abbrev pub decreases-loop-turns : goal.decreases-loop-turns
+decreases-loop-turns l = l.turns
