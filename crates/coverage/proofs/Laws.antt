@@ -1,17 +1,17 @@
 -- A name more is read; a name is asked for; names are printed part by part. Assumes nothing.
 use mathlib.Core.Path.{◌≡◌, refl, sym, ap, ◌∙◌, subst}
-use mathlib.Core.Logic.{◌⊎◌, ⊎_elim}
+use mathlib.Core.Logic.{⊎_elim}
 use mathlib.Core.Bool.{Bool, true, false, not}
 use mathlib.Core.List.{List, [], ◌∷◌, ◌++◌}
-use Prim.Native.Nat.{ℕ, zero, suc, ◌+◌, ◌-◌, ◌≤◌, ◌<◌}
+use Prim.Native.Nat.{ℕ, zero, suc, ◌≤◌, ◌<◌}
 use native.Mathlib.Omega.{arith}
 use lib.Dec.{leb, ltb}
 use lib.ListN.{length, take, drop}
 use lib.Seq.{take_all, length-take-le}
-use borrow.Author.Tests.{lt-ltb, ltb-false, lt-leb, le-leb}
+use borrow.Author.Tests.{lt-ltb, lt-leb, le-leb}
 use Rattle.logic.specs.Laws.Order.{lt-or}
 use Rattle.logic.specs.Refusal.{refuse, given, ◌otherwise◌}
-use Rattle.logic.specs.Laws.Refusal.{stops, passes, allowed}
+use Rattle.logic.specs.Laws.Refusal.{stops, passes}
 use Rattle.code.specs.declared.Coded.{Coded}
 use Rattle.code.specs.declared.Coded.TheVariants as coded-as
 use Rattle.code.specs.Code.{coded, code_in, refusal_in, is_code, is_of}
@@ -38,7 +38,7 @@ use Rattle.asking.specs.declared.Asked.TheVariants.{Refused}
 use Rattle.asking.specs.Ask.{asked, ask_refusal}
 use Rattle.listing.specs.declared.Listed.{Listed}
 use Rattle.listing.specs.declared.Listed.TheVariants as listed_by
-use Rattle.listing.specs.List.{codes_of, codes_in, listing_refusal, listed}
+use Rattle.listing.specs.List.{codes_in, listing_refusal, listed}
 use Rattle.listing.proofs.Laws.Listed.{listed-allowed, listed-taken, listed-refused}
 use Rattle.coverage.specs.declared.NamesRead.{NamesRead}
 use Rattle.coverage.specs.declared.Text.{Text}

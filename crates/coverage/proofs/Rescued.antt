@@ -1,7 +1,6 @@
 -- What a rescue puts stands in front of its rooms. Assumes nothing.
 use mathlib.Core.Path.{◌≡◌, refl, sym, ap, ◌∙◌, subst}
-use mathlib.Core.Bool.{Bool, false, ◌||◌}
-use mathlib.Core.List.{List, [], ◌++◌}
+use mathlib.Core.List.{List, []}
 use Prim.Native.Nat.{ℕ, zero, suc, ◌*◌, ◌≤◌}
 use native.Mathlib.Omega.{arith}
 use lib.Dec.{ltb}
@@ -9,7 +8,7 @@ use lib.ListN.{length, take, drop, length-append, length-drop}
 use lib.Seq.{take_at}
 use borrow.Author.Tests.{ltb-false}
 use Rattle.logic.specs.Lent.{in_front}
-use Rattle.logic.specs.Refusal.{refuse, ◌otherwise◌, given}
+use Rattle.logic.specs.Refusal.{given}
 use Rattle.logic.specs.Laws.Bools.{or_left, or_right}
 use Rattle.logic.specs.Laws.Refusal.{both, allowed}
 use Rattle.loose.specs.Look.{loose_refusal, place_with}

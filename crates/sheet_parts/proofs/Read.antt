@@ -14,7 +14,6 @@ use Rattle.sheet.specs.declared.Standing.{Standing}
 use Rattle.sheet.specs.declared.Judged.{Judged}
 use Rattle.sheet.specs.declared.Judged.TheVariants.{Right, Wrong, Refused}
 use Rattle.sheet.specs.Sheet.{records_of}
-use Rattle.sheet.specs.Verdict.{verdict}
 use Rattle.sheet.specs.Parts.{start_at, told_of, Behind, ours_in, GoesOver}
 use Rattle.sheet.proofs.Laws.Parts.{lead-most, behind-start, behind-part, behind-told, wrong_stays}
 use Rattle.sheet_parts.specs.Printed.{Judges, JudgesText}

@@ -1,17 +1,17 @@
 -- Asking by name: the code of a name is of the arrangement that it is read in, and what `coverage summary FILE NAME` prints of a cell of resolution 0 to 2 is
 -- what `coverage ask FILE NAME` prints. Assumes nothing.
-use Rattle.std.specs.Prelude.{◌≡◌, Bool, true, false, not, List, ltb, length}
+use Rattle.std.specs.Prelude.{◌≡◌, Bool, true, false, not, List, length}
 use Rattle.std.proofs.Math.Path.{refl}
 use Rattle.std.proofs.Common.{sym, ap, ◌∙◌, arith, le-ltb}
 use Prim.Native.Nat.{ℕ, zero, suc, ◌+◌, ◌≤◌}
 use Rattle.logic.specs.Refusal.{refuse, ◌otherwise◌}
 use Rattle.logic.specs.Laws.Refusal.{passes, stops}
 use Rattle.cell.specs.declared.Arrangement.{Arrangement}
-use Rattle.cell.specs.Cell.{IsArrangement, arrangement_refusal}
+use Rattle.cell.specs.Cell.{IsArrangement}
 use Rattle.cell.proofs.Laws.Cell.{arrangement-is}
 use Rattle.code.specs.Code.{is_code, is_of, cell_of, arrangement_of, code_refusal}
 use Rattle.code.proofs.Laws.Code.{arrangement-of, arrangement-code, code-is-cell, code-passes}
-use Rattle.name.specs.Name.{name_of, name_refusal, name_code}
+use Rattle.name.specs.Name.{name_refusal, name_code}
 use Rattle.name.specs.Laws.Name.{accepted, length-name, name-code, name-code-is, code-name}
 use Rattle.reading.specs.Ground.{whole_cells}
 use Rattle.reading.specs.TextReading.{nodes_of, text_arrangement}

@@ -1,0 +1,45 @@
+-- `list_text` meets its contract: the codes listed have their room, and all their names are written. Assumes nothing.
+use mathlib.Core.Path.{sym, ap}
+use Prim.Native.Nat.{◌≤◌}
+use lib.ListN.{length}
+use lib.Seq.{length-take-le}
+use Rattle.report.specs.Lines.{number_line}
+use Rattle.report.proofs.Laws.Put.{put-length}
+use Rattle.listing.proofs.Laws.Listed.{listed-fits}
+use Rattle.coverage.proofs.Laws.{list_written, list-refused, waits-fit}
+use native.Mathlib.Omega.{arith}
+use Rattle.coverage.proofs.list_text.Goals as goal
+use Rattle.coverage.proofs.list_text.Goals.{In-Count}
+
+count : (c : In-Count) → c.in-Count.count ≤ length c.args.codes.now
+count c =
+    let a = c.args in
+    listed-fits a.text.now a.codes.now c.list.ensures.value _ c.in-Count.is
+
+pub slice_bounds-put_all_names-end : goal.slice_bounds-put_all_names-end
+slice_bounds-put_all_names-end c = let l = c.list in omega (arith, count (goal.at.slice_bounds-put_all_names-end c).In-Count)
+
+pub slice_bounds-put_all_names-end-in-Count : goal.slice_bounds-put_all_names-end-in-Count
+slice_bounds-put_all_names-end-in-Count c = sym (length-take-le _ _ (omega (arith, count (goal.at.slice_bounds-put_all_names-end-in-Count c).In-Count)))
+
+pub returns-in-Count : goal.returns-in-Count
+returns-in-Count c =
+    let a = c.args in
+    let l = c.list in
+    let p = c.put_all_names in
+    let w = c.waiting.ensures in
+    record {
+      list_written = list_written a.text.now a.codes.now l.ensures.value _ l.new.codes p.new.out p.result _ c.in-Count.is l.ensures.codes_after p.ensures w;
+      end_in_bounds = omega (arith, w, waits-fit _ p.new.out p.result p.ensures);
+    }
+
+pub returns-in-Refused : goal.returns-in-Refused
+returns-in-Refused c =
+    let a = c.args in
+    let p = c.put_line in
+    let fits : p.result ≤ length a.out.now = omega (arith, c.requires, p.ensures.upper_bound) in
+    let same = put-length 0 (number_line c.in-Refused.refusal) a.out.now (omega (arith, p.ensures.put.ends)) in
+    record {
+      list_written = list-refused a.text.now a.codes.now c.list.ensures.value _ _ {later = p.new.out} c.in-Refused.is p.ensures.put fits;
+      end_in_bounds = omega (arith, same, ap length p.ensures.put.is);
+    }
