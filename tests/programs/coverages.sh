@@ -42,8 +42,10 @@ printf '%b' "${H}NOPQRS" >all.cvr
 try "six faces" 'coverage check all.cvr' "0 0 1 15 0 0 6 $((6 * 9 ** 15))\n" ''
 cp two.cvr 'two cells of P.cvr'
 try "a file name with spaces" "coverage list 'two cells of P.cvr'" 'P3\nP41\n' ''
-cp two.cvr "$(printf 'n\xc3\xa9v\xe9.cvr')"
+cp two.cvr "$(printf 'n\xc3\xa9v\xc3\xa9.cvr')"
 try "a file name with bytes above 127" "coverage list n*v*.cvr" 'P3\nP41\n' ''
+cp two.cvr "$(printf 'no\xe9.cvr')"
+try "a file name that is no UTF-8, which the library does not open" "coverage list no*.cvr" '' "$(printf 'coverage: no\xe9.cvr: Invalid or incomplete multibyte or wide character')"
 cp two.cvr -- -two
 try "a file name with a dash" 'coverage list -two' 'P3\nP41\n' ''
 in_parts() { head -c 3 two.cvr; sleep 0.1; tail -c +4 two.cvr | head -c 7; sleep 0.1; tail -c +11 two.cvr; }
