@@ -1,12 +1,12 @@
 -- `list_text` meets its contract: the codes listed have their room, and all their names are written. Assumes nothing.
-use mathlib.Core.Path.{sym, ap}
+use mathlib.Core.Path.{ap}
 use Prim.Native.Nat.{◌≤◌}
 use lib.ListN.{length}
-use lib.Seq.{length-take-le}
 use Rattle.report.specs.Lines.{number_line}
 use Rattle.report.proofs.Laws.Put.{put-length}
 use Rattle.listing.proofs.Laws.Listed.{listed-fits}
 use Rattle.coverage.proofs.Laws.{list_written, list-refused, waits-fit}
+use Rattle.std.proofs.lemmas.Grind.{common_steps}
 use native.Mathlib.Omega.{arith}
 use Rattle.coverage.proofs.list_text.Goals as goal
 use Rattle.coverage.proofs.list_text.Goals.{In-Count}
@@ -20,7 +20,7 @@ pub slice_bounds-put_all_names-end : goal.slice_bounds-put_all_names-end
 slice_bounds-put_all_names-end c = let l = c.list in omega (arith, count (goal.at.slice_bounds-put_all_names-end c).In-Count)
 
 pub slice_bounds-put_all_names-end-in-Count : goal.slice_bounds-put_all_names-end-in-Count
-slice_bounds-put_all_names-end-in-Count c = sym (length-take-le _ _ (omega (arith, count (goal.at.slice_bounds-put_all_names-end-in-Count c).In-Count)))
+slice_bounds-put_all_names-end-in-Count c = let h = count (goal.at.slice_bounds-put_all_names-end-in-Count c).In-Count in grind (arith, common_steps, h)
 
 pub returns-in-Count : goal.returns-in-Count
 returns-in-Count c =
