@@ -10,6 +10,10 @@ import os
 import re
 
 LIST = "tools/theorems.txt"
+# Other files of theorems that rest on such a definition.
+MORE = {
+    "authalic": ["Internal.SumLaws", "Internal.AnswerLaws"],
+}
 
 
 def read(f):
@@ -46,7 +50,7 @@ def to_move(crate):
         for m in uses[todo.pop()] - needed:
             needed.add(m)
             todo.append(m)
-    moved = {m for m in known if m == "Laws" or m.startswith("Laws.")}
+    moved = {m for m in known if m == "Laws" or m.startswith("Laws.")} | (set(MORE.get(crate, ())) & set(known))
     grown = True
     while grown:
         more = {m for m in known if m not in moved and m not in ("Lib", "Internal") and uses[m] & moved}

@@ -1,6 +1,4 @@
-pub mod AnswerLaws
 pub mod Approximation
 pub mod PointLaws
 pub mod SeriesLaws
 pub mod ShareLaws
-pub mod SumLaws

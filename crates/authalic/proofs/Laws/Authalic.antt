@@ -9,9 +9,9 @@ use Rattle.signed.specs.Sign.{negative, with_sign}
 use Rattle.signed.specs.Laws.Sign.{sign-and-size, size-between, minus-plain, neg-sub, sub-size, sub-le-left}
 use Rattle.authalic.specs.Sums.{above, below, error, Near}
 use Rattle.authalic.specs.Computed.{sine_word, authalic_sine}
-use Rattle.authalic.specs.Internal.SumLaws.{above-is, above_odd, times-opposite, opposite-times}
+use Rattle.authalic.proofs.Internal.SumLaws.{above-is, above_odd, times-opposite, opposite-times}
 use Rattle.authalic.specs.Internal.SeriesLaws.{exact}
-use Rattle.authalic.specs.Internal.AnswerLaws.{sine-near, sine-small, sine-zero, sine-pole, sine-sphere, sine-rises}
+use Rattle.authalic.proofs.Internal.AnswerLaws.{sine-near, sine-small, sine-zero, sine-pole, sine-sphere, sine-rises}
 use Rattle.authalic.specs.Authalic.{Geodetic, is_sine, is_geodetic, sine_refusal, eccentricity_refusal, Authalic}
 use Rattle.authalic.proofs.Laws.Range.{tested, passed}
 pub use Rattle.authalic.proofs.Laws.Range.{geodetic-tests, geodetic-range}

@@ -5,7 +5,7 @@ use Rattle.std.proofs.Math.IntN.{pow, one}
 use Rattle.signed.specs.Laws.Times.{times-neg}
 use Rattle.authalic.specs.Sums.{term, sum, above, below, error}
 use Rattle.authalic.specs.Internal.SeriesLaws.{divides}
-use Rattle.authalic.specs.Internal.SumLaws.{power-power}
+use Rattle.authalic.proofs.Internal.SumLaws.{power-power}
 
 -- what the powers of ten come to
 tens : (k : ℕ) → k < 10 → (10 ^ 12) ^ k * (10 ^ 18) ^ (2 * k + 1) * 10 ^ (48 * (9 - k)) ≡ 10 ^ 450

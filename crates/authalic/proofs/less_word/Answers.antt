@@ -3,7 +3,7 @@ use mathlib.Core.Path.{ap, ◌∙◌}
 use Prim.Native.Nat.{ℕ, ◌+◌, ◌-◌, ◌/◌, ◌≤◌}
 use native.Mathlib.Omega.{arith}
 use Rattle.authalic.specs.Computed.{share_word, less_word}
-use Rattle.authalic.specs.Internal.AnswerLaws.{product_small}
+use Rattle.authalic.proofs.Internal.AnswerLaws.{product_small}
 use Rattle.authalic.proofs.less_word.Goals as goal
 use Rattle.authalic.proofs.less_word.Goals.{After-high-w}
 

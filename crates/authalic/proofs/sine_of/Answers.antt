@@ -8,7 +8,7 @@ use lib.IntN.{pos, neg_ℤ, nat_abs}
 use Rattle.signed.specs.Sign.{negative}
 use Rattle.signed.specs.Laws.Sign.{back, back_as, neg-sub}
 use Rattle.authalic.specs.Computed.{sine_word, authalic_sine}
-use Rattle.authalic.specs.Internal.AnswerLaws.{sine-small}
+use Rattle.authalic.proofs.Internal.AnswerLaws.{sine-small}
 use Rattle.authalic.specs.Authalic.{Geodetic}
 use Rattle.authalic.proofs.Laws.Authalic.{geodetic-range, sine-size}
 use Rattle.authalic.proofs.sine_of.Goals as goal

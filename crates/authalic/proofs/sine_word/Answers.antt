@@ -3,7 +3,7 @@ use mathlib.Core.Path.{◌≡◌, ap, ap₂, ◌∙◌}
 use Prim.Native.Nat.{ℕ, ◌-◌, ◌^◌}
 use native.Mathlib.Nat.{le_refl}
 use Rattle.authalic.specs.Computed.{eccentricity_word, point_word, series_word, less_word, sine_word}
-use Rattle.authalic.specs.Internal.AnswerLaws.{point-hundredth, value-least, value-most, value-rise, answer-fits}
+use Rattle.authalic.proofs.Internal.AnswerLaws.{point-hundredth, value-least, value-most, value-rise, answer-fits}
 use Rattle.authalic.proofs.sine_word.Goals as goal
 use Rattle.authalic.proofs.sine_word.Goals.{After-less_word, After-point_word, After-point_word-2, After-series_word-above, After-series_word-below}
 
