@@ -19,7 +19,7 @@ pub returns-then-not-is_code : goal.returns-then-not-is_code
 returns-then-not-is_code c = es.judge-four c.loop-i.invariant (omega arith) (sym c.is_code.ensures ∙ c.if-not-is_code.true)
 
 pub overflow_add-end : goal.overflow_add-end
-overflow_add-end c = record { fits = es.end-small-at _ (a-code (goal.at.overflow_add-end c).Else-not-is_code) c.start_in-start.ensures c.size_in.ensures }
+overflow_add-end c = record { fits = es.end-small-at _ (a-code (goal.at.overflow_add-end c).Else-not-is_code) c.start_in-start.ensures (cc) }
 
 pub loop-i-preserved : goal.loop-i-preserved
 loop-i-preserved c =
@@ -28,7 +28,7 @@ loop-i-preserved c =
     let l = f.loop-i in
     let behind : ℕ = refuse (not (leb l.end s.result)) 11 in
     let judged = c.judged-refusal.ensures ∙ ap (λ (own : Bool). refuse (not own) 14 otherwise l.refusal otherwise behind) c.is_of-own.ensures in
-    es.judge-next l.invariant (omega arith) (a-code (goal.at.loop-i-preserved c).Else-not-is_code) s.ensures judged (ap (λ (x : ℕ). s.result + x) c.size_in.ensures)
+    es.judge-next l.invariant (omega arith) (a-code (goal.at.loop-i-preserved c).Else-not-is_code) s.ensures judged (cc)
 
 pub returns : goal.returns
 returns c = es.judge-ends c.loop-i.invariant (omega arith)
