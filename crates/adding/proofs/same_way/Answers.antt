@@ -18,10 +18,10 @@ front c =
     name-front c.args.code (replicate 16 0) refl n.ensures.value n.ensures.name_after c.in-Length.is
 
 pub slice_bounds-last-end : goal.slice_bounds-last-end
-slice_bounds-last-end c = omega (arith, c.if-depth-letters.false, (front (goal.at.slice_bounds-last-end c).In-Length).1)
+slice_bounds-last-end c = omega (arith, (front (goal.at.slice_bounds-last-end c).In-Length).1)
 
 pub slice_bounds-same-end-2 : goal.slice_bounds-same-end-2
-slice_bounds-same-end-2 c = sym (length-take-le _ _ (omega (arith, c.if-depth-letters.false, (front (goal.at.slice_bounds-same-end-2 c).In-Length).1)))
+slice_bounds-same-end-2 c = sym (length-take-le _ _ (omega (arith, (front (goal.at.slice_bounds-same-end-2 c).In-Length).1)))
 
 pub returns : goal.returns
 returns c = λ z.
@@ -29,4 +29,4 @@ returns c = λ z.
     let h = front (goal.at.returns c).In-Length in
     let b = c.code_name.new.name in
     let n = c.in-Length.letters in
-    c.same.ensures.0 z ∙ sym (take-take a.depth n b (omega (arith, c.if-depth-letters.false))) ∙ ap (take a.depth) h.2
+    c.same.ensures.0 z ∙ sym (take-take a.depth n b (omega arith)) ∙ ap (take a.depth) h.2
