@@ -12,6 +12,7 @@ import re
 LIST = "tools/theorems.txt"
 # Other files of theorems that rest on such a definition.
 MORE = {
+    "asking": ["Internal.CountNodes"],
     "authalic": ["Internal.SumLaws", "Internal.AnswerLaws"],
 }
 

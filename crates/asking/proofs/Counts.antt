@@ -14,7 +14,7 @@ use Rattle.reading.specs.Letters.{letter_codes, is_letter, letter_count}
 use Rattle.reading.specs.TextReading.{nodes_of, is_text, body_start, text_arrangement}
 use Rattle.walk.specs.Laws.Walk.{byte_at}
 use Rattle.asking.specs.Settle.{not_above, settled_by, settled}
-use Rattle.asking.specs.Internal.CountNodes.{one-most, text-count, text-all}
+use Rattle.asking.proofs.Internal.CountNodes.{one-most, text-count, text-all}
 
 pub count-step : (t : List ℕ) (i : ℕ) → i < length t → letter_count (drop i t) ≡ cond (is_letter (get_or t i 0)) 1 0 + letter_count (drop (i + 1) t)
 unfolding letter_count

@@ -35,7 +35,7 @@ use Rattle.walk.specs.Laws.Past.{node-whole, node-listed}
 use Rattle.walk.specs.Laws.LetterWalk.{count-letter, count-open, count-shut}
 use Rattle.asking.specs.Internal.AskNodes.{any_in, nodes-asked, in-short, in-behind, in-finer}
 use Rattle.asking.specs.Internal.CodeOrder.{no_later}
-use Rattle.asking.specs.Internal.CountNodes.{in_all, up_to, up-most, count-nodes, text-count, text-all, text-up, no-later-before, no-later-around, up-behind, up-finer, up-all}
+use Rattle.asking.proofs.Internal.CountNodes.{in_all, up_to, up-most, count-nodes, text-count, text-all, text-up, no-later-before, no-later-around, up-behind, up-finer, up-all}
 use Rattle.asking.specs.Internal.Reach.{Reaches}
 
 -- the byte at a place, where the bytes from there on are known

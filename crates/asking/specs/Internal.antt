@@ -1,4 +1,3 @@
 pub mod AskNodes
 pub mod CodeOrder
-pub mod CountNodes
 pub mod Reach
