@@ -12,8 +12,12 @@ import re
 LIST = "tools/theorems.txt"
 # Other files of theorems that rest on such a definition.
 MORE = {
+    "adding": ["Internal.WithLaws"],
     "asking": ["Internal.CountNodes"],
     "authalic": ["Internal.SumLaws", "Internal.AnswerLaws"],
+    "comparing": ["Internal.Cover", "Internal.Grammar", "Internal.Sums"],
+    "corner": ["Internal.Across", "Internal.Codes"],
+    "encoding": ["Internal.Spelling"],
 }
 
 

@@ -27,7 +27,7 @@ use Rattle.adding.proofs.Laws.Add.{with-text, with-heading}
 use Rattle.adding.specs.Internal.Become.{Becomes}
 use Rattle.adding.specs.Internal.Edit.{edited, EditFits}
 use Rattle.adding.specs.Internal.Fit.{breaks}
-use Rattle.adding.specs.Internal.WithLaws.{cell_bytes, text_edit, name-bytes, edited-with, edit-fits, keeps-edit}
+use Rattle.adding.proofs.Internal.WithLaws.{cell_bytes, text_edit, name-bytes, edited-with, edit-fits, keeps-edit}
 
 -- ---- the name
 

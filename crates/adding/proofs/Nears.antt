@@ -30,7 +30,7 @@ use Rattle.adding.specs.InMind.{LeadsTo, InMind}
 use Rattle.adding.specs.Internal.Grow.{grow}
 use Rattle.adding.specs.Internal.Edit.{name_bytes, edit_of}
 use Rattle.adding.specs.Internal.Find.{Stands, EditIs, Deep, Led, becomes_whole, StartIs, NearEdit}
-use Rattle.adding.specs.Internal.WithLaws.{cell_digits, cell_bytes, text_edit, name-bytes, nodes-with, stands-text}
+use Rattle.adding.proofs.Internal.WithLaws.{cell_digits, cell_bytes, text_edit, name-bytes, nodes-with, stands-text}
 use Rattle.adding.proofs.Ways.{own-stands, deep-grow}
 
 -- the same bytes are the same numbers

@@ -6,4 +6,3 @@ pub mod Fit
 pub mod FitLaws
 pub mod Grow
 pub mod GrowLaws
-pub mod WithLaws

@@ -1,3 +1,4 @@
+pub mod Internal
 pub mod Laws
 pub mod Answers
 pub mod Cells

@@ -22,7 +22,7 @@ use Rattle.comparing.specs.declared.Cursor.{Cursor}
 use Rattle.comparing.specs.declared.Read.{Read}
 use Rattle.comparing.specs.Shared.{some, shared}
 use Rattle.comparing.specs.Compare.{ThreeLists, first_only, second_only, in_both, codes_for, shared_codes}
-use Rattle.comparing.specs.Internal.Grammar.{shared-good}
+use Rattle.comparing.proofs.Internal.Grammar.{shared-good}
 use Rattle.comparing.specs.Internal.Found.{spots_from, sizes_of, Adds, ListFound, WasRead, TextsFound}
 
 -- ---- the cells of nodes of the grammar

@@ -16,7 +16,7 @@ use Rattle.track.specs.declared.Added.TheVariants.{Count, Refused}
 use Rattle.track.specs.Track.{inserted, add_refusal, counted, added, memory}
 use Rattle.corner.specs.Corner.{first_or_last, corner_number}
 use Rattle.corner.specs.List.{face_corner, across_corner, with_corner, in_front}
-use Rattle.corner.specs.Internal.Codes.{adds_none, adds_one}
+use Rattle.corner.proofs.Internal.Codes.{adds_none, adds_one}
 
 -- the count
 pub none-whole : (c : Cell) → c.resolution ≡ 0 → 0 ≡ corner_number c

@@ -11,7 +11,7 @@ use Rattle.cell.specs.declared.Cell.{Cell}
 use Rattle.cell.specs.declared.Arrangement.{Arrangement}
 use Rattle.track.specs.Track.{Held}
 use Rattle.corner.specs.List.{with_corner, first_corners, corner_codes, in_front}
-use Rattle.corner.specs.Internal.Codes.{first-rise, grows, within}
+use Rattle.corner.proofs.Internal.Codes.{first-rise, grows, within}
 
 -- what holds before a direction, with `count` codes put
 pub record Filled (a : Arrangement) (c : Cell) (codes₀ codes : List ℕ) (count d : ℕ) : Type 0 where

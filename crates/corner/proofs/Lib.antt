@@ -1,3 +1,4 @@
+pub mod Internal
 pub mod Facts
 pub mod Laws
 pub mod Answers

@@ -1,3 +1,1 @@
-pub mod Across
-pub mod Codes
 pub mod Square

@@ -20,7 +20,7 @@ use Rattle.history.specs.Settings.{none}
 use Rattle.encoding.specs.Encoding.{mark, settings_bytes, places_bytes, encoding_of}
 use Rattle.encoding.specs.Decoding.{up_to, settings, settings_at, newest_in}
 use Rattle.encoding.proofs.Laws.Encoding.{settings-length, encoding-length}
-use Rattle.encoding.specs.Internal.Spelling.{mark-bytes}
+use Rattle.encoding.proofs.Internal.Spelling.{mark-bytes}
 
 -- ---- the settings of a place
 

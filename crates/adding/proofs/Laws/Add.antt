@@ -32,7 +32,7 @@ use Rattle.adding.specs.declared.Edit.TheVariants as edit-as
 use Rattle.adding.specs.Internal.Edit.{edited}
 use Rattle.adding.specs.Internal.EditLaws.{edited-length, edited-same}
 use Rattle.adding.specs.Internal.Fit.{breaks}
-use Rattle.adding.specs.Internal.WithLaws.{cell_bytes, text_edit, edited-with, edit-fits, keeps-edit, bytes-length}
+use Rattle.adding.proofs.Internal.WithLaws.{cell_bytes, text_edit, edited-with, edit-fits, keeps-edit, bytes-length}
 use Rattle.adding.specs.Add.{cells_with, text_with, keeps_with, added, placed, place_in, length_in}
 
 module _ (t : List ℕ) (e : is_text t ≡ true) (c : Cell) (v : IsCell c) where

@@ -15,7 +15,7 @@ use Rattle.adding.specs.declared.Edit.{Edit}
 use Rattle.adding.specs.Add.{text_with, keeps_with}
 use Rattle.adding.specs.InMind.{InMind}
 use Rattle.adding.specs.Internal.Find.{Stands, Led, NearEdit}
-use Rattle.adding.specs.Internal.WithLaws.{text_edit}
+use Rattle.adding.proofs.Internal.WithLaws.{text_edit}
 use Rattle.adding.proofs.Names.{Spelt, not-nameless, name-spelt, start, add-fits, add-breaks, add-gains}
 use Rattle.adding.proofs.Nears.{text-stands, start-led, start-short, kept_near, kept-with, near-edit, near-gains}
 use native.Mathlib.Omega.{arith}

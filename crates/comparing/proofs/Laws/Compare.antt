@@ -15,9 +15,9 @@ use Rattle.reading.proofs.Laws.Demand.{good-reads, whole-named, named-whole, siz
 use Rattle.reading.proofs.Laws.FewestOf.{whole-fewest, one-fewest}
 use Rattle.comparing.specs.Compare.{OnlyFirst, OnlySecond, InBoth, first_only, second_only, in_both}
 use Rattle.comparing.specs.Shared.{shared}
-use Rattle.comparing.specs.Internal.Grammar.{shared-good}
-use Rattle.comparing.specs.Internal.Cover.{Is, is-like, shared-covers}
-use Rattle.comparing.specs.Internal.Sums.{first-sum, second-sum}
+use Rattle.comparing.proofs.Internal.Grammar.{shared-good}
+use Rattle.comparing.proofs.Internal.Cover.{Is, is-like, shared-covers}
+use Rattle.comparing.proofs.Internal.Sums.{first-sum, second-sum}
 
 reads : (ns : Nodes) → Good Faces 15 0 ns → Reads [] Faces 15 (render Faces ns) ns
 reads ns g = good-reads ns Faces 15 g

@@ -20,8 +20,8 @@ use Rattle.code.proofs.Laws.Code.{code_one, code-cell, code-is-cell, code-arrang
 use Rattle.corner.specs.Corner.{MeetsAtCorner, first_or_last, corner_number}
 use Rattle.corner.specs.List.{face_corner, across_corner, first_corners, corner_codes, codes_at}
 use Rattle.corner.proofs.Laws.Corner.{meets-mutual}
-use Rattle.corner.specs.Internal.Across.{meets-across, across-meets, across-cell, three-rows}
-use Rattle.corner.specs.Internal.Codes.{tally, first-rise, held_first, first-held, total, none}
+use Rattle.corner.proofs.Internal.Across.{meets-across, across-meets, across-cell, three-rows}
+use Rattle.corner.proofs.Internal.Codes.{tally, first-rise, held_first, first-held, total, none}
 
 -- "in rising code order"
 pub corners-rise : (a : Arrangement) (c : Cell) → Rise (corner_codes a c)

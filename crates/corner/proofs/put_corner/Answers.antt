@@ -3,7 +3,7 @@ use mathlib.Core.Path.{◌≡◌, sym, ap, ◌∙◌}
 use mathlib.Core.Bool.{false}
 use Rattle.code.specs.Code.{code_of}
 use Rattle.corner.specs.List.{face_corner, across_corner}
-use Rattle.corner.specs.Internal.Across.{across-cell}
+use Rattle.corner.proofs.Internal.Across.{across-cell}
 use Rattle.corner.proofs.Facts.{put-none, put_one, put-never}
 use Rattle.corner.proofs.put_corner.Goals as goal
 use Rattle.corner.proofs.put_corner.Goals.{After-code_of-code, Else-face_corner}

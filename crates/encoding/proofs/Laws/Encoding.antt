@@ -19,7 +19,7 @@ use Rattle.history.proofs.Laws.Valid.{runs-valid}
 use Rattle.encoding.specs.declared.Decoded.{Decoded}
 use Rattle.encoding.specs.Encoding.{mark, settings_bytes, places_bytes, encoding_of, Encodes}
 use Rattle.encoding.specs.Decoding.{history_form, answer_to, decoded_of}
-use Rattle.encoding.specs.Internal.Spelling.{sound, spells-encoding, encoding-spells}
+use Rattle.encoding.proofs.Internal.Spelling.{sound, spells-encoding, encoding-spells}
 
 -- ---- bytes
 

@@ -21,7 +21,7 @@ use Rattle.code.proofs.Laws.Code.{code_one}
 use Rattle.track.specs.Track.{inserted}
 use Rattle.track.specs.Laws.Track.{holds-old, holds-new, holds-only, inserted-rises}
 use Rattle.corner.specs.List.{face_corner, across_corner, with_corner, first_corners, corner_codes}
-use Rattle.corner.specs.Internal.Across.{across-cell, across-apart, face-corners}
+use Rattle.corner.proofs.Internal.Across.{across-cell, across-apart, face-corners}
 
 -- a corner of the face adds nothing, and any other the code of the cell across
 module _ (a : Arrangement) (c : Cell) (d : ℕ) (held : List ℕ) where
