@@ -2,7 +2,7 @@
 use mathlib.Core.Path.{◌≡◌}
 use Prim.Native.Nat.{◌-◌}
 use lib.ListN.{length, drop}
-use Rattle.rescue.specs.Internal.Marking.{Wrote}
+use Rattle.rescue.proofs.Internal.Marking.{Wrote}
 use Rattle.rescue.proofs.copy.Given as goal
 
 abbrev pub invariant-loop-k : goal.invariant-loop-k

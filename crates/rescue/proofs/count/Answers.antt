@@ -1,7 +1,7 @@
 -- Assumes nothing.
 use native.Mathlib.Omega.{arith}
 use Prim.Native.Nat.{◌-◌}
-use Rattle.rescue.specs.Internal.Marking.{count-length, count-on, count-end}
+use Rattle.rescue.proofs.Internal.Marking.{count-length, count-on, count-end}
 use Rattle.rescue.proofs.count.Goals as goal
 
 pub loop-i-preserved : goal.loop-i-preserved

@@ -2,7 +2,7 @@
 use mathlib.Core.Path.{◌≡◌}
 use Prim.Native.Nat.{◌+◌, ◌*◌, ◌-◌, ◌≤◌}
 use lib.ListN.{length, drop}
-use Rattle.rescue.specs.Internal.Marking.{count_of}
+use Rattle.rescue.proofs.Internal.Marking.{count_of}
 use Rattle.rescue.proofs.count.Given as goal
 
 abbrev pub invariant-loop-i : goal.invariant-loop-i

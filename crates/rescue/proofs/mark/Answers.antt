@@ -2,7 +2,7 @@
 use borrow.Author.Rules.{rules}
 use Prim.Native.Nat.{◌-◌}
 use Rattle.walk.specs.Laws.Walk.{goes-here}
-use Rattle.rescue.specs.Internal.Marking.{on, marking-open, marking-shut, marking-name, marking-end}
+use Rattle.rescue.proofs.Internal.Marking.{on, marking-open, marking-shut, marking-name, marking-end}
 use Rattle.rescue.proofs.mark.Goals as goal
 
 pub after-spot-requires : goal.after-spot-requires

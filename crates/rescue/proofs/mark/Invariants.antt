@@ -3,7 +3,7 @@ use mathlib.Core.Path.{◌≡◌}
 use Prim.Native.Nat.{◌-◌}
 use lib.ListN.{length}
 use Rattle.logic.specs.Rise.{Rise}
-use Rattle.rescue.specs.Internal.Marking.{Marking}
+use Rattle.rescue.proofs.Internal.Marking.{Marking}
 use Rattle.rescue.proofs.mark.Given as goal
 
 abbrev pub invariant-loop-i : goal.invariant-loop-i

@@ -1,5 +1,5 @@
 -- Assumes nothing.
-use Rattle.rescue.specs.Internal.Marking.{kinds-1, kinds-2, kinds-3, kinds-4, fits-1, fits-2, fits-3, fits-4}
+use Rattle.rescue.proofs.Internal.Marking.{kinds-1, kinds-2, kinds-3, kinds-4, fits-1, fits-2, fits-3, fits-4}
 use Rattle.rescue.proofs.put_kinds.Goals as goal
 
 pub put-first-requires : goal.put-first-requires

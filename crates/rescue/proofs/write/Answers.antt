@@ -2,7 +2,7 @@
 use native.Mathlib.Omega.{arith}
 use mathlib.Core.Path.{refl}
 use Prim.Native.Nat.{◌-◌}
-use Rattle.rescue.specs.Internal.Marking.{left-begin, left-room, left-skip, left_step, left-done}
+use Rattle.rescue.proofs.Internal.Marking.{left-begin, left-room, left-skip, left_step, left-done}
 use Rattle.rescue.proofs.write.Goals as goal
 
 pub loop-i-init : goal.loop-i-init

@@ -4,7 +4,7 @@ use Prim.Native.Nat.{◌-◌, ◌≤◌}
 use lib.ListN.{length}
 use Rattle.rescue.specs.Internal.Marks.{changes_in}
 use Rattle.rescue.specs.Rescue.{flat}
-use Rattle.rescue.specs.Internal.Marking.{Wrote, left_at}
+use Rattle.rescue.proofs.Internal.Marking.{Wrote, left_at}
 use Rattle.rescue.proofs.write.Given as goal
 
 abbrev pub invariant-loop-i : goal.invariant-loop-i
