@@ -1,1 +1,4 @@
+pub mod Give
+pub mod Joint
 pub mod Marking
+pub mod Same

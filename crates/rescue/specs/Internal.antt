@@ -1,6 +1,5 @@
 pub mod Find
 pub mod Give
-pub mod Joint
 pub mod Lack
 pub mod Mark
 pub mod Marking

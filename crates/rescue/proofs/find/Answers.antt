@@ -12,7 +12,7 @@ use Rattle.proper.proofs.Laws.Front.{put-fits, put_front}
 use Rattle.proper.specs.Wholes.{loose_codes}
 use Rattle.rescue.specs.Internal.Marks.{lacking}
 use Rattle.rescue.specs.Internal.Lack.{left-front}
-use Rattle.rescue.specs.Internal.Joint.{arranged, made-ready, made-codes, keys-rise, mark-ready, marked}
+use Rattle.rescue.proofs.Internal.Joint.{arranged, made-ready, made-codes, keys-rise, mark-ready, marked}
 use Rattle.rescue.proofs.find.Goals as goal
 
 pub put_wholes-answers-requires : goal.put_wholes-answers-requires

@@ -1,8 +1,9 @@
 -- `give` meets its contract: both rooms are tested before the text and the changes are put. Assumes nothing.
 use native.Mathlib.Omega.{arith}
 use mathlib.Core.Path.{sym, subst}
-use Rattle.rescue.specs.Internal.Give.{Gives, gives-no-text, gives-no-list, gives_both}
-use Rattle.rescue.specs.Internal.Joint.{flat-room}
+use Rattle.rescue.specs.Internal.Give.{Gives}
+use Rattle.rescue.proofs.Internal.Give.{gives-no-text, gives-no-list, gives_both}
+use Rattle.rescue.proofs.Internal.Joint.{flat-room}
 use Rattle.rescue.proofs.give.Goals as goal
 
 pub returns-then-out-made : goal.returns-then-out-made

@@ -1,7 +1,8 @@
 -- `give_same` meets its contract: the room is tested before the text is put. Assumes nothing.
 use native.Mathlib.Omega.{arith}
 use mathlib.Core.Path.{sym, subst}
-use Rattle.rescue.specs.Internal.Same.{GivesSame, same-no-room, same-given}
+use Rattle.rescue.specs.Internal.Same.{GivesSame}
+use Rattle.rescue.proofs.Internal.Same.{same-no-room, same-given}
 use Rattle.rescue.proofs.give_same.Goals as goal
 
 pub returns-then-out-text : goal.returns-then-out-text

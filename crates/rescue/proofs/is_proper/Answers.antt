@@ -1,6 +1,6 @@
 -- `is_proper` meets its contract: what the reader accepts is read as version 1. Assumes nothing.
 use mathlib.Core.Path.{sym, ◌∙◌}
-use Rattle.rescue.specs.Internal.Same.{text_same}
+use Rattle.rescue.proofs.Internal.Same.{text_same}
 use Rattle.rescue.proofs.is_proper.Goals as goal
 
 pub returns-in-Text : goal.returns-in-Text

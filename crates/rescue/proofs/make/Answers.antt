@@ -1,5 +1,5 @@
 -- `make` meets its contract: nothing is refused. Assumes nothing.
-use Rattle.rescue.specs.Internal.Give.{make-sure, make-taken}
+use Rattle.rescue.proofs.Internal.Give.{make-sure, make-taken}
 use Rattle.rescue.proofs.make.Goals as goal
 
 pub put_text-requires : goal.put_text-requires

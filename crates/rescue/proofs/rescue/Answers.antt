@@ -1,7 +1,7 @@
 -- `rescue` meets its contract: what the look tells is refused or rescued. Assumes nothing.
 use mathlib.Core.Path.{sym, subst, ◌∙◌}
 use Rattle.rescue.specs.Rescue.{RescueIs}
-use Rattle.rescue.specs.Internal.Joint.{look-loose, look-refused}
+use Rattle.rescue.proofs.Internal.Joint.{look-loose, look-refused}
 use Rattle.rescue.proofs.rescue.Goals as goal
 
 pub rescue_loose-requires : goal.rescue_loose-requires

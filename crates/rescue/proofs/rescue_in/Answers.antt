@@ -6,7 +6,7 @@ use Prim.Native.Nat.{ℕ, ◌-◌}
 use lib.ListN.{length, take}
 use Rattle.loose.proofs.Laws.Look.{loose-own, loose-short}
 use Rattle.proper.proofs.Laws.Text.{loose-body, loose-long, codes-fit, proper-text, proper-fits}
-use Rattle.rescue.specs.Internal.Joint.{arranged, take-room}
+use Rattle.rescue.proofs.Internal.Joint.{arranged, take-room}
 use Rattle.rescue.proofs.rescue_in.Goals as goal
 
 pub put_largest-count-requires : goal.put_largest-count-requires

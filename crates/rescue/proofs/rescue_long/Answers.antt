@@ -1,7 +1,7 @@
 -- `rescue_long` meets its contract: the lent memory is as long as any text, and clear. Assumes nothing.
 use native.Mathlib.Omega.{arith}
 use Rattle.loose.proofs.Laws.Look.{loose-short}
-use Rattle.rescue.specs.Internal.Joint.{zeros-made}
+use Rattle.rescue.proofs.Internal.Joint.{zeros-made}
 use Rattle.rescue.proofs.rescue_long.Goals as goal
 
 pub rescue_in-requires : goal.rescue_in-requires

@@ -1,6 +1,6 @@
 -- `rescue_short` meets its contract: the lent memory is as long as the text, and clear. Assumes nothing.
 use native.Mathlib.Omega.{arith}
-use Rattle.rescue.specs.Internal.Joint.{zeros-made}
+use Rattle.rescue.proofs.Internal.Joint.{zeros-made}
 use Rattle.rescue.proofs.rescue_short.Goals as goal
 
 pub rescue_in-requires : goal.rescue_in-requires
