@@ -5,7 +5,8 @@ use mathlib.Core.List.{List, [], ◌∷◌, ◌++◌, append_assoc}
 use Prim.Native.Nat.{ℕ, ◌+◌, ◌-◌, ◌≤◌}
 use native.Mathlib.Omega.{arith}
 use lib.Dec.{ltb}
-use lib.ListN.{length, take}
+use lib.ListN.{length, take, length-append}
+use lib.Seq.{length-take-le}
 use borrow.Author.Tests.{ltb-false}
 use Rattle.lines.specs.Fold.{OfBytes, OfEnded}
 use Rattle.lines.specs.Laws.Fold.{then-line, then-last, then-none}
@@ -21,7 +22,7 @@ use Rattle.console.specs.declared.LineRead.TheVariants.{Line, Last}
 use Rattle.console.specs.Input.{Given}
 use Rattle.name_fixes.specs.declared.Waiting.{Waiting}
 use Rattle.name_fixes.specs.declared.Waiting.TheVariants.{Count, Failed}
-use Rattle.name_fixes.specs.Answers.{with_answer, Answered, Written, AllAnswered}
+use Rattle.name_fixes.specs.Answers.{with_answer, Answered, Written, AllAnswered, LastWaits}
 
 -- what waits, or all of it printed, and more behind
 waits-more :
@@ -33,6 +34,13 @@ waits-more P Q answer out later waiting n f (printed, p) e = go (ltb (length out
     go true e = (printed ++ take waiting out, subst Q (ap (λ (x : List ℕ). printed ++ take waiting out ++ x) (sym e)) (f (printed ++ take waiting out) p))
     go false e = (printed, subst Q (append_assoc printed (take waiting out) answer ∙ ap (λ (x : List ℕ). printed ++ x) (sym e)) (f (printed ++ take waiting out) p))
 
+-- an answer has bytes, so something waits behind it
+pub answer-waits : (s : Setting) (line : List ℕ) (waiting : ℕ) (out later : List ℕ) (n : ℕ) → Answered s line waiting out later (Count n) → 1 ≤ n
+answer-waits s line waiting out later n (e, l) =
+    let before : List ℕ = take (start_for (length out) waiting 21) out in
+    let answer : List ℕ = answer_of (line_code s line) in
+    omega (arith, length-take-le n later l, ap length e, length-append before (answer ++ (10 ∷ [])), length-append answer (10 ∷ []))
+
 module _ (s : Setting) (room : List ℕ) (big : 43 ≤ length room) where
   -- the answer to a line that was cut to its room
   cut-answer : (n : ℕ) (x : List ℕ) → take n room ≡ take (length room) x → answer_line s (take n room) ≡ answer_line s x
@@ -41,13 +49,15 @@ module _ (s : Setting) (room : List ℕ) (big : 43 ≤ length room) where
   module _ (out later : List ℕ) (waiting n : ℕ) (v : Written (OfEnded (with_answer s) []) out waiting) (r : Waiting) (a : Answered s (take n room) waiting out later r) where
     answered :
         (Q : List ℕ → Type 0) (x : List ℕ) → ((w : List ℕ) → OfEnded (with_answer s) [] w → Q (with_answer s w x)) → take n room ≡ take (length room) x →
-        (k : ℕ) → Answered s (take n room) waiting out later (Count k) → Written Q later k × (k ≤ length later)
+        (k : ℕ) → Answered s (take n room) waiting out later (Count k) → Written Q later k × (k ≤ length later) × (1 ≤ k)
     answered Q x f e k (b, l) =
-        (waits-more (OfEnded (with_answer s) []) Q (answer_line s x) out later waiting k f v (b ∙ ap (λ (y : List ℕ). take (start_for (length out) waiting 21) out ++ y) (cut-answer n x e)), l)
+        let same = b ∙ ap (λ (y : List ℕ). take (start_for (length out) waiting 21) out ++ y) (cut-answer n x e) in
+        let more = waits-more (OfEnded (with_answer s) []) Q (answer_line s x) out later waiting k f v same in
+        (more, l, answer-waits s (take n room) waiting out later k (b, l))
 
     -- a line that ended
     pub line-answered :
-        (left bytes : List ℕ) (k from end : ℕ) → Given left bytes room (Line n from end) → r ≡ Count k → Written (OfEnded (with_answer s) []) later k × (k ≤ length later)
+        (left bytes : List ℕ) (k from end : ℕ) → Given left bytes room (Line n from end) → r ≡ Count k → Written (OfEnded (with_answer s) []) later k × (k ≤ length later) × (1 ≤ k)
     line-answered left bytes k from end (more, x, u, g, e, i, j, l) h =
         answered (OfEnded (with_answer s) []) x (λ w o. then-line (with_answer s) x u o) e k (subst (Answered s (take n room) waiting out later) h a)
 
@@ -56,8 +66,15 @@ module _ (s : Setting) (room : List ℕ) (big : 43 ≤ length room) where
     last-answered left bytes (more, u, l, e, i) = go r a
       where
         go : (q : Waiting) → Answered s (take n room) waiting out later q → AllAnswered s later q
-        go (Count k) b = answered (OfBytes (with_answer s) []) (left ++ more) (λ w o. then-last (with_answer s) (left ++ more) u l o) e k b
+        go (Count k) b =
+            let v = answered (OfBytes (with_answer s) []) (left ++ more) (λ w o. then-last (with_answer s) (left ++ more) u l o) e k b in
+            (v.0, v.1)
         go Failed b = tt
+
+-- so a line's answer waits
+pub last-waits : (s : Setting) (line : List ℕ) (waiting : ℕ) (out first later : List ℕ) (r : Waiting) → Answered s line waiting out later r → LastWaits first later r
+last-waits s line waiting out first later (Count n) a = λ z. absurd (omega (arith, z, answer-waits s line waiting out later n a))
+last-waits s line waiting out first later Failed a = tt
 
 -- no further line
 pub none-answered : (s : Setting) (out : List ℕ) (waiting : ℕ) → Written (OfEnded (with_answer s) []) out waiting → waiting ≤ length out → AllAnswered s out (Count waiting)

@@ -24,3 +24,8 @@ Written P out waiting = (printed : List ℕ) × P (printed ++ take waiting out)
 abbrev pub AllAnswered : Setting → (out : List ℕ) → Waiting → Type 0
 AllAnswered s out (Count n) = Written (OfBytes (with_answer s) []) out n × (n ≤ length out)
 AllAnswered s out Failed = Unit {0}
+
+-- the last answer waits: where nothing does, there was no line, and the room is as it was lent
+abbrev pub LastWaits : (out later : List ℕ) → Waiting → Type 0
+LastWaits out later (Count n) = n ≡ 0 → later ≡ out
+LastWaits out later Failed = Unit {0}

@@ -4,7 +4,7 @@
 #![tactic(auto)]
 
 ghost use Rattle.std.specs.Prelude.{◌≤◌, length};
-ghost use Rattle.name_fixes.specs.Answers.{Answered, AllAnswered};
+ghost use Rattle.name_fixes.specs.Answers.{Answered, AllAnswered, LastWaits};
 
 use console::{Arguments, LineRead, Room};
 use flight::Setting;
@@ -42,7 +42,8 @@ fn answer_all(
     out: &mut [u8],
 ) -> Waiting
     requires { (43 ≤ length room.old) × (21 ≤ length out.old) }
-    ensures { AllAnswered setting out.new result }
+    ensures all_answered { AllAnswered setting out.new result }
+    ensures last_waits { LastWaits out.old out.new result }
 {
     let mut from: usize = 0;
     let mut end: usize = 0;

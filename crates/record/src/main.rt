@@ -3,7 +3,7 @@
 // text is all that is held of it. record settings FILE [REVISION] [to FILE]: the same with the settings of a revision, the newest if none is given (02 W-209).
 #![tactic(auto)]
 
-ghost use Rattle.std.specs.Prelude.{◌≡◌, ◌⊎◌, false, ◌+◌, ◌≤◌, ◌<◌, length, take};
+ghost use Rattle.std.specs.Prelude.{◌≡◌, ◌⊎◌, true, false, ◌+◌, ◌≤◌, ◌<◌, length, take};
 ghost use Rattle.lines.specs.Fold.{OfBytes};
 ghost use Rattle.adding.specs.InMind.{InMind};
 ghost use Rattle.flight.specs.Setting.{setting_refusal};
@@ -170,6 +170,14 @@ fn keep_text(rt: &HostRuntime, path: &[u8], text: &[u8], flight: Flight) -> Flig
     }
 }
 
+// The same on the way, where nothing is kept but a text that has changed.
+fn keep_changed(rt: &HostRuntime, path: &[u8], text: &[u8], flight: Flight) -> Flight
+    requires { (length path.now ≤ 4096) × (flight.recording.length ≤ length text.now) × (flight.changed ≡ true) }
+    ensures { (result ≡ flight) ⊎ (result ≡ kept flight) }
+{
+    keep_text(rt, path, text, flight)
+}
+
 // The same after each minute's worth of lines in which the text has changed.
 fn checkpoint(rt: &HostRuntime, path: &[u8], text: &[u8], number: u64, flight: Flight) -> Flight
     requires { (length path.now ≤ 4096) × (flight.recording.length ≤ length text.now) }
@@ -181,7 +189,7 @@ fn checkpoint(rt: &HostRuntime, path: &[u8], text: &[u8], number: u64, flight: F
     if !flight.changed {
         return flight;
     }
-    keep_text(rt, path, text, flight)
+    keep_changed(rt, path, text, flight)
 }
 
 // All lines of the flight, or where the input fails those that ended before. No flight has so many lines.
