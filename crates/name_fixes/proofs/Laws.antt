@@ -76,6 +76,10 @@ pub last-waits : (s : Setting) (line : List ℕ) (waiting : ℕ) (out first late
 last-waits s line waiting out first later (Count n) a = λ z. absurd (omega (arith, z, answer-waits s line waiting out later n a))
 last-waits s line waiting out first later Failed a = tt
 
+-- where nothing waits, the room is as it was lent: this holds the definition
+pub none-waits : (out later : List ℕ) → LastWaits out later (Count 0) → later ≡ out
+none-waits out later h = h refl
+
 -- no further line
 pub none-answered : (s : Setting) (out : List ℕ) (waiting : ℕ) → Written (OfEnded (with_answer s) []) out waiting → waiting ≤ length out → AllAnswered s out (Count waiting)
 none-answered s out waiting (printed, o) h = ((printed, then-none (with_answer s) o), h)
