@@ -10,12 +10,13 @@ ghost use Rattle.asking.specs.Internal.Reach.{Reaches};
 
 use cell::Arrangement;
 use reader::Checked;
+use reading::Refused;
 
-// Whether all of the asked cell's finest cells are covered, and how many letters and digits settle it; or the refusal, with the place for 9.
+// Whether a cell is covered, and how many letters and digits of its name settle that.
 #[derive(Clone, Copy)]
-pub enum Asked {
-    Answer { covered: bool, settled: u64 },
-    Refused { refusal: u64, place: u64 },
+pub struct Asked {
+    pub covered: bool,
+    pub settled: u64,
 }
 
 // How far asking reads: the answer, and the place behind the last letter or digit whose code is not above the asked one's.
@@ -155,46 +156,35 @@ fn settled_at(text: &[u8], body: usize, at: usize) -> u64
 }
 
 // The answer of a text of the asked code's arrangement.
-fn answered(text: &[u8], body: usize, code: u64) -> Asked
+fn answered(text: &[u8], body: usize, code: u64) -> Result<Asked, Refused>
     requires { (is_text text.now ≡ true) × (body ≡ body_start text.now) × (is_code code ≡ true) × (arrangement_of code ≡ text_arrangement text.now) }
     ensures { result ≡ asked 0 text.now code }
 {
     let reached = reach(text, body, code);
     let at = reached.at;
-    Asked::Answer {
+    Ok(Asked {
         covered: reached.covered,
         settled: settled_at(text, body, at),
-    }
+    })
 }
 
 // Asking any bytes of any code: 4, 13, 10, 9 and 14, in that order.
-pub fn ask(text: &[u8], code: u64) -> Asked
+pub fn ask(text: &[u8], code: u64) -> Result<Asked, Refused>
     ensures { result ≡ asked (ask_refusal text.now code) text.now code }
 {
     if !code::is_code(code) {
-        return Asked::Refused {
+        return Err(Refused {
             refusal: 4,
             place: 0,
-        };
+        });
     }
-    match reader::check(text) {
-        Checked::Refused { refusal, place } => Asked::Refused { refusal, place },
-        Checked::Text {
-            profile: _,
-            north,
-            south,
-            cells: _,
-            size: _,
-            body,
-        } => {
-            let arrangement = Arrangement { north, south };
-            if !code::is_of(arrangement, code) {
-                return Asked::Refused {
-                    refusal: 14, // of another arrangement
-                    place: 0,
-                };
-            }
-            answered(text, body, code)
-        }
+    let checked = reader::check(text)?;
+    let arrangement = checked.arrangement;
+    if !code::is_of(arrangement, code) {
+        return Err(Refused {
+            refusal: 14, // of another arrangement
+            place: 0,
+        });
     }
+    answered(text, checked.body, code)
 }

@@ -9,6 +9,13 @@ ghost use Rattle.reading.specs.Text.{version_of, level_of, depth_of, heading_len
 // "text longer than 65,536 bytes, read or to be written"
 pub const LONGEST: usize = 65_536;
 
+// Why a text is refused: the number of the refusal, and with 9 the place where the grammar ends.
+#[derive(Clone, Copy)]
+pub struct Refused {
+    pub refusal: u64,
+    pub place: u64,
+}
+
 // What nodes side by side are: faces of which each may hold a list, faces of which N and S stand only whole, or digits.
 #[derive(Clone, Copy)]
 pub enum Level {

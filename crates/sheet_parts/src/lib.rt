@@ -10,8 +10,8 @@ ghost use Rattle.sheet.specs.Sheet.{records_of};
 ghost use Rattle.sheet_parts.specs.Printed.{judged_line, PartsWritten, SheetWritten, Judges, JudgesText};
 
 use cell::Arrangement;
-use console::BytesRead;
 use reader::Checked;
+use reading::Refused;
 use sheet::Judged;
 use std::fs::File;
 
@@ -62,22 +62,15 @@ pub fn put_sheet(rt: &HostRuntime, text: &[u8], out: &mut [u8]) -> SheetPut
     ensures end_in_bounds { result.end ≤ length out.new }
 {
     match reader::check(text) {
-        Checked::Refused { refusal, place } => SheetPut {
+        Err(Refused { refusal, place }) => SheetPut {
             end: 0,
             refusal,
             place,
         },
-        Checked::Text {
-            profile: _,
-            north,
-            south,
-            cells,
-            size: _,
-            body,
-        } => {
-            let arrangement = Arrangement { north, south };
+        Ok(checked) => {
+            let arrangement = checked.arrangement;
             SheetPut {
-                end: put_parts(rt, text, arrangement, body, cells, out),
+                end: put_parts(rt, text, arrangement, checked.body, checked.cells, out),
                 refusal: 0,
                 place: 0,
             }
@@ -101,7 +94,7 @@ fn judge_parts(
 {
     let mut standing = sheet::start(body);
     loop {
-        let BytesRead::Count(count) = console::read_all(rt, b"coverage", path, file, part) else {
+        let Some(count) = console::read_all(rt, b"coverage", path, file, part) else {
             return sheet::told(text, sheet::start(body));
         };
         standing = sheet::go_over(text, arrangement, standing, &part[..count]);
@@ -126,17 +119,10 @@ pub fn judge_file(
     ensures { JudgesText (text_refusal text.now) text.now part.new result }
 {
     match reader::check(text) {
-        Checked::Refused { refusal, place } => Judged::Refused { refusal, place },
-        Checked::Text {
-            profile: _,
-            north,
-            south,
-            cells: _,
-            size: _,
-            body,
-        } => {
-            let arrangement = Arrangement { north, south };
-            judge_parts(rt, text, arrangement, body, file, path, part)
+        Err(Refused { refusal, place }) => Judged::Refused { refusal, place },
+        Ok(checked) => {
+            let arrangement = checked.arrangement;
+            judge_parts(rt, text, arrangement, checked.body, file, path, part)
         }
     }
 }

@@ -18,13 +18,6 @@ ghost use Rattle.writing.specs.Internal.Asked.{asked_refusal};
 use cell::Arrangement;
 use reading::Profile;
 
-// The length of a text that was written, or the number of the refusal.
-#[derive(Clone, Copy)]
-pub enum Written {
-    Length(u64),
-    Refused(u64),
-}
-
 // What was measured: the place of the next code, the bytes that the nodes make, how many of them are whole, and the least depth of version 2 that they keep to.
 #[derive(Clone, Copy)]
 struct Measure {
@@ -422,7 +415,12 @@ pub fn put_text(profile: Profile, arrangement: Arrangement, codes: &[u64], text:
 }
 
 // The text of a good list, into `text`: 15, 13 or 8 where there is none.
-fn write_good(profile: Profile, arrangement: Arrangement, codes: &[u64], text: &mut [u8]) -> Written
+fn write_good(
+    profile: Profile,
+    arrangement: Arrangement,
+    codes: &[u64],
+    text: &mut [u8],
+) -> Result<u64, u64>
     requires { IsProfile profile × IsArrangement arrangement × (codes_refusal arrangement codes.now ≡ 0) }
     ensures value { result ≡ written (fit_refusal profile arrangement codes.now (length text.old)) (length (text_of profile arrangement codes.now)) }
     ensures text_after { text.new ≡ given (fit_refusal profile arrangement codes.now (length text.old)) (text_in profile arrangement codes.now text.old) text.old }
@@ -430,16 +428,16 @@ fn write_good(profile: Profile, arrangement: Arrangement, codes: &[u64], text: &
     let extent = length_of(profile, codes);
     let length = extent.length;
     if breaks(profile, extent.depth) {
-        return Written::Refused(15);
+        return Err(15);
     }
     if length > reading::LONGEST as u64 {
-        return Written::Refused(13);
+        return Err(13);
     }
     if (text.len() as u64) < length {
-        return Written::Refused(8);
+        return Err(8);
     }
     put_text(profile, arrangement, codes, text);
-    Written::Length(length)
+    Ok(length)
 }
 
 // The text of a list of codes, of this version and, in version 2, of this depth, into `text`: 5, 2, 4, 10, 14, 11, 15, 13 or 8 where there is none.
@@ -449,13 +447,13 @@ pub fn write(
     arrangement: Arrangement,
     codes: &[u64],
     text: &mut [u8],
-) -> Written
+) -> Result<u64, u64>
     ensures value { result ≡ written (write_refusal version depth arrangement codes.now (length text.old)) (length (text_of (asks_for version depth) arrangement codes.now)) }
     ensures text_after { text.new ≡ given (write_refusal version depth arrangement codes.now (length text.old)) (text_in (asks_for version depth) arrangement codes.now text.old) text.old }
 {
     let refused = asked_refusal(version, depth, arrangement, codes);
     if refused != 0 {
-        return Written::Refused(refused);
+        return Err(refused);
     }
     if version == 1 {
         return write_good(Profile::Full, arrangement, codes, text);

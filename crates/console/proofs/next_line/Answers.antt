@@ -29,7 +29,7 @@ loop-turns-preserved c =
     let more = c.in-PartEnd.is in
     let part = begun-part l.invariant.5 n.new.room (search rules) _ _ n.ensures more in (
       omega arith,
-      count_fits c.read_more.new.bytes _ c.read_more.ensures c.in-Count.is,
+      count_fits c.read_more.new.bytes _ c.read_more.ensures c.in-Some.is,
       part-kept _ _ _ n.new.room _ n.ensures more,
       search rules,
       search rules,

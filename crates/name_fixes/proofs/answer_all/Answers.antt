@@ -14,7 +14,7 @@ loop-turns-preserved c =
     let n = c.next_line in
     let g = c.in-Line.ensures in
     let roomy : 43 ≤ length n.new.room = omega (arith, n.auto.room, l.invariant.4, c.requires.0) in
-    let v = line-answered c.args.setting n.new.room roomy l.out _ _ c.in-Line.length l.invariant.6 _ c.in-Count.ensures (unread l.bytes l.from l.end) _ c.in-Count.count _ _ g refl in (
+    let v = line-answered c.args.setting n.new.room roomy l.out _ _ c.in-Line.length l.invariant.6 _ c.in-Some.ensures (unread l.bytes l.from l.end) _ c.in-Some.count _ _ g refl in (
       g.6,
       g.7,
       v.1,
