@@ -46,7 +46,7 @@ fn reach(text: &[u8], body: usize, code: u64) -> Reached
     let mut before: u64 = 0;
     let mut size: u64 = code::FACE_SIZE;
     let mut i: usize = body;
-    while i < text.len() {
+    while i < text.len() { // by hand: a turn goes into a list or over a whole node
         let b = text[i];
         if b == b')' {
             return uncovered(i);
@@ -95,10 +95,8 @@ fn letters_in(text: &[u8], from: usize, to: usize) -> u8
     ensures { result ≡ letter_count (drop from text.now) - letter_count (drop to text.now) }
 {
     let mut count: u8 = 0;
-    let mut i = from;
-    while i < to {
+    for i in from..to {
         count += letter_in(text[i]);
-        i += 1;
     }
     count
 }
@@ -121,6 +119,7 @@ fn letters_before(text: &[u8], from: usize, at: usize) -> u64
 {
     let mut count: u64 = 0;
     let mut i = from;
+    // by hand: a turn takes up to 255 bytes
     while i < at {
         let end = part_end(i, at);
         count += letters_in(text, i, end) as u64;
@@ -133,12 +132,10 @@ fn letters_before(text: &[u8], from: usize, at: usize) -> u64
 fn letter_from(text: &[u8], at: usize) -> bool
     ensures { result ≡ ltb 0 (letter_count (drop at text.now)) }
 {
-    let mut i = at;
-    while i < text.len() {
+    for i in at..text.len() {
         if letter_in(text[i]) != 0 {
             return true;
         }
-        i += 1;
     }
     false
 }

@@ -67,12 +67,8 @@ fn put_cells(table: &[u64; 729], codes: &[u64], numbers: &mut [u64])
     requires { Apart table.now × (7 * length codes.now ≤ length numbers.old) }
     ensures { numbers.new ≡ sets numbers.old 0 (cells_of codes.now) }
 {
-    let mut i: usize = 0;
-    let mut at: usize = 0;
-    while i < codes.len() {
-        put_code(table, codes[i], numbers, at);
-        i = i + 1;
-        at = at + 7;
+    for (i, code) in codes.iter().enumerate() {
+        put_code(table, *code, numbers, 7 * i);
     }
 }
 
@@ -146,12 +142,8 @@ fn put_codes(table: &[u16; 729], numbers: &[u64], codes: &mut [u64])
     requires { Woven table.now × (2 * cells_in numbers.now ≤ length codes.old) }
     ensures { codes.new ≡ sets codes.old 0 (codes_of numbers.now) }
 {
-    let mut i: usize = 0;
-    let mut at: usize = 0;
-    while numbers.len() - i >= 6 {
-        put_at(table, numbers, i, codes, at);
-        i = i + 6;
-        at = at + 2;
+    for i in 0..numbers.len() / 6 {
+        put_at(table, numbers, 6 * i, codes, 2 * i);
     }
 }
 

@@ -69,9 +69,7 @@ pub fn say(rt: &HostRuntime, text: &[u8]) {
 fn words_of(bytes: &[u8]) -> usize
     ensures { result ≤ length bytes.now }
 {
-    let mut n = bytes.len();
-    while n > 1 {
-        n = n - 1;
+    for n in (1..bytes.len()).rev() {
         if bytes[n] == b'(' {
             return n - 1;
         }
@@ -165,6 +163,7 @@ pub fn put_all_names(rt: &HostRuntime, codes: &[u64], out: &mut [u8]) -> Option<
 {
     let mut from: usize = 0;
     let mut end: usize = 0;
+    // by hand: a turn goes on by as many names as there is room for
     while from < codes.len() {
         let Some(_) = make_room(rt, out, end, out.len()) else {
             return None; // all that follows too
@@ -440,13 +439,10 @@ fn written(rt: &HostRuntime, program: &[u8], path: &[u8], bytes: &[u8]) -> bool 
 fn folder_length(path: &[u8]) -> usize
     ensures { Folder path.now result }
 {
-    let mut n = path.len();
-    while n > 0 {
-        let before = n - 1;
+    for before in (0..path.len()).rev() {
         if path[before] == b'/' {
-            return n;
+            return before + 1;
         }
-        n = before;
     }
     0
 }
@@ -540,6 +536,7 @@ fn read_on(file: &mut File, buf: &mut [u8]) -> Following
     ensures { result.count ≤ length buf.new }
 {
     let mut count: usize = 0;
+    // by hand: a turn goes on by as many bytes as were read
     while count < buf.len() {
         match file.read(&mut buf[count..]) {
             Ok(more) => {
@@ -829,8 +826,7 @@ pub fn next_line(
     let mut at = from;
     let mut stop = end;
     let mut kept: usize = 0;
-    let mut turns = u64::MAX;
-    while turns > 0 {
+    for _ in 0..u64::MAX {
         match lines::next(&bytes[..stop], at, room, kept) {
             Reached::LineEnd { length, at } => {
                 return LineRead::Line {
@@ -849,7 +845,6 @@ pub fn next_line(
         }
         at = 0;
         stop = count;
-        turns = turns - 1;
     }
     LineRead::Failed
 }

@@ -103,10 +103,8 @@ fn put_corners(arrangement: Arrangement, cell: Cell, codes: &mut [u64])
     ensures { codes.new ≡ in_front (corner_codes arrangement cell) codes.old }
 {
     let mut count: usize = 0;
-    let mut direction: u64 = 0;
-    while direction < 4 {
+    for direction in 0..4 {
         count = put_corner(arrangement, cell, direction, codes, count);
-        direction = direction + 1;
     }
 }
 

@@ -571,6 +571,7 @@ fn say_changes(rt: &HostRuntime, list: &[u64], lines: &mut [u8]) -> usize
 {
     let mut i: usize = 0;
     let mut end: usize = 0;
+    // by hand: a change is two numbers
     while i + 1 < list.len() {
         let at = line_room(rt, lines, end);
         end = report::put_change(list, i, lines, at);

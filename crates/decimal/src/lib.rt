@@ -22,9 +22,8 @@ pub fn whole_in(text: &[u8]) -> Option<u64>
         return None;
     }
     let mut n: u64 = 0;
-    let mut i: usize = 0;
-    while i < text.len() {
-        let b = wide(text[i]);
+    for byte in text {
+        let b = wide(*byte);
         if b < 48 {
             return None;
         }
@@ -32,7 +31,6 @@ pub fn whole_in(text: &[u8]) -> Option<u64>
             return None;
         }
         n = n * 10 + (b - 48);
-        i = i + 1;
     }
     Some(n)
 }
@@ -68,14 +66,12 @@ pub fn number_in(text: &[u8]) -> Option<i64>
 fn ahead_of(text: &[u8], stop: u8) -> usize
     ensures { result ≡ length (ahead stop text.now) }
 {
-    let mut i: usize = 0;
-    while i < text.len() {
-        if text[i] == stop {
+    for (i, byte) in text.iter().enumerate() {
+        if *byte == stop {
             return i;
         }
-        i = i + 1;
     }
-    i
+    text.len()
 }
 
 // The length of a line without the carriage return that may end it.
@@ -116,6 +112,7 @@ fn length_of(x: u64) -> usize
 {
     let mut n: usize = 1;
     let mut rest = x;
+    // by hand: it ends at a size, not after a number of turns known before
     while rest > 9 {
         rest = rest / 10;
         n = n + 1;
@@ -131,10 +128,8 @@ pub fn put_whole(x: u64, out: &mut [u8], at: usize) -> usize
     ensures out_after { out.new ≡ take at out.old ++ (printed x ++ drop (at + length (printed x)) out.old) }
 {
     let end = at + length_of(x);
-    let mut i = end;
     let mut rest = x;
-    while i > at {
-        i = i - 1;
+    for i in (at..end).rev() {
         out[i] = (48 + rest % 10) as u8;
         rest = rest / 10;
     }
@@ -147,10 +142,8 @@ fn ten_to(places: usize) -> u64
     ensures { result ≡ 10 ^ places }
 {
     let mut power: u64 = 1;
-    let mut i: usize = 0;
-    while i < places {
+    for _ in 0..places {
         power = power * 10;
-        i = i + 1;
     }
     power
 }

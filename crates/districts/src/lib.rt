@@ -66,11 +66,9 @@ pub fn put_districts(arrangement: Arrangement, counters: &[u64; 486], out: &mut 
     ensures put { Put 0 (district_lines 0 counters.now) out.old out.new result }
     ensures upper_bound { result ≤ 29160 }
 {
-    let mut i: usize = 0;
     let mut end: usize = 0;
-    while i < 486 {
+    for i in 0..486 {
         end = put_district(arrangement, i as u64, counters[i], out, end);
-        i = i + 1;
     }
     end
 }

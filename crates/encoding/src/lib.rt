@@ -98,13 +98,11 @@ pub fn decode(bytes: &[u8]) -> Decoded
         Err(place) => return refused_at(place),
     };
     let mut kept = history::no_history().kept;
-    let mut place: usize = 0;
-    while place < 32 {
+    for place in 0..32 {
         match settings_at(bytes, 7 + 8 * place, place as u64 <= newest) {
             Ok(settings) => kept[place] = settings,
             Err(at) => return refused_at(at),
         }
-        place = place + 1;
     }
     if bytes.len() > LENGTH {
         return refused_at(LENGTH);
@@ -135,9 +133,7 @@ pub fn encode(history: History, bytes: &mut [u8])
     let kept = history.kept;
     fields::put_number(MARK, 5, bytes, 0);
     fields::put_number(history.newest, 2, bytes, 5);
-    let mut place: usize = 0;
-    while place < 32 {
+    for place in 0..32 {
         put_settings(kept[place], bytes, 7 + 8 * place);
-        place = place + 1;
     }
 }

@@ -33,10 +33,9 @@ pub fn number_at(bytes: &[u8], at: usize, width: usize, least: u64, most: u64) -
     ensures { result ≡ number_at bytes.now at width least most }
 {
     let stop = at + width;
-    let mut place = at;
     let mut unit = power(width);
     let mut from: u64 = 0;
-    while place < stop {
+    for place in at..stop {
         if place >= bytes.len() {
             return Err(place);
         }
@@ -48,7 +47,6 @@ pub fn number_at(bytes: &[u8], at: usize, width: usize, least: u64, most: u64) -
         if from + unit <= least {
             return Err(place);
         }
-        place = place + 1;
     }
     Ok(from)
 }
@@ -59,9 +57,7 @@ pub fn put_number(x: u64, width: usize, bytes: &mut [u8], at: usize)
     ensures { bytes.new ≡ sets bytes.old at (digits 256 width x) }
 {
     let mut rest = x;
-    let mut left = width;
-    while left > 0 {
-        left = left - 1;
+    for left in (0..width).rev() {
         bytes[at + left] = (rest % 256) as u8;
         rest = rest / 256;
     }

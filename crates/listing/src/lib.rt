@@ -24,6 +24,7 @@ fn put_codes(text: &[u8], arrangement: Arrangement, body: usize, codes: &mut [u6
     };
     let mut count: usize = 0;
     let mut i: usize = body;
+    // by hand: a turn takes one byte or two
     while i < text.len() {
         spot = spot.after(text[i]);
         let whole = walk::whole_at(text, i);

@@ -38,40 +38,36 @@ fn stop_of(text: &[u8], from: usize) -> Stop
 {
     let mut lists: u64 = 0;
     let mut named = false;
-    let mut i = from;
-    let place = 'scan: loop {
-        if i >= text.len() {
-            break 'scan i;
-        }
+    for i in from..text.len() {
         let b = text[i];
         if b == b'(' {
             if !named {
-                break 'scan i;
+                return Stop { place: i, lists };
             }
             if lists >= 15 {
-                break 'scan i;
+                return Stop { place: i, lists };
             }
             lists = lists + 1;
             named = false;
-            i = i + 1;
-            continue 'scan;
+            continue;
         }
         if b == b')' {
             if lists == 0 {
-                break 'scan i;
+                return Stop { place: i, lists };
             }
             lists = lists - 1;
             named = false;
-            i = i + 1;
-            continue 'scan;
+            continue;
         }
         if !is_name(lists, b) {
-            break 'scan i;
+            return Stop { place: i, lists };
         }
         named = true;
-        i = i + 1;
-    };
-    Stop { place, lists }
+    }
+    Stop {
+        place: text.len(),
+        lists,
+    }
 }
 
 // The least and the greatest byte at each place of the heading of version 1.

@@ -22,9 +22,7 @@ fn read_path(name: &[u8]) -> Result<u64, u64>
     ensures { result ≡ coded (refuse (not (all_digits (drop 1 name.now))) 3) (value 9 (digits_in name.now)) }
 {
     let mut path: u64 = 0;
-    let mut i: usize = 1;
-    while i < name.len() {
-        let b = name[i];
+    for &b in &name[1..] {
         if b < b'0' {
             return Err(3);
         }
@@ -32,7 +30,6 @@ fn read_path(name: &[u8]) -> Result<u64, u64>
             return Err(3);
         }
         path = path * 9 + wide(b - b'0');
-        i = i + 1;
     }
     Ok(path)
 }
@@ -76,11 +73,9 @@ fn put_digits(name: &mut [u8], count: usize, path: u64)
     ensures { name.new ≡ take 1 name.old ++ (digit_bytes (digits 9 count path) ++ drop (count + 1) name.old) }
 {
     let mut p = path;
-    let mut left = count;
-    while left > 0 {
-        name[left] = b'0' + (p % 9) as u8;
+    for place in (1..=count).rev() {
+        name[place] = b'0' + (p % 9) as u8;
         p = p / 9;
-        left = left - 1;
     }
 }
 

@@ -41,8 +41,7 @@ fn answer_all(
     let mut from: usize = 0;
     let mut end: usize = 0;
     let mut waiting: usize = 0;
-    let mut turns = u64::MAX;
-    while turns > 0 {
+    for _ in 0..u64::MAX {
         match console::next_line(rt, b"name_fixes", bytes, from, end, room) {
             LineRead::Line {
                 length,
@@ -62,7 +61,6 @@ fn answer_all(
             LineRead::End => return Some(waiting),
             LineRead::Failed => return Some(waiting),
         }
-        turns = turns - 1;
     }
     Some(waiting)
 }

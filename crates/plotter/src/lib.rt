@@ -156,13 +156,9 @@ fn grow_by(side: f64, first: Frame, codes: &[u64]) -> Around
     ensures { result ≡ as_around (grown_by side (Ok first) codes.now) }
 {
     let mut frame = first;
-    let mut i: usize = 0;
-    while i < codes.len() {
-        match frame_grow(side, frame, codes[i]) {
-            Ok(next) => {
-                frame = next;
-                i = i + 1;
-            }
+    for code in codes {
+        match frame_grow(side, frame, *code) {
+            Ok(next) => frame = next,
             Err(refusal) => return Around::Refused(refusal),
         }
     }

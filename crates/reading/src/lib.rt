@@ -117,8 +117,7 @@ pub fn lead_in(text: &[u8], least: &[u8], greatest: &[u8]) -> usize
     requires { length least.now ≡ length greatest.now }
     ensures { result ≡ lead least.now greatest.now text.now }
 {
-    let mut i: usize = 0;
-    while i < least.len() {
+    for i in 0..least.len() {
         if i == text.len() {
             return i;
         }
@@ -128,9 +127,8 @@ pub fn lead_in(text: &[u8], least: &[u8], greatest: &[u8]) -> usize
         if greatest[i] < text[i] {
             return i;
         }
-        i += 1;
     }
-    i
+    least.len()
 }
 
 // Whether a `(` stands at a place.

@@ -278,6 +278,7 @@ fn room_to_wait(rt: &HostRuntime) -> usize
 // The refused lines that waited.
 fn say_waiting(rt: &HostRuntime, waits: &[u64]) {
     let mut i: usize = 1;
+    // by hand: a line and its refusal are two numbers
     while i + 1 < waits.len() {
         if waits[0] as usize <= i {
             return;

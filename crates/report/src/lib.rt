@@ -95,15 +95,14 @@ pub struct Names {
 pub fn put_names(codes: &[u64], out: &mut [u8]) -> Names
     ensures { NamesPut codes.now out.old out.new result }
 {
-    let mut count: usize = 0;
     let mut end: usize = 0;
-    while count < codes.len() {
+    for count in 0..codes.len() {
         if out.len() - end < 17 {
             return Names { count, end };
         }
         end = put_name_and(codes[count], b'\n', out, end);
-        count = count + 1;
     }
+    let count = codes.len();
     Names { count, end }
 }
 
@@ -232,10 +231,8 @@ pub fn put_history(history: History, out: &mut [u8]) -> usize
     ensures upper_bound { result ≤ 3360 }
 {
     let newest = history.newest;
-    let mut left = kept_number(newest);
     let mut end: usize = 0;
-    while left > 0 {
-        left = left - 1;
+    for left in (0..kept_number(newest)).rev() {
         end = put_revision(history, newest - left, out, end);
     }
     end

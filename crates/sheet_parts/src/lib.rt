@@ -46,6 +46,7 @@ fn put_parts(
 {
     let mut standing = sheet::start(body);
     let mut end: usize = 0;
+    // by hand: a turn goes on by as many records as there is room for
     while standing.records < cells {
         console::print_first(rt, out, end);
         let next = sheet::put_part(text, arrangement, standing, out);
@@ -93,6 +94,7 @@ fn judge_parts(
     ensures { Judges text.now part.new result }
 {
     let mut standing = sheet::start(body);
+    // by hand: it ends where the sheet does, not after a count
     loop {
         let Some(count) = console::read_all(rt, b"coverage", path, file, part) else {
             return sheet::told(text, sheet::start(body));

@@ -129,8 +129,7 @@ fn measure_list(codes: &[u64], at: usize, left: u64, start: u64, size: u64) -> M
     let mut bytes: u64 = 0;
     let mut wholes: u64 = 0;
     let mut depth: u64 = 0;
-    let mut more = left;
-    while more > 0 {
+    for _ in 0..left {
         if limit <= first {
             return Measure {
                 next,
@@ -145,7 +144,6 @@ fn measure_list(codes: &[u64], at: usize, left: u64, start: u64, size: u64) -> M
         wholes = wholes + node.wholes;
         depth = greater(depth, node.depth);
         first = start_at(codes, next);
-        more = more - 1;
     }
     Measure {
         next,
@@ -169,16 +167,14 @@ fn whole_until(codes: &[u64], at: usize, start: u64, size: u64) -> usize
     }
     let end = start + size;
     let mut position = start;
-    let mut i = at;
-    while i < codes.len() {
+    for i in at..codes.len() {
         let code = codes[i];
         if position < code::start_in(code) {
             return at;
         }
         position = position + code::size_in(code);
-        i = i + 1;
         if end <= position {
-            return i;
+            return i + 1;
         }
     }
     at
@@ -251,8 +247,7 @@ fn put_list(
     let mut child = start;
     let mut ends = place;
     let mut name = byte;
-    let mut more = left;
-    while more > 0 {
+    for _ in 0..left {
         let end = child + size;
         if first < end {
             let node = put_node(codes, next, child, size, text, ends, name);
@@ -262,7 +257,6 @@ fn put_list(
         }
         child = end;
         name = name + 1;
-        more = more - 1;
     }
     WrittenTo { next, place: ends }
 }
@@ -291,9 +285,7 @@ fn list_refusal(arrangement: Arrangement, codes: &[u64]) -> u64
 {
     let mut refusal: u64 = 0;
     let mut end: u64 = 0;
-    let mut i: usize = 0;
-    while i < codes.len() {
-        let code = codes[i];
+    for &code in codes {
         if !code::is_code(code) {
             return 4;
         }
@@ -301,7 +293,6 @@ fn list_refusal(arrangement: Arrangement, codes: &[u64]) -> u64
         let start = code::start_in(code);
         refusal = judged(refusal, own, end <= start);
         end = start + code::size_in(code);
-        i = i + 1;
     }
     refusal
 }

@@ -17,12 +17,12 @@ loop-place-init c =
 pub returns-in-Err-settings_at : goal.returns-in-Err-settings_at
 returns-in-Err-settings_at c =
     c.refused_at-in-Err-settings_at.ensures
-    ∙ place-wrong c.loop-place.invariant c.loop-place-test.true
+    ∙ place-wrong c.loop-place.invariant (omega arith)
     (sym c.settings_at.ensures ∙ c.in-Err-settings_at.is)
 
 pub loop-place-preserved : goal.loop-place-preserved
 loop-place-preserved c =
-    place-right c.loop-place.invariant c.loop-place-test.true _
+    place-right c.loop-place.invariant (omega arith) _
     (sym c.settings_at.ensures ∙ c.in-Ok-settings_at.is)
 
 pub returns-then-bytes-gt-LENGTH : goal.returns-then-bytes-gt-LENGTH

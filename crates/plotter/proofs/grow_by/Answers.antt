@@ -12,9 +12,9 @@ use Rattle.plotter.proofs.grow_by.Goals as goal
 pub returns-in-Err : goal.returns-in-Err
 returns-in-Err c =
     let k = c in
-    let l = k.loop-i in
+    let l = k.loop-code in
     let a = k.args in
     let codes = a.codes.now in
     let e = sym c.in-Err.is ∙ k.frame_grow.ensures in
-    ap as_around (sym (refused-stays a.side _ (drop (l.i + 1) codes)) ∙ ap (λ (f : Result Frame ℕ). grown_by a.side f (drop (l.i + 1) codes)) e
-    ∙ sym (grown-at a.side l.frame codes l.i (omega arith)) ∙ l.invariant.1)
+    ap as_around (sym (refused-stays a.side _ (drop (l.code-index + 1) codes)) ∙ ap (λ (f : Result Frame ℕ). grown_by a.side f (drop (l.code-index + 1) codes)) e
+    ∙ sym (grown-at a.side l.frame codes l.code-index (omega arith)) ∙ l.invariant)
