@@ -1,4 +1,6 @@
 -- The lent bytes with an edited text in front. Assumes nothing.
+use Rattle.std.specs.Prelude.{Err, Ok, Result}
+use Rattle.reading.specs.declared.Refused.{Refused}
 use mathlib.Core.Path.{◌≡◌, refl, sym, ap, ap₂, ◌∙◌}
 use mathlib.Core.List.{List, [], ◌∷◌, ◌++◌, append_assoc}
 use Prim.Native.Nat.{ℕ, zero, suc, ◌+◌, ◌-◌, ◌≤◌, ◌<◌}
@@ -7,8 +9,6 @@ use lib.ListN.{length, take, drop, length-append, length-drop, take-append-drop}
 use lib.Seq.{take-take, length-take-le, take-append-le, drop_at, sets, sets-eq, paste}
 use borrow.Author.Tests.{lt-ltb, le-ltb}
 use Rattle.logic.specs.Refusal.{◌otherwise◌, given}
-use Rattle.adding.specs.declared.Added.{Added}
-use Rattle.adding.specs.declared.Added.TheVariants.{Length, Refused}
 use Rattle.adding.specs.declared.Edit.TheVariants.{Put, Cut}
 use Rattle.adding.specs.Internal.Edit.{nested, edited}
 use Rattle.adding.specs.Add.{size_refusal, resized, placed}
@@ -29,20 +29,20 @@ module _ (u before : List ℕ) where
   unfolding size_refusal ◌otherwise◌
   size-8 h k = rw (le-ltb 65536 (length u) h, lt-ltb (length before) (length u) k)
 
-  pub becomes-new : {after : List ℕ} {n : ℕ} → length u ≤ 65536 → length u ≤ length before → n ≡ length u → after ≡ u ++ drop (length u) before → Becomes u before after (Length n)
+  pub becomes-new : {after : List ℕ} {n : ℕ} → length u ≤ 65536 → length u ≤ length before → n ≡ length u → after ≡ u ++ drop (length u) before → Becomes u before after (Ok n)
   unfolding resized placed given
   becomes-new {after} {n} h k e f =
       record {
-        answer = ap Length e ∙ sym (ap (λ (x : ℕ). resized x (length u)) (size-0 h k));
+        answer = ap Ok e ∙ sym (ap (λ (x : ℕ). resized x (length u)) (size-0 h k));
         bytes = f ∙ sym (ap (λ (x : ℕ). placed x u before) (size-0 h k));
       }
 
-  pub becomes-13 : {r : Added} → r ≡ Refused 13 0 → 65536 < length u → Becomes u before before r
+  pub becomes-13 : {r : Result ℕ Refused} → r ≡ Err (record { refusal = 13; place = 0 }) → 65536 < length u → Becomes u before before r
   unfolding resized placed given
   becomes-13 e h =
       record { answer = e ∙ sym (ap (λ (x : ℕ). resized x (length u)) (size-13 h)); bytes = sym (ap (λ (x : ℕ). placed x u before) (size-13 h)) }
 
-  pub becomes-8 : {r : Added} → r ≡ Refused 8 0 → length u ≤ 65536 → length before < length u → Becomes u before before r
+  pub becomes-8 : {r : Result ℕ Refused} → r ≡ Err (record { refusal = 8; place = 0 }) → length u ≤ 65536 → length before < length u → Becomes u before before r
   unfolding resized placed given
   becomes-8 e h k =
       record { answer = e ∙ sym (ap (λ (x : ℕ). resized x (length u)) (size-8 h k)); bytes = sym (ap (λ (x : ℕ). placed x u before) (size-8 h k)) }
@@ -73,7 +73,7 @@ module _ (name bytes : List ℕ) (end : ℕ) (h : end ≤ length bytes) (s : end
   long = length-take-le end bytes h
 
   -- nothing is changed
-  pub becomes-same : {u : List ℕ} → u ≡ take end bytes → Becomes u bytes bytes (Length end)
+  pub becomes-same : {u : List ℕ} → u ≡ take end bytes → Becomes u bytes bytes (Ok end)
   becomes-same {u} e =
       let n : length u ≡ end = ap length e ∙ long in
       becomes-new u bytes (omega arith) (omega arith) (sym n) (sym (ap₂ (λ (x : List ℕ) (y : ℕ). x ++ drop y bytes) e n ∙ take-append-drop end bytes))
@@ -81,7 +81,7 @@ module _ (name bytes : List ℕ) (end : ℕ) (h : end ≤ length bytes) (s : end
   -- bytes are cut out
   pub becomes-cut :
       {after : List ℕ} (from to : ℕ) → from ≤ to → to ≤ end → after ≡ paste bytes from (drop to bytes) (end - to) →
-      Becomes (edited name (take end bytes) (Cut from to)) bytes after (Length (from + (end - to)))
+      Becomes (edited name (take end bytes) (Cut from to)) bytes after (Ok (from + (end - to)))
   unfolding edited
   becomes-cut {after} from to a b f =
       let front : take from (take end bytes) ≡ take from bytes = take-take from end bytes (omega arith) in
@@ -120,7 +120,7 @@ module _ (name bytes : List ℕ) (end : ℕ) (h : end ≤ length bytes) (s : end
     pub becomes-put :
         {after opened : List ℕ} → end + gap ≤ 65536 → end + gap ≤ length bytes →
         opened ≡ take (at + gap) bytes ++ (take (end - at) (drop at bytes) ++ drop (end + gap) bytes) → after ≡ sets opened at (nested (drop k name)) →
-        Becomes put_in bytes after (Length (end + gap))
+        Becomes put_in bytes after (Ok (end + gap))
     unfolding edited
     becomes-put {after} {opened} p q o f =
         let v : List ℕ = nested (drop k name) in

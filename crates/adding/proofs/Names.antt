@@ -1,4 +1,6 @@
 -- The bytes of a code's name, and what adding its cell makes of the lent bytes. Assumes nothing.
+use Rattle.std.specs.Prelude.{Err, Ok, Result}
+use Rattle.reading.specs.declared.Refused.{Refused}
 use mathlib.Core.Path.{◌≡◌, refl, sym, ap, ap₂, ◌∙◌, subst}
 use mathlib.Core.Bool.{Bool, true, false, not}
 use mathlib.Core.List.{List, ◌++◌}
@@ -12,15 +14,11 @@ use Rattle.logic.specs.Laws.Refusal.{passes, both, allowed}
 use Rattle.cell.specs.declared.Cell.{Cell}
 use Rattle.code.specs.Code.{is_code, cell_of}
 use Rattle.code.proofs.Laws.Code.{code-passes, code-is-cell}
-use Rattle.name.specs.declared.Named.{Named}
-use Rattle.name.specs.declared.Named.TheVariants.{Length as Letters, Refused as Nameless}
 use Rattle.name.specs.Name.{name_of, code_name_refusal, named, name_in}
 use Rattle.name.specs.Laws.Name.{length-name}
 use Rattle.reading.specs.declared.Profile.{Profile}
 use Rattle.reading.specs.Text.{heading_length}
 use Rattle.reading.specs.TextReading.{is_text, profile_of, body_start}
-use Rattle.adding.specs.declared.Added.{Added}
-use Rattle.adding.specs.declared.Added.TheVariants.{Refused}
 use Rattle.adding.specs.declared.Edit.{Edit}
 use Rattle.adding.specs.Add.{text_with, keeps_with, size_refusal, with_refusal, resized, placed, length_after, Holding, Gains}
 use Rattle.adding.proofs.Laws.Add.{with-text, with-heading}
@@ -47,15 +45,15 @@ module _ (code : ℕ) (v : is_code code ≡ true) (before : List ℕ) (h : lengt
   unfolding code_name_refusal
   passed = passes _ (code-passes code v) ∙ ap (λ (b : Bool). refuse b 8) (le-ltb (length before) (length (name_of (cell_of code))) (omega (arith, few)))
 
-  module _ {r : Named} (e : r ≡ named (code_name_refusal code (length before)) (length (name_of (cell_of code)))) where
-    given-letters : r ≡ Letters (length (name_of (cell_of code)))
+  module _ {r : Result ℕ ℕ} (e : r ≡ named (code_name_refusal code (length before)) (length (name_of (cell_of code)))) where
+    given-letters : r ≡ Ok (length (name_of (cell_of code)))
     unfolding named
     given-letters = e ∙ ap (λ (x : ℕ). named x (length (name_of (cell_of code)))) passed
 
-    pub not-nameless : {q : ℕ} → r ≡ Nameless q → ⊥
+    pub not-nameless : {q : ℕ} → r ≡ Err q → ⊥
     not-nameless f = let g = given-letters in let z : ◌≡◌ {A = ℕ} 0 1 = cc in omega arith
 
-    pub name-spelt : {after : List ℕ} {n : ℕ} → after ≡ given (code_name_refusal code (length before)) (name_in code before) before → r ≡ Letters n → Spelt code n after
+    pub name-spelt : {after : List ℕ} {n : ℕ} → after ≡ given (code_name_refusal code (length before)) (name_in code before) before → r ≡ Ok n → Spelt code n after
     unfolding name_in given
     name-spelt {after} {n} f q =
         let l : n ≡ length (name_of (cell_of code)) = let g = given-letters in cc in
@@ -82,8 +80,8 @@ module _ (code : ℕ) (v : is_code code ≡ true) (before : List ℕ) (h : lengt
 
 -- the same for any code that has a name: the first bytes are the name's
 pub name-front :
-    (code : ℕ) (before : List ℕ) → length before ≡ 16 → {r : Named} {after : List ℕ} {n : ℕ} → r ≡ named (code_name_refusal code (length before)) (length (name_of (cell_of code))) →
-    after ≡ given (code_name_refusal code (length before)) (name_in code before) before → r ≡ Letters n → (n ≤ 16) × (n ≤ length after) × (take n after ≡ name_of (cell_of code))
+    (code : ℕ) (before : List ℕ) → length before ≡ 16 → {r : Result ℕ ℕ} {after : List ℕ} {n : ℕ} → r ≡ named (code_name_refusal code (length before)) (length (name_of (cell_of code))) →
+    after ≡ given (code_name_refusal code (length before)) (name_in code before) before → r ≡ Ok n → (n ≤ 16) × (n ≤ length after) × (take n after ≡ name_of (cell_of code))
 unfolding code_name_refusal name_in given named
 name-front code before h {r} {after} {n} e f q = go (code_name_refusal code (length before)) refl e f
   where
@@ -109,7 +107,7 @@ unfolding size_refusal
 size_fits n room e = let f = both _ _ e in (ltb-false 65536 n (allowed 12 _ f.0), ltb-false room n (allowed 7 _ f.1))
 
 held-again :
-    {p : Profile} {bytes after u : List ℕ} {end : ℕ} {r : Added} → Holding p bytes end → is_text u ≡ true → profile_of u ≡ p → Becomes u bytes after r →
+    {p : Profile} {bytes after u : List ℕ} {end : ℕ} {r : Result ℕ Refused} → Holding p bytes end → is_text u ≡ true → profile_of u ≡ p → Becomes u bytes after r →
     Holding p after (length_after r end)
 unfolding resized placed given
 held-again {p} {bytes} {after} {u} {end} {r} h t o b = go (size_refusal (length u) (length bytes)) refl b.answer b.bytes
@@ -120,10 +118,10 @@ held-again {p} {bytes} {after} {u} {end} {r} h t o b = go (size_refusal (length 
         let s = size_fits (length u) (length bytes) z in
         let l : length after ≡ length bytes = omega (arith, ap length f, length-append u (drop (length u) bytes), length-drop (length u) bytes, s.1) in
         let k : take (length u) after ≡ u = ap (take (length u)) f ∙ take_at u (drop (length u) bytes) (length u) refl in
-        subst (λ (x : Added). Holding p after (length_after x end)) (sym a)
+        subst (λ (x : Result ℕ Refused). Holding p after (length_after x end)) (sym a)
         (record { fits = omega (arith, l, s.1); small = s.0; text = ap is_text k ∙ t; profiled = ap profile_of k ∙ o })
     go (suc q) z a f =
-        subst (λ (x : Added). Holding p after (length_after x end)) (sym a) (subst (λ (x : List ℕ). Holding p x end) (sym f) h)
+        subst (λ (x : Result ℕ Refused). Holding p after (length_after x end)) (sym a) (subst (λ (x : List ℕ). Holding p x end) (sym f) h)
 
 -- ---- the text
 
@@ -153,7 +151,7 @@ module _ {p : Profile} {bytes : List ℕ} {end : ℕ} (h : Holding p bytes end) 
         (sym (q ∙ ap₂ (λ (w : ℕ) (z : ℕ). breaks p w z e) f d ∙ ap₂ (λ (w : Profile) (z : Edit). breaks w c.face c.resolution z) (sym h.profiled) i))
 
     module _ {face digits : ℕ} {r : Bool} (f : face ≡ c.face) (d : digits ≡ c.resolution) (q : r ≡ breaks p face digits e) where
-      pub add-breaks : {a : Added} → r ≡ true → a ≡ Refused 15 0 → Gains t c bytes bytes a × Holding p bytes (length_after a end)
+      pub add-breaks : {a : Result ℕ Refused} → r ≡ true → a ≡ Err (record { refusal = 15; place = 0 }) → Gains t c bytes bytes a × Holding p bytes (length_after a end)
       unfolding with_refusal resized placed given ◌otherwise◌
       add-breaks {a} y z =
           let k : keeps_with t c ≡ false = keeps-is f d q ∙ ap not y in
@@ -162,11 +160,11 @@ module _ {p : Profile} {bytes : List ℕ} {end : ℕ} (h : Holding p bytes end) 
               answer = z ∙ sym (ap (λ (u : ℕ). resized u (length (text_with t c))) w);
               bytes = sym (ap (λ (u : ℕ). placed u (text_with t c) bytes) w);
             },
-            subst (λ (u : Added). Holding p bytes (length_after u end)) (sym z) h,
+            subst (λ (u : Result ℕ Refused). Holding p bytes (length_after u end)) (sym z) h,
           )
 
       pub add-gains :
-          {after : List ℕ} {a : Added} → r ≡ false → Becomes (edited name t e) bytes after a → Gains t c bytes after a × Holding p after (length_after a end)
+          {after : List ℕ} {a : Result ℕ Refused} → r ≡ false → Becomes (edited name t e) bytes after a → Gains t c bytes after a × Holding p after (length_after a end)
       unfolding with_refusal
       add-gains {after} {a} y g =
           let k : keeps_with t c ≡ true = keeps-is f d q ∙ ap not y in

@@ -1,4 +1,6 @@
 -- Where adding begins, and what is kept of its way: a list of the text, and of the text with the cell. Assumes nothing.
+use Rattle.std.specs.Prelude.{Result}
+use Rattle.reading.specs.declared.Refused.{Refused}
 use mathlib.Core.Path.{◌≡◌, refl, sym, ap, ap₂, ◌∙◌, subst}
 use mathlib.Core.Logic.{inl, inr, ⊎_elim}
 use mathlib.Core.Bool.{true, false}
@@ -21,7 +23,6 @@ use Rattle.reading.specs.Prefix.{Name, numbers_of}
 use Rattle.reading.specs.Text.{heading_length}
 use Rattle.reading.specs.TextReading.{nodes_of, is_text, body_start}
 use Rattle.reading.proofs.Laws.TextReading.{read-nodes, read-profile}
-use Rattle.adding.specs.declared.Added.{Added}
 use Rattle.adding.specs.declared.Edit.{Edit}
 use Rattle.adding.specs.declared.ListAt.{ListAt}
 use Rattle.adding.specs.Add.{text_with, keeps_with, with_refusal, resized, placed, length_after, Gains}
@@ -162,7 +163,7 @@ module _ (t : List ℕ) (e : is_text t ≡ true) (c : Cell) (v : IsCell c) (name
 
 -- in front of the lent bytes then
 pub near-gains :
-    {bytes after near : List ℕ} {c : Cell} (end : ℕ) {r : Added} → Gains (take end bytes) c bytes after r → InMind (take end bytes) near →
+    {bytes after near : List ℕ} {c : Cell} (end : ℕ) {r : Result ℕ Refused} → Gains (take end bytes) c bytes after r → InMind (take end bytes) near →
     (keeps_with (take end bytes) c ≡ true → InMind (text_with (take end bytes) c) near) → InMind (take (length_after r end) after) near
 unfolding resized placed given with_refusal
 near-gains {bytes} {after} {near} {c} end {r} g n m = go (with_refusal (take end bytes) c (length bytes)) refl g.answer g.bytes
@@ -172,10 +173,10 @@ near-gains {bytes} {after} {near} {c} end {r} g n m = go (with_refusal (take end
 
     go : (z : ℕ) → with_refusal (take end bytes) c (length bytes) ≡ z → r ≡ resized z (length u) → after ≡ placed z u bytes → InMind (take (length_after r end) after) near
     go zero k a f =
-        subst (λ (x : Added). InMind (take (length_after x end) after) near) (sym a)
+        subst (λ (x : Result ℕ Refused). InMind (take (length_after x end) after) near) (sym a)
         (subst (λ (x : List ℕ). InMind x near) (sym (ap (take (length u)) f ∙ take_at u (drop (length u) bytes) (length u) refl)) (m (not-false _ (allowed 14 _ (both _ _ k).0))))
     go (suc z) k a f =
-        subst (λ (x : Added). InMind (take (length_after x end) after) near) (sym a) (subst (λ (x : List ℕ). InMind (take end x) near) (sym f) n)
+        subst (λ (x : Result ℕ Refused). InMind (take (length_after x end) after) near) (sym a) (subst (λ (x : List ℕ). InMind (take end x) near) (sym f) n)
 
 -- there is a byte to look for
 pub start-short : (body : ℕ) (name near : List ℕ) (r : ListAt) → StartIs body name near r → 0 < length name → r.depth < length name

@@ -1,6 +1,7 @@
 -- One cell more in a text (01 "The coverage text", "Refusal numbers"; 02, W-208 and W-210): the text of the old ground and the cell, in the text's own
 -- profile and arrangement, and what is refused. Laws/Add shows that it is accepted and of that ground. Assumes nothing.
-use Rattle.std.specs.Prelude.{◌≡◌, Bool, true, not, List, ◌∷◌, ◌++◌, ℕ, zero, suc, ◌≤◌, ltb, length, take, drop}
+use Rattle.std.specs.Prelude.{◌≡◌, Bool, true, not, List, ◌∷◌, ◌++◌, ℕ, zero, suc, ◌≤◌, ltb, length, take, drop, Err, Ok, Result}
+use Rattle.reading.specs.declared.Refused.{Refused}
 use Rattle.logic.specs.Refusal.{refuse, ◌otherwise◌, given}
 use Rattle.cell.specs.declared.Cell.{Cell}
 use Rattle.code.specs.Code.{cell_of, code_refusal}
@@ -10,8 +11,6 @@ use Rattle.reading.specs.Written.{written_text, keeps}
 use Rattle.reading.specs.TextReading.{nodes_of, profile_of, north_of, south_of, is_text}
 use Rattle.reader.specs.Check.{place_with}
 use Rattle.asking.specs.Ask.{ask_refusal}
-use Rattle.adding.specs.declared.Added.{Added}
-use Rattle.adding.specs.declared.Added.TheVariants.{Length, Refused}
 
 -- the cell and the text's whole cells
 abbrev pub cells_with : List ℕ → Cell → List Cell
@@ -47,26 +46,26 @@ add_refusal bytes end code =
 
 -- ---- the answer: the length of the text with the cell, or the refusal and the place
 
-unfoldable pub added : (r : ℕ) (t : List ℕ) (code : ℕ) → Added
-added zero t code = Length (length (text_with t (cell_of code)))
-added (suc r) t code = Refused (suc r) (place_with (suc r) t)
+unfoldable pub added : (r : ℕ) (t : List ℕ) (code : ℕ) → Result ℕ Refused
+added zero t code = Ok (length (text_with t (cell_of code)))
+added (suc r) t code = Err (record { refusal = suc r; place = place_with (suc r) t })
 
 -- the lent bytes with this text in front: "A refusal changes no lent byte; an answer changes only its own length"
 unfoldable pub placed : (r : ℕ) (u bytes : List ℕ) → List ℕ
 placed r u bytes = given r (u ++ drop (length u) bytes) bytes
 
 -- what each case stands for
-abbrev pub refusal_in : Added → ℕ
-refusal_in (Length n) = 0
-refusal_in (Refused r p) = r
+abbrev pub refusal_in : Result ℕ Refused → ℕ
+refusal_in (Ok n) = 0
+refusal_in (Err e) = e.refusal
 
-abbrev pub place_in : Added → ℕ
-place_in (Length n) = 0
-place_in (Refused r p) = p
+abbrev pub place_in : Result ℕ Refused → ℕ
+place_in (Ok n) = 0
+place_in (Err e) = e.place
 
-abbrev pub length_in : Added → ℕ
-length_in (Length n) = n
-length_in (Refused r p) = 0
+abbrev pub length_in : Result ℕ Refused → ℕ
+length_in (Ok n) = n
+length_in (Err e) = 0
 
 -- ---- a text that is known to be accepted
 
@@ -78,16 +77,16 @@ pub record Holding (p : Profile) (bytes : List ℕ) (end : ℕ) : Type 0 where
   pub profiled : profile_of (take end bytes) ≡ p
 
 -- neither 15 nor 13 nor 8 has a place
-unfoldable pub resized : (r n : ℕ) → Added
-resized zero n = Length n
-resized (suc r) n = Refused (suc r) 0
+unfoldable pub resized : (r n : ℕ) → Result ℕ Refused
+resized zero n = Ok n
+resized (suc r) n = Err (record { refusal = suc r; place = 0 })
 
 -- the text t in front of the lent bytes becomes that with the cell, or a refusal changes none of them
-pub record Gains (t : List ℕ) (c : Cell) (before after : List ℕ) (r : Added) : Type 0 where
+pub record Gains (t : List ℕ) (c : Cell) (before after : List ℕ) (r : Result ℕ Refused) : Type 0 where
   pub answer : r ≡ resized (with_refusal t c (length before)) (length (text_with t c))
   pub bytes : after ≡ placed (with_refusal t c (length before)) (text_with t c) before
 
 -- how many bytes the text has then, where it had so many before
-abbrev pub length_after : Added → ℕ → ℕ
-length_after (Length n) length = n
-length_after (Refused r p) length = length
+abbrev pub length_after : Result ℕ Refused → ℕ → ℕ
+length_after (Ok n) length = n
+length_after (Err e) length = length

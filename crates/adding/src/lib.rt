@@ -1,13 +1,12 @@
 // One cell more in a text, in place.
 #![tactic(auto)]
 
-ghost use Rattle.std.specs.Prelude.{◌≡◌, true, ◌++◌, ℕ, ◌+◌, ◌-◌, ◌≤◌, ◌<◌, eqb, length, take, drop, get_or};
+ghost use Rattle.std.specs.Prelude.{◌≡◌, true, ◌++◌, ℕ, ◌+◌, ◌-◌, ◌≤◌, ◌<◌, eqb, length, take, drop, get_or, Err};
 ghost use Rattle.std.proofs.lemmas.List.Edits.{sets};
 ghost use Rattle.std.proofs.Math.Seq.{paste};
 ghost use Rattle.code.specs.Code.{is_code, cell_of};
 ghost use Rattle.name.specs.Name.{name_of};
 ghost use Rattle.adding.specs.declared.Edit.TheVariants.{Put as PutAt};
-ghost use Rattle.adding.specs.declared.Added.TheVariants.{Refused as RefusedWith};
 ghost use Rattle.adding.specs.Add.{text_with, add_refusal, placed, added, length_after, Holding, Gains};
 ghost use Rattle.adding.specs.Internal.Become.{Becomes};
 ghost use Rattle.adding.specs.Internal.Edit.{nested, edited, EditFits};
@@ -17,9 +16,8 @@ ghost use Rattle.adding.specs.Internal.Find.{OnWay, ReachIs, StartIs, becomes_wh
 ghost use Rattle.adding.specs.Internal.Fit.{breaks as breaks_it};
 
 use cell::Arrangement;
-use name::Named;
 use reader::Checked;
-use reading::Profile;
+use reading::{Profile, Refused};
 
 // What makes a text cover a cell too: nothing, for it is covered; the name's bytes from the k-th on, each in the list of the one before it, put in
 // at a place; the bytes from one place to before another cut out. Or the nodes of a list are nine whole ones then, and they end at a place.
@@ -31,18 +29,11 @@ pub enum Edit {
     Full(usize),
 }
 
-// The length of the text with the cell, or the refusal, with the place for 9.
-#[derive(Clone, Copy)]
-pub enum Added {
-    Length(usize),
-    Refused { refusal: u64, place: u64 },
-}
-
 // A refusal that has no place.
-fn refused(refusal: u64) -> Added
-    ensures { result ≡ RefusedWith refusal 0 }
+fn refused(refusal: u64) -> Result<usize, Refused>
+    ensures { result ≡ Err (record { refusal = refusal; place = 0 }) }
 {
-    Added::Refused { refusal, place: 0 }
+    Err(Refused { refusal, place: 0 })
 }
 
 // Whether a byte that is not 0 stands at a place.
@@ -205,7 +196,7 @@ fn put_nested(text: &mut [u8], place: usize, name: &[u8], k: usize) -> usize
 }
 
 // Puts the name's bytes from `k` on in at a place of the text that the first `end` bytes are: 13 or 8 where it would be too long.
-fn put_in(text: &mut [u8], end: usize, name: &[u8], at: usize, k: usize) -> Added
+fn put_in(text: &mut [u8], end: usize, name: &[u8], at: usize, k: usize) -> Result<usize, Refused>
     requires { (end ≤ length text.old) × (end ≤ 65536) × (length name.now ≤ 16) × (at ≤ end) × (k < length name.now) }
     ensures { Becomes (edited name.now (take end text.old) (PutAt at k)) text.old text.new result }
 {
@@ -218,20 +209,20 @@ fn put_in(text: &mut [u8], end: usize, name: &[u8], at: usize, k: usize) -> Adde
     }
     open_gap(text, at, end, gap);
     put_nested(text, at, name, k);
-    Added::Length(end + gap)
+    Ok(end + gap)
 }
 
 // Edits the text that the first `end` bytes are.
-fn change(text: &mut [u8], end: usize, name: &[u8], edit: Edit) -> Added
+fn change(text: &mut [u8], end: usize, name: &[u8], edit: Edit) -> Result<usize, Refused>
     requires { (end ≤ length text.old) × (end ≤ 65536) × (length name.now ≤ 16) × EditFits end (length name.now) edit }
     ensures { Becomes (edited name.now (take end text.old) edit) text.old text.new result }
 {
     match edit {
-        Edit::Covered => Added::Length(end),
-        Edit::Full(_) => Added::Length(end),
+        Edit::Covered => Ok(end),
+        Edit::Full(_) => Ok(end),
         Edit::Cut(from, to) => {
             close_gap(text, from, to, end - to);
-            Added::Length(from + (end - to))
+            Ok(from + (end - to))
         }
         Edit::Put(at, k) => put_in(text, end, name, at, k),
     }
@@ -264,7 +255,7 @@ fn same_way(name: &[u8], depth: usize, code: u64) -> bool
     ensures { result ≡ true → take depth name.now ≡ take depth (name_of (cell_of code)) }
 {
     let mut last = [0u8; 16];
-    let Named::Length(letters) = name::code_name(code, &mut last) else {
+    let Ok(letters) = name::code_name(code, &mut last) else {
         return false;
     };
     if depth > letters as usize {
@@ -366,14 +357,20 @@ fn edit_near(
 // Adds the cell of a code to the text that the first `end` bytes are, which is accepted and is so again: 15 where it would break its profile, 13 or
 // 8 where it would be too long. It is looked for near the one that was looked for last, which `near` has in mind: a place, a depth and a code. A text's
 // faces may always be in mind: where they begin, 0, and any code.
-pub fn add_near(profile: Profile, text: &mut [u8], end: usize, code: u64, near: &mut [u64]) -> Added
+pub fn add_near(
+    profile: Profile,
+    text: &mut [u8],
+    end: usize,
+    code: u64,
+    near: &mut [u64],
+) -> Result<usize, Refused>
     requires { Holding profile text.old end × (is_code code ≡ true) × InMind (take end text.old) near.old }
     ensures gains { Gains (take end text.old) (cell_of code) text.old text.new result }
     ensures holding { Holding profile text.new (length_after result end) }
     ensures in_mind { InMind (take (length_after result end) text.new) near.new }
 {
     let mut name = [0u8; 16];
-    let Named::Length(letters) = name::code_name(code, &mut name) else {
+    let Ok(letters) = name::code_name(code, &mut name) else {
         return refused(4);
     };
     let count = letters as usize;
@@ -388,7 +385,7 @@ pub fn add_near(profile: Profile, text: &mut [u8], end: usize, code: u64, near: 
 }
 
 // The same with nothing in mind: from the faces on.
-pub fn add_to(profile: Profile, text: &mut [u8], end: usize, code: u64) -> Added
+pub fn add_to(profile: Profile, text: &mut [u8], end: usize, code: u64) -> Result<usize, Refused>
     requires { Holding profile text.old end × (is_code code ≡ true) }
     ensures gains { Gains (take end text.old) (cell_of code) text.old text.new result }
     ensures holding { Holding profile text.new (length_after result end) }
@@ -400,7 +397,7 @@ pub fn add_to(profile: Profile, text: &mut [u8], end: usize, code: u64) -> Added
 
 // Adds the cell of a code to the text that the first `end` of any bytes are said to be: 4; 13 and 8 for their number; 10, 9 and 14 as in asking; 15,
 // 13 and 8 for the text with the cell.
-pub fn add(text: &mut [u8], end: usize, code: u64) -> Added
+pub fn add(text: &mut [u8], end: usize, code: u64) -> Result<usize, Refused>
     ensures value { result ≡ added (add_refusal text.old end code) (take end text.old) code }
     ensures text_after { text.new ≡ placed (add_refusal text.old end code) (text_with (take end text.old) (cell_of code)) text.old }
 {
@@ -413,21 +410,10 @@ pub fn add(text: &mut [u8], end: usize, code: u64) -> Added
     if end > text.len() {
         return refused(8); // not all lent
     }
-    match reader::check(&text[..end]) {
-        Checked::Refused { refusal, place } => Added::Refused { refusal, place },
-        Checked::Text {
-            profile,
-            north,
-            south,
-            cells: _,
-            size: _,
-            body: _,
-        } => {
-            let arrangement = Arrangement { north, south };
-            if !code::is_of(arrangement, code) {
-                return refused(14);
-            }
-            add_to(profile, text, end, code)
-        }
+    let checked = reader::check(&text[..end])?;
+    let arrangement = checked.arrangement;
+    if !code::is_of(arrangement, code) {
+        return refused(14);
     }
+    add_to(checked.profile, text, end, code)
 }

@@ -10,12 +10,13 @@ ghost use Rattle.asking.specs.Internal.Reach.{Reaches};
 
 use cell::Arrangement;
 use reader::Checked;
+use reading::Refused;
 
-// Whether all of the asked cell's finest cells are covered, and how many letters and digits settle it; or the refusal, with the place for 9.
+// Whether a cell is covered, and how many letters and digits of its name settle that.
 #[derive(Clone, Copy)]
-pub enum Asked {
-    Answer { covered: bool, settled: u64 },
-    Refused { refusal: u64, place: u64 },
+pub struct Asked {
+    pub covered: bool,
+    pub settled: u64,
 }
 
 // How far asking reads: the answer, and the place behind the last letter or digit whose code is not above the asked one's.
@@ -45,7 +46,7 @@ fn reach(text: &[u8], body: usize, code: u64) -> Reached
     let mut before: u64 = 0;
     let mut size: u64 = code::FACE_SIZE;
     let mut i: usize = body;
-    while i < text.len() {
+    while i < text.len() { // by hand: a turn goes into a list or over a whole node
         let b = text[i];
         if b == b')' {
             return uncovered(i);
@@ -94,10 +95,8 @@ fn letters_in(text: &[u8], from: usize, to: usize) -> u8
     ensures { result ≡ letter_count (drop from text.now) - letter_count (drop to text.now) }
 {
     let mut count: u8 = 0;
-    let mut i = from;
-    while i < to {
+    for i in from..to {
         count += letter_in(text[i]);
-        i += 1;
     }
     count
 }
@@ -120,6 +119,7 @@ fn letters_before(text: &[u8], from: usize, at: usize) -> u64
 {
     let mut count: u64 = 0;
     let mut i = from;
+    // by hand: a turn takes up to 255 bytes
     while i < at {
         let end = part_end(i, at);
         count += letters_in(text, i, end) as u64;
@@ -132,12 +132,10 @@ fn letters_before(text: &[u8], from: usize, at: usize) -> u64
 fn letter_from(text: &[u8], at: usize) -> bool
     ensures { result ≡ ltb 0 (letter_count (drop at text.now)) }
 {
-    let mut i = at;
-    while i < text.len() {
+    for i in at..text.len() {
         if letter_in(text[i]) != 0 {
             return true;
         }
-        i += 1;
     }
     false
 }
@@ -155,46 +153,35 @@ fn settled_at(text: &[u8], body: usize, at: usize) -> u64
 }
 
 // The answer of a text of the asked code's arrangement.
-fn answered(text: &[u8], body: usize, code: u64) -> Asked
+fn answered(text: &[u8], body: usize, code: u64) -> Result<Asked, Refused>
     requires { (is_text text.now ≡ true) × (body ≡ body_start text.now) × (is_code code ≡ true) × (arrangement_of code ≡ text_arrangement text.now) }
     ensures { result ≡ asked 0 text.now code }
 {
     let reached = reach(text, body, code);
     let at = reached.at;
-    Asked::Answer {
+    Ok(Asked {
         covered: reached.covered,
         settled: settled_at(text, body, at),
-    }
+    })
 }
 
 // Asking any bytes of any code: 4, 13, 10, 9 and 14, in that order.
-pub fn ask(text: &[u8], code: u64) -> Asked
+pub fn ask(text: &[u8], code: u64) -> Result<Asked, Refused>
     ensures { result ≡ asked (ask_refusal text.now code) text.now code }
 {
     if !code::is_code(code) {
-        return Asked::Refused {
+        return Err(Refused {
             refusal: 4,
             place: 0,
-        };
+        });
     }
-    match reader::check(text) {
-        Checked::Refused { refusal, place } => Asked::Refused { refusal, place },
-        Checked::Text {
-            profile: _,
-            north,
-            south,
-            cells: _,
-            size: _,
-            body,
-        } => {
-            let arrangement = Arrangement { north, south };
-            if !code::is_of(arrangement, code) {
-                return Asked::Refused {
-                    refusal: 14, // of another arrangement
-                    place: 0,
-                };
-            }
-            answered(text, body, code)
-        }
+    let checked = reader::check(text)?;
+    let arrangement = checked.arrangement;
+    if !code::is_of(arrangement, code) {
+        return Err(Refused {
+            refusal: 14, // of another arrangement
+            place: 0,
+        });
     }
+    answered(text, checked.body, code)
 }

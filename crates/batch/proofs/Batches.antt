@@ -1,4 +1,5 @@
 -- Batches beside their loops: what was put, and what is still to be put, is the whole. Assumes nothing.
+use Rattle.std.specs.Prelude.{Err, Ok, Result}
 use mathlib.Core.Path.{◌≡◌, refl, sym, ap, ap₂, ◌∙◌}
 use mathlib.Core.Bool.{Bool}
 use mathlib.Core.List.{List, [], ◌∷◌, ◌++◌}
@@ -12,11 +13,8 @@ use Rattle.logic.specs.Refusal.{refuse, given}
 use Rattle.logic.specs.Laws.Stores.{sets-append}
 use Rattle.cell.specs.declared.Cell.{Cell}
 use Rattle.cell.specs.declared.Arrangement.{Arrangement}
-use Rattle.cell.specs.declared.Found.{Found}
-use Rattle.cell.specs.declared.Found.TheVariants as found_as
 use Rattle.cell.specs.Cell.{found}
 use Rattle.code.specs.Code.{cell_of, arrangement_of, code_refusal}
-use Rattle.batch.specs.declared.Batched.TheVariants.{Count, Refused}
 use Rattle.batch.specs.Batch.{seven_good, seven_bad, seven_in, seven_of, cells_of, cells_refusal, coded_at, two_in, first_codes, cells_in, codes_of, codes_refusal, batched}
 use Rattle.batch.proofs.Laws.Batch.{seven-long}
 
@@ -109,12 +107,12 @@ module _ {ns lent codes : List ℕ} {i at : ℕ} (p : CodesPut ns lent codes i a
 -- ---- what is answered
 
 -- 8, and nothing is changed
-pub refused-eight : {r : ℕ} (n : ℕ) (xs lent : List ℕ) → r ≡ 8 → (Refused 8 ≡ batched r n) × (lent ≡ given r xs lent)
+pub refused-eight : {r : ℕ} (n : ℕ) (xs lent : List ℕ) → r ≡ 8 → (Err 8 ≡ batched r n) × (lent ≡ given r xs lent)
 unfolding batched given
 refused-eight n xs lent e = (ap (λ (x : ℕ). batched x n) (sym e), ap (λ (x : ℕ). given x xs lent) (sym e))
 
 -- or the batch, in front
-pub answered : {r : ℕ} (n : ℕ) (xs lent : List ℕ) {m : List ℕ} → r ≡ 0 → m ≡ sets lent 0 xs → length xs ≤ length lent → (Count n ≡ batched r n) × (m ≡ given r (in_front xs lent) lent)
+pub answered : {r : ℕ} (n : ℕ) (xs lent : List ℕ) {m : List ℕ} → r ≡ 0 → m ≡ sets lent 0 xs → length xs ≤ length lent → (Ok n ≡ batched r n) × (m ≡ given r (in_front xs lent) lent)
 unfolding batched given
 answered n xs lent e f h = (ap (λ (x : ℕ). batched x n) (sym e), front lent xs f h ∙ ap (λ (x : ℕ). given x (in_front xs lent) lent) (sym e))
 
@@ -156,11 +154,11 @@ two-put l at a b = let i : at + 1 ≡ suc at = omega arith in rw i refl
 -- ---- what one code or cell gets
 
 pub seven-good :
-    (code : ℕ) {f : Found} {a : Arrangement} {c : Cell} → f ≡ found (code_refusal code) (cell_of code) → f ≡ found_as.At c → a ≡ arrangement_of code →
+    (code : ℕ) {f : Result Cell ℕ} {a : Arrangement} {c : Cell} → f ≡ found (code_refusal code) (cell_of code) → f ≡ Ok c → a ≡ arrangement_of code →
     seven_good a c ≡ seven_of code
 unfolding seven_of
 seven-good code e h g = ap₂ seven_in g (sym h ∙ e)
 
-pub seven-bad : (code : ℕ) {f : Found} {r : ℕ} → f ≡ found (code_refusal code) (cell_of code) → f ≡ found_as.Refused r → seven_bad r ≡ seven_of code
+pub seven-bad : (code : ℕ) {f : Result Cell ℕ} {r : ℕ} → f ≡ found (code_refusal code) (cell_of code) → f ≡ Err r → seven_bad r ≡ seven_of code
 unfolding seven_of
 seven-bad code e h = ap (seven_in (arrangement_of code)) (sym h ∙ e)

@@ -1,17 +1,12 @@
 -- Batches (02, W-202): the cells of many codes, and the codes of many cells, as numbers one behind the other. Each stands as it is answered alone, a bad
 -- one with its own refusal. Assumes nothing.
-use Rattle.std.specs.Prelude.{List, [], ◌∷◌, ◌++◌, ℕ, zero, suc, ◌*◌, ◌/◌, ltb, length, get_or, drop}
+use Rattle.std.specs.Prelude.{List, [], ◌∷◌, ◌++◌, ℕ, zero, suc, ◌*◌, ◌/◌, ltb, length, get_or, drop, Err, Ok, Result}
 use Rattle.logic.specs.Lent.{in_front}
 use Rattle.logic.specs.Refusal.{refuse, ◌otherwise◌, given}
 use Rattle.cell.specs.declared.Cell.{Cell}
 use Rattle.cell.specs.declared.Arrangement.{Arrangement}
-use Rattle.cell.specs.declared.Found.{Found}
-use Rattle.cell.specs.declared.Found.TheVariants as found_as
 use Rattle.cell.specs.Cell.{cell_refusal, arrangement_refusal, found}
-use Rattle.code.specs.declared.Coded.{Coded}
 use Rattle.code.specs.Code.{code_of, cell_of, arrangement_of, code_refusal, coded, refusal_in, code_in}
-use Rattle.batch.specs.declared.Batched.{Batched}
-use Rattle.batch.specs.declared.Batched.TheVariants.{Count, Refused}
 
 -- ---- "Turn codes into rows and columns"
 
@@ -25,9 +20,9 @@ seven_good a c = seven 0 a c
 abbrev pub seven_bad : (refusal : ℕ) → List ℕ
 seven_bad r = r ∷ 0 ∷ 0 ∷ 0 ∷ 0 ∷ 0 ∷ 0 ∷ []
 
-abbrev pub seven_in : Arrangement → Found → List ℕ
-seven_in a (found_as.At c) = seven_good a c
-seven_in a (found_as.Refused r) = seven_bad r
+abbrev pub seven_in : Arrangement → Result Cell ℕ → List ℕ
+seven_in a (Ok c) = seven_good a c
+seven_in a (Err r) = seven_bad r
 
 unfoldable pub seven_of : ℕ → List ℕ
 seven_of code = seven_in (arrangement_of code) (found (code_refusal code) (cell_of code))
@@ -54,11 +49,11 @@ abbrev pub cell_at : List ℕ → Cell
 cell_at ns = record { face = get_or ns 2 0; resolution = get_or ns 3 0; row = get_or ns 4 0; column = get_or ns 5 0 }
 
 -- their code, or the refusal
-unfoldable pub coded_at : List ℕ → Coded
+unfoldable pub coded_at : List ℕ → Result ℕ ℕ
 coded_at ns = coded (arrangement_refusal (arrangement_at ns) otherwise cell_refusal (cell_at ns)) (code_of (arrangement_at ns) (cell_at ns))
 
 -- two numbers: refusal, code
-abbrev pub two_in : Coded → List ℕ
+abbrev pub two_in : Result ℕ ℕ → List ℕ
 two_in c = refusal_in c ∷ code_in c ∷ []
 
 -- of the first k cells
@@ -81,6 +76,6 @@ codes_memory ns lent = given (codes_refusal ns (length lent)) (in_front (codes_o
 
 -- ---- the answer: how many cells were answered, or the number of the refusal
 
-unfoldable pub batched : (r n : ℕ) → Batched
-batched zero n = Count n
-batched (suc r) n = Refused (suc r)
+unfoldable pub batched : (r n : ℕ) → Result ℕ ℕ
+batched zero n = Ok n
+batched (suc r) n = Err (suc r)

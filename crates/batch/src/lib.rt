@@ -11,33 +11,18 @@ ghost use Rattle.code.specs.Code.{code_of, cell_of, code_refusal, coded};
 ghost use Rattle.batch.specs.Batch.{seven, seven_of, cells_of, cells_refusal, cells_memory};
 ghost use Rattle.batch.specs.Batch.{two_in, coded_at, cells_in, codes_of, codes_refusal, codes_memory, batched};
 
-use cell::{Arrangement, Cell, Found};
-use code::{Coded, Split};
-
-// How many cells were answered, or the number of the refusal.
-#[derive(Clone, Copy)]
-pub enum Batched {
-    Count(u64),
-    Refused(u64),
-}
+use cell::{Arrangement, Cell};
 
 // The cell of a code, three levels at a time: 4 where it is no cell's.
-fn cell_by(table: &[u64; 729], code: u64) -> Found
+fn cell_by(table: &[u64; 729], code: u64) -> Result<Cell, u64>
     requires { Apart table.now }
     ensures { result ≡ found (code_refusal code) (cell_of code) }
 {
-    let Split::Parts {
-        face,
-        resolution,
-        path,
-    } = code::parts_of(code)
-    else {
-        return Found::Refused(4);
-    };
-    let place = ternary::apart_by(table, path);
-    Found::At(Cell {
-        face,
-        resolution,
+    let parts = code::parts_of(code)?;
+    let place = ternary::apart_by(table, parts.path);
+    Ok(Cell {
+        face: parts.face,
+        resolution: parts.resolution,
         row: place.row,
         column: place.column,
     })
@@ -63,8 +48,8 @@ fn put_code(table: &[u64; 729], code: u64, numbers: &mut [u64], at: usize)
     ensures { numbers.new ≡ sets numbers.old at (seven_of code) }
 {
     match cell_by(table, code) {
-        Found::At(cell) => put_cell(numbers, at, 0, code::arrangement_of(code), cell),
-        Found::Refused(refusal) => {
+        Ok(cell) => put_cell(numbers, at, 0, code::arrangement_of(code), cell),
+        Err(refusal) => {
             let nowhere = Arrangement { north: 0, south: 0 };
             let none = Cell {
                 face: 0,
@@ -82,56 +67,52 @@ fn put_cells(table: &[u64; 729], codes: &[u64], numbers: &mut [u64])
     requires { Apart table.now × (7 * length codes.now ≤ length numbers.old) }
     ensures { numbers.new ≡ sets numbers.old 0 (cells_of codes.now) }
 {
-    let mut i: usize = 0;
-    let mut at: usize = 0;
-    while i < codes.len() {
-        put_code(table, codes[i], numbers, at);
-        i = i + 1;
-        at = at + 7;
+    for (i, code) in codes.iter().enumerate() {
+        put_code(table, *code, numbers, 7 * i);
     }
 }
 
 // The cells of codes, seven numbers each: 8 where the room is short.
-pub fn code_cells(codes: &[u64], numbers: &mut [u64]) -> Batched
+pub fn code_cells(codes: &[u64], numbers: &mut [u64]) -> Result<u64, u64>
     ensures value { result ≡ batched (cells_refusal codes.now (length numbers.old)) (length codes.now) }
     ensures numbers_after { numbers.new ≡ cells_memory codes.now numbers.old }
 {
     if numbers.len() / 7 < codes.len() {
-        return Batched::Refused(8); // seven numbers to a code
+        return Err(8); // seven numbers to a code
     }
     let table = ternary::apart_table();
     put_cells(&table, codes, numbers);
-    Batched::Count(codes.len() as u64)
+    Ok(codes.len() as u64)
 }
 
 // The code of any numbers, three levels at a time: 5 where they are no arrangement, 2, 1 or 3 where they are no cell.
-fn coded_by(table: &[u16; 729], arrangement: Arrangement, cell: Cell) -> Coded
+fn coded_by(table: &[u16; 729], arrangement: Arrangement, cell: Cell) -> Result<u64, u64>
     requires { Woven table.now }
     ensures { result ≡ coded (arrangement_refusal arrangement otherwise cell_refusal cell) (code_of arrangement cell) }
 {
     let unarranged = arrangement.refusal();
     if unarranged != 0 {
-        return Coded::Refused(unarranged);
+        return Err(unarranged);
     }
     let refusal = cell.refusal();
     if refusal != 0 {
-        return Coded::Refused(refusal);
+        return Err(refusal);
     }
     let path = ternary::woven_by(table, cell.row, cell.column);
-    Coded::Code(code::code_at(arrangement, cell.face, cell.resolution, path))
+    Ok(code::code_at(arrangement, cell.face, cell.resolution, path))
 }
 
 // Puts what a cell gets to a place: the refusal, and the code or 0.
-fn put_coded(codes: &mut [u64], at: usize, coded: Coded)
+fn put_coded(codes: &mut [u64], at: usize, coded: Result<u64, u64>)
     requires { at + 2 ≤ length codes.old }
     ensures { codes.new ≡ sets codes.old at (two_in coded) }
 {
     match coded {
-        Coded::Code(code) => {
+        Ok(code) => {
             codes[at] = 0;
             codes[at + 1] = code;
         }
-        Coded::Refused(refusal) => {
+        Err(refusal) => {
             codes[at] = refusal;
             codes[at + 1] = 0;
         }
@@ -161,25 +142,21 @@ fn put_codes(table: &[u16; 729], numbers: &[u64], codes: &mut [u64])
     requires { Woven table.now × (2 * cells_in numbers.now ≤ length codes.old) }
     ensures { codes.new ≡ sets codes.old 0 (codes_of numbers.now) }
 {
-    let mut i: usize = 0;
-    let mut at: usize = 0;
-    while numbers.len() - i >= 6 {
-        put_at(table, numbers, i, codes, at);
-        i = i + 6;
-        at = at + 2;
+    for i in 0..numbers.len() / 6 {
+        put_at(table, numbers, 6 * i, codes, 2 * i);
     }
 }
 
 // The codes of cells of six numbers each, two numbers each: 8 where the room is short.
-pub fn cell_codes(numbers: &[u64], codes: &mut [u64]) -> Batched
+pub fn cell_codes(numbers: &[u64], codes: &mut [u64]) -> Result<u64, u64>
     ensures value { result ≡ batched (codes_refusal numbers.now (length codes.old)) (cells_in numbers.now) }
     ensures codes_after { codes.new ≡ codes_memory numbers.now codes.old }
 {
     let count = numbers.len() / 6;
     if codes.len() / 2 < count {
-        return Batched::Refused(8); // two numbers to a cell
+        return Err(8); // two numbers to a cell
     }
     let table = ternary::woven_table();
     put_codes(&table, numbers, codes);
-    Batched::Count(count as u64)
+    Ok(count as u64)
 }

@@ -1,10 +1,8 @@
 -- Cells and arrangements (01 "Faces, rows, names, codes" and "The grid we keep"), and their refusals. Assumes nothing.
-use Rattle.std.specs.Prelude.{ℕ, zero, suc, ◌≤◌, ◌<◌, ◌^◌, leb, ltb}
+use Rattle.std.specs.Prelude.{ℕ, zero, suc, ◌≤◌, ◌<◌, ◌^◌, leb, ltb, Err, Ok, Result}
 use Rattle.logic.specs.Refusal.{refuse, ◌otherwise◌}
 use Rattle.cell.specs.declared.Cell.{Cell}
 use Rattle.cell.specs.declared.Arrangement.{Arrangement}
-use Rattle.cell.specs.declared.Found.{Found}
-use Rattle.cell.specs.declared.Found.TheVariants.{At, Refused}
 
 -- "resolutions 0 to 15"; "Faces 0 to 5"; "let m = 3^k. A cell is a face, a row i from the top and a column j from the left, both from 0 to m - 1"
 pub record IsCell (c : Cell) : Type 0 where
@@ -31,6 +29,6 @@ unfoldable pub arrangement_refusal : Arrangement → ℕ
 arrangement_refusal a = refuse (ltb 3 a.north) 5 otherwise refuse (ltb 3 a.south) 5
 
 -- a cell, or the number of the refusal
-unfoldable pub found : ℕ → Cell → Found
-found zero c = At c
-found (suc r) c = Refused (suc r)
+unfoldable pub found : ℕ → Cell → Result Cell ℕ
+found zero c = Ok c
+found (suc r) c = Err (suc r)

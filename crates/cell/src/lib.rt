@@ -23,13 +23,6 @@ pub struct Arrangement {
     pub south: u64,
 }
 
-// A cell, or the number of the refusal.
-#[derive(Clone, Copy)]
-pub enum Found {
-    At(Cell),
-    Refused(u64),
-}
-
 impl Arrangement {
     // 5, or 0 where this is an arrangement.
     pub fn refusal(self) -> u64
@@ -67,17 +60,17 @@ impl Cell {
     }
 
     // The cell that this one is a child of.
-    pub fn parent(self) -> Found
+    pub fn parent(self) -> Result<Cell, u64>
         ensures { result ≡ found (parent_refusal self) (parent_of self) }
     {
         let refusal = self.refusal();
         if refusal != 0 {
-            return Found::Refused(refusal);
+            return Err(refusal);
         }
         if self.resolution == 0 {
-            return Found::Refused(12); // a face has no parent
+            return Err(12); // a face has no parent
         }
-        Found::At(self.parent_cell())
+        Ok(self.parent_cell())
     }
 
     // The same of a cell that has a parent.
@@ -94,20 +87,20 @@ impl Cell {
     }
 
     // The child that a digit names.
-    pub fn child(self, digit: u64) -> Found
+    pub fn child(self, digit: u64) -> Result<Cell, u64>
         ensures { result ≡ found (child_refusal self digit) (child_of self digit) }
     {
         let refusal = self.refusal();
         if refusal != 0 {
-            return Found::Refused(refusal);
+            return Err(refusal);
         }
         if digit > 8 {
-            return Found::Refused(3);
+            return Err(3);
         }
         if self.resolution == 15 {
-            return Found::Refused(12); // a finest cell has no child
+            return Err(12); // a finest cell has no child
         }
-        Found::At(self.child_cell(digit))
+        Ok(self.child_cell(digit))
     }
 
     // The same of a cell, and of a digit that names a child.

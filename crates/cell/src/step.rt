@@ -5,25 +5,25 @@ ghost use Rattle.cell.specs.Cell.{IsCell, IsArrangement, found};
 ghost use Rattle.cell.specs.Neighbour.{at, rows, turn_north, turn_south, leaves, within_face, neighbour_of, neighbour_refusal};
 ghost use Rattle.cell.specs.Neighbour.{out_of_belt, out_of_north, out_of_south, across_edge};
 
-use crate::{Arrangement, Cell, Found};
+use crate::{Arrangement, Cell};
 
 impl Cell {
     // "Moving a cell one step in a direction hands back a new cell."
-    pub fn step(self, arrangement: Arrangement, direction: u64) -> Found
+    pub fn step(self, arrangement: Arrangement, direction: u64) -> Result<Cell, u64>
         ensures { result ≡ found (neighbour_refusal arrangement self direction) (neighbour_of arrangement self direction) }
     {
         let unarranged = arrangement.refusal();
         if unarranged != 0 {
-            return Found::Refused(unarranged);
+            return Err(unarranged);
         }
         let refusal = self.refusal();
         if refusal != 0 {
-            return Found::Refused(refusal);
+            return Err(refusal);
         }
         if direction > 3 {
-            return Found::Refused(3);
+            return Err(3);
         }
-        Found::At(self.neighbour(arrangement, direction))
+        Ok(self.neighbour(arrangement, direction))
     }
 
     // The same of a cell and an arrangement.

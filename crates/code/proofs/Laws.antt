@@ -6,6 +6,7 @@ pub mod Inside
 pub mod Number
 pub mod Size
 -- What taking a code apart answers, and what is woven. Assumes nothing.
+use Rattle.std.specs.Prelude.{Err, Ok}
 use mathlib.Core.Path.{◌≡◌, refl, sym, ap, ap₂, ◌∙◌}
 use mathlib.Core.Bool.{Bool, true, false, ◌&&◌}
 use Prim.Native.Nat.{ℕ, suc, ◌+◌, ◌-◌, ◌*◌, ◌/◌, ◌%◌, ◌^◌, ◌≤◌, ◌<◌}
@@ -19,7 +20,6 @@ use Rattle.ternary.proofs.Laws.Weave.{weave-shift, cell-part, row_more, column-m
 use Rattle.cell.specs.declared.Cell.{Cell}
 use Rattle.cell.specs.declared.Arrangement.{Arrangement}
 use Rattle.cell.specs.Cell.{IsCell, IsArrangement}
-use Rattle.code.specs.declared.Split.TheVariants as split-as
 use Rattle.code.specs.Code.{cell_split, arrangement_of, is_of, is_cell_code, cell_code_refusal, path_in, cell_code, cell_code_at, code_at, code_of}
 use Rattle.code.proofs.Laws.Code.{path-weave, path-in-small, cell-code-passes, cell-code-stops}
 
@@ -96,14 +96,14 @@ module _ (code : ℕ) (t : is_cell_code code ≡ true) where
 -- ---- what is answered
 
 -- 4 where a number is no code
-pub no_code : (code : ℕ) → is_cell_code code ≡ false → split-as.Refused 4 ≡ cell_split (cell_code_refusal code) code
+pub no_code : (code : ℕ) → is_cell_code code ≡ false → Err 4 ≡ cell_split (cell_code_refusal code) code
 unfolding cell_split
 no_code code e = sym (ap (λ (r : ℕ). cell_split r code) (cell-code-stops code e))
 
 -- and else its parts
-pub a-cell-code : (code : ℕ) {p : ℕ} → is_cell_code code ≡ true → p ≡ path_in code → split-as.Parts (code / 16 / 205891132094649) (code % 16) p ≡ cell_split (cell_code_refusal code) code
+pub a-cell-code : (code : ℕ) {p : ℕ} → is_cell_code code ≡ true → p ≡ path_in code → Ok (record { face = code / 16 / 205891132094649; resolution = code % 16; path = p }) ≡ cell_split (cell_code_refusal code) code
 unfolding cell_split
-a-cell-code code e h = ap (split-as.Parts (code / 16 / 205891132094649) (code % 16)) h ∙ sym (ap (λ (r : ℕ). cell_split r code) (cell-code-passes code e))
+a-cell-code code e h = ap (λ (x : ℕ). Ok (record { face = code / 16 / 205891132094649; resolution = code % 16; path = x })) h ∙ sym (ap (λ (r : ℕ). cell_split r code) (cell-code-passes code e))
 
 -- a number is no code where its face is none of the six
 pub no-face : (code : ℕ) → 6 ≤ code / 16 / 205891132094649 → is_cell_code code ≡ false

@@ -1,17 +1,12 @@
 -- The code of a cell (01 "Faces, rows, names, codes"). Assumes nothing.
-use Rattle.std.specs.Prelude.{Bool, ◌&&◌, not, ℕ, zero, suc, ◌+◌, ◌-◌, ◌*◌, ◌/◌, ◌%◌, ◌^◌, List, [], ◌∷◌, ◌++◌, eqb, ltb}
+use Rattle.std.specs.Prelude.{Bool, ◌&&◌, not, ℕ, zero, suc, ◌+◌, ◌-◌, ◌*◌, ◌/◌, ◌%◌, ◌^◌, List, [], ◌∷◌, ◌++◌, eqb, ltb, Err, Ok, Result}
+use Rattle.code.specs.declared.Parts.{Parts}
 use Rattle.logic.specs.Refusal.{refuse}
 use Rattle.ternary.specs.Digits.{value}
 use Rattle.ternary.specs.Weave.{row_in, column_in}
 use Rattle.cell.specs.declared.Cell.{Cell}
 use Rattle.cell.specs.declared.Arrangement.{Arrangement}
-use Rattle.cell.specs.declared.Found.{Found}
-use Rattle.cell.specs.declared.Found.TheVariants as found_as
 use Rattle.cell.specs.Cell.{IsCell, IsArrangement}
-use Rattle.code.specs.declared.Coded.{Coded}
-use Rattle.code.specs.declared.Coded.TheVariants.{Code, Refused}
-use Rattle.code.specs.declared.Split.{Split}
-use Rattle.code.specs.declared.Split.TheVariants as split-as
 
 -- "k digits, coarsest first; each digit is 3 times the ternary digit of i plus that of j"
 unfoldable pub digits_of : (k i j : ℕ) → List ℕ
@@ -88,33 +83,33 @@ code_refusal code = refuse (not (is_code code)) 4
 
 -- ---- the answer: a code, or the number of the refusal
 
-unfoldable pub coded : ℕ → ℕ → Coded
-coded zero code = Code code
-coded (suc r) code = Refused (suc r)
+unfoldable pub coded : ℕ → ℕ → Result ℕ ℕ
+coded zero code = Ok code
+coded (suc r) code = Err (suc r)
 
 -- what a code is made of: a cell that was found in an arrangement. A refusal asks nothing of either
-abbrev pub Placed : Arrangement → Found → Type 0
-Placed a (found_as.At c) = IsArrangement a × IsCell c
-Placed a (found_as.Refused r) = Unit {0}
+abbrev pub Placed : Arrangement → Result Cell ℕ → Type 0
+Placed a (Ok c) = IsArrangement a × IsCell c
+Placed a (Err r) = Unit {0}
 
 -- of a cell that was found
-abbrev pub found_code : Arrangement → Found → Coded
-found_code a (found_as.At c) = Code (code_of a c)
-found_code a (found_as.Refused r) = Refused r
+abbrev pub found_code : Arrangement → Result Cell ℕ → Result ℕ ℕ
+found_code a (Ok c) = Ok (code_of a c)
+found_code a (Err r) = Err r
 
 -- the cell's part taken apart, or the number of the refusal
-unfoldable pub cell_split : (refusal x : ℕ) → Split
-cell_split zero x = split-as.Parts (x / 16 / 9 ^ 15) (x % 16) (path_in x)
-cell_split (suc r) x = split-as.Refused (suc r)
+unfoldable pub cell_split : (refusal x : ℕ) → Result Parts ℕ
+cell_split zero x = Ok (record { face = x / 16 / 9 ^ 15; resolution = x % 16; path = path_in x })
+cell_split (suc r) x = Err (suc r)
 
-abbrev pub split : (refusal code : ℕ) → Split
+abbrev pub split : (refusal code : ℕ) → Result Parts ℕ
 split r code = cell_split r (code / 16)
 
 -- what each case of `Coded` stands for
-abbrev pub refusal_in : Coded → ℕ
-refusal_in (Code code) = 0
-refusal_in (Refused r) = r
+abbrev pub refusal_in : Result ℕ ℕ → ℕ
+refusal_in (Ok code) = 0
+refusal_in (Err r) = r
 
-abbrev pub code_in : Coded → ℕ
-code_in (Code code) = code
-code_in (Refused r) = 0
+abbrev pub code_in : Result ℕ ℕ → ℕ
+code_in (Ok code) = code
+code_in (Err r) = 0

@@ -10,27 +10,17 @@ ghost use Rattle.code.specs.Code.{code_at, code_of, is_code, cell_of, arrangemen
 ghost use Rattle.code.specs.Inside.{start_of};
 ghost use Rattle.code.specs.Number.{code_as};
 
-use cell::{Arrangement, Cell, Found};
+use cell::{Arrangement, Cell};
 
 // The size of a face, 9^15.
 pub const FACE_SIZE: u64 = 205_891_132_094_649;
 
-// A code, or the number of the refusal.
+// What a code is made of.
 #[derive(Clone, Copy)]
-pub enum Coded {
-    Code(u64),
-    Refused(u64),
-}
-
-// A code taken apart, or the number of the refusal.
-#[derive(Clone, Copy)]
-pub enum Split {
-    Parts {
-        face: u64,
-        resolution: u64,
-        path: u64,
-    },
-    Refused(u64),
+pub struct Parts {
+    pub face: u64,
+    pub resolution: u64,
+    pub path: u64,
 }
 
 // The cell's part of a code, of a face, a resolution and a path.
@@ -102,29 +92,27 @@ pub fn code_of(arrangement: Arrangement, cell: Cell) -> u64
 }
 
 // The code of any numbers: 5 where they are no arrangement, 2, 1 or 3 where they are no cell.
-pub fn coded_cell(arrangement: Arrangement, cell: Cell) -> Coded
+pub fn coded_cell(arrangement: Arrangement, cell: Cell) -> Result<u64, u64>
     ensures { result ≡ coded (arrangement_refusal arrangement otherwise cell_refusal cell) (code_of arrangement cell) }
 {
     let unarranged = arrangement.refusal();
     if unarranged != 0 {
-        return Coded::Refused(unarranged);
+        return Err(unarranged);
     }
     let refusal = cell.refusal();
     if refusal != 0 {
-        return Coded::Refused(refusal);
+        return Err(refusal);
     }
-    Coded::Code(code_of(arrangement, cell))
+    Ok(code_of(arrangement, cell))
 }
 
 // The code of a cell that was found, or the refusal.
-pub fn found_code(arrangement: Arrangement, found: Found) -> Coded
+pub fn found_code(arrangement: Arrangement, found: Result<Cell, u64>) -> Result<u64, u64>
     requires { Placed arrangement found }
     ensures { result ≡ found_code arrangement found }
 {
-    match found {
-        Found::At(cell) => Coded::Code(code_of(arrangement, cell)),
-        Found::Refused(refusal) => Coded::Refused(refusal), // handed on
-    }
+    let place = found?;
+    Ok(code_of(arrangement, place))
 }
 
 // Whether a number is the cell's part of a code: below 6 x 9^15 it lies in one of the faces.
@@ -147,30 +135,30 @@ pub fn is_code(code: u64) -> bool
 
 // The face, the resolution and the path of the cell's part of a code: 4 where it is none. One quotient tells both the path and whether a digit
 // stands below the resolution.
-fn cell_parts(part: u64) -> Split
+fn cell_parts(part: u64) -> Result<Parts, u64>
     ensures { result ≡ cell_split (cell_code_refusal part) part }
 {
     let number = part / 16;
     let face = number / FACE_SIZE;
     if face >= 6 {
-        return Split::Refused(4); // no face
+        return Err(4); // no face
     }
     let resolution = part % 16;
     let step = ternary::nine_power(15 - resolution);
     let rest = number % FACE_SIZE;
     let path = rest / step;
     if path * step != rest {
-        return Split::Refused(4); // a digit below the resolution
+        return Err(4); // a digit below the resolution
     }
-    Split::Parts {
+    Ok(Parts {
         face,
         resolution,
         path,
-    }
+    })
 }
 
 // The face, the resolution and the path of a code: 4 where it is no cell's.
-pub fn parts_of(code: u64) -> Split
+pub fn parts_of(code: u64) -> Result<Parts, u64>
     ensures { result ≡ split (code_refusal code) code }
 {
     cell_parts(code / 16)
@@ -195,21 +183,14 @@ pub fn is_of(arrangement: Arrangement, code: u64) -> bool
 }
 
 // The cell of a code: 4 where it is no cell's.
-pub fn cell_of(code: u64) -> Found
+pub fn cell_of(code: u64) -> Result<Cell, u64>
     ensures { result ≡ found (code_refusal code) (cell_of code) }
 {
-    let Split::Parts {
-        face,
-        resolution,
-        path,
-    } = parts_of(code)
-    else {
-        return Found::Refused(4);
-    };
-    let place = ternary::unwoven(path);
-    Found::At(Cell {
-        face,
-        resolution,
+    let parts = parts_of(code)?;
+    let place = ternary::unwoven(parts.path);
+    Ok(Cell {
+        face: parts.face,
+        resolution: parts.resolution,
         row: place.row,
         column: place.column,
     })

@@ -1,4 +1,5 @@
 -- A listing in its room, the names in front of all but the last byte and a line feed behind them; and the three listings, or the number. Assumes nothing.
+use Rattle.std.specs.Prelude.{None, Option, Some}
 use mathlib.Core.Path.{◌≡◌, refl, sym, ap, ◌∙◌, subst}
 use mathlib.Core.Bool.{true}
 use mathlib.Core.Logic.{inl, inr}
@@ -8,8 +9,6 @@ use native.Mathlib.Numerals.{add-one}
 use native.Mathlib.Omega.{arith}
 use lib.ListN.{length, take, drop, set, length-append, length-drop, length-set}
 use lib.Seq.{take-suc-set, take-append-le, length-take-le}
-use Rattle.console.specs.declared.BytesRead.{BytesRead}
-use Rattle.console.specs.declared.BytesRead.TheVariants.{Count, Failed}
 use Rattle.console.specs.Input.{Fits}
 use Rattle.console.specs.Names.{NamesWritten}
 use Rattle.report.specs.Put.{Put}
@@ -78,6 +77,6 @@ number-written t u y z p {r = suc r} {end = end} {later = later} k w h =
     (put-taken w h, refl, k.2)
 
 -- the bytes of a file, or none, have their room
-pub bytes_fit : (bytes : List ℕ) (r : BytesRead) → Fits bytes r → bytes_of r ≤ length bytes
-bytes_fit bytes (Count n) h = h
-bytes_fit bytes Failed h = omega arith
+pub bytes_fit : (bytes : List ℕ) (r : Option ℕ) → Fits bytes r → bytes_of r ≤ length bytes
+bytes_fit bytes (Some n) h = h
+bytes_fit bytes None h = omega arith

@@ -1,10 +1,8 @@
 -- What `compare` prints (02, W-205): "names, one a line, an empty line after each listing, or the refusal number alone on its line". Assumes nothing.
-use Rattle.std.specs.Prelude.{◌≡◌, true, false, ◌⊎◌, List, ℕ, zero, suc, ◌+◌, ◌*◌, ◌≤◌, ◌<◌, length, take, drop}
+use Rattle.std.specs.Prelude.{◌≡◌, true, false, ◌⊎◌, List, ℕ, zero, suc, ◌+◌, ◌*◌, ◌≤◌, ◌<◌, length, take, drop, None, Option, Some}
 use Rattle.report.specs.Names.{listing_lines}
 use Rattle.report.specs.Lines.{number_line}
 use Rattle.comparing.specs.Compare.{ThreeLists, shared_codes, compare_place}
-use Rattle.console.specs.declared.Room.{Room}
-use Rattle.console.specs.declared.Room.TheVariants.{From, Failed}
 use Rattle.compare.specs.declared.Shown.{Shown}
 
 -- Names are put part by part into a room, and each part is printed before the next is put. Of what was printed no statement can speak; so this one
@@ -18,14 +16,14 @@ pub record ListingWritten (codes out : List ℕ) (end : ℕ) : Type 0 where
   pub fits : end ≤ length out
 
 -- only printing fails, and a listing that has room is not printed on the way
-abbrev pub ListingIn : (codes out : List ℕ) → Room → Type 0
-ListingIn codes out (From end) = ListingWritten codes out end
-ListingIn codes out Failed = length out < 17 * length codes + 1
+abbrev pub ListingIn : (codes out : List ℕ) → Option ℕ → Type 0
+ListingIn codes out (Some end) = ListingWritten codes out end
+ListingIn codes out None = length out < 17 * length codes + 1
 
 -- of what was printed no statement can speak
-abbrev pub ListingPrinted : (codes out : List ℕ) → Room → Type 0
-ListingPrinted codes out (From end) = ListingWritten codes out end
-ListingPrinted codes out Failed = Unit {0}
+abbrev pub ListingPrinted : (codes out : List ℕ) → Option ℕ → Type 0
+ListingPrinted codes out (Some end) = ListingWritten codes out end
+ListingPrinted codes out None = Unit {0}
 
 -- where printing failed nothing is said of the texts
 pub record Stopped (shown : Shown) : Type 0 where

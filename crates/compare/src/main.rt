@@ -7,8 +7,8 @@ ghost use Rattle.compare.specs.Printed.{ListingIn, ListingPrinted, Stopped, Thre
 ghost use Rattle.compare.specs.Loaded.{bytes_of};
 
 use comparing::Compared;
-use console::{BytesRead, Room};
 use reader::Checked;
+use reading::Refused;
 
 // Whether all was printed. How many bytes stand in each of the three rooms then; and the refusal that is to be said, 0 for none, with its place.
 #[derive(Clone, Copy)]
@@ -30,30 +30,26 @@ fn usage(rt: &HostRuntime) {
 }
 
 // A listing: its names, one a line, and an empty line. What is left of it stands in front, behind what was printed.
-fn put_listing(rt: &HostRuntime, codes: &[u64], out: &mut [u8]) -> Room
+fn put_listing(rt: &HostRuntime, codes: &[u64], out: &mut [u8]) -> Option<usize>
     requires { 18 ≤ length out.old }
     ensures { ListingIn codes.now out.new result }
 {
     let last = out.len() - 1;
-    let Room::From(end) = console::put_all_names(rt, codes, &mut out[..last]) else {
-        return Room::Failed;
-    };
+    let end = console::put_all_names(rt, codes, &mut out[..last])?;
     out[end] = b'\n';
-    Room::From(end + 1)
+    Some(end + 1)
 }
 
 // The same, and what is left of it is printed too.
-fn print_listing(rt: &HostRuntime, codes: &[u64], out: &mut [u8]) -> Room
+fn print_listing(rt: &HostRuntime, codes: &[u64], out: &mut [u8]) -> Option<usize>
     requires { 18 ≤ length out.old }
     ensures { ListingPrinted codes.now out.new result }
 {
-    let Room::From(end) = put_listing(rt, codes, out) else {
-        return Room::Failed;
-    };
+    let end = put_listing(rt, codes, out)?;
     if console::printed_first(rt, out, end) {
-        return Room::From(end);
+        return Some(end);
     }
-    Room::Failed
+    None
 }
 
 // What is left where printing failed: nothing more is printed.
@@ -83,13 +79,13 @@ fn print_three(
     requires { (18 ≤ length one.old) × (18 ≤ length two.old) × (18 ≤ length three.old) }
     ensures { ThreePrinted (lists firsts.now seconds.now boths.now) (lists one.new two.new three.new) result }
 {
-    let Room::From(first) = print_listing(rt, firsts, one) else {
+    let Some(first) = print_listing(rt, firsts, one) else {
         return stopped();
     };
-    let Room::From(second) = print_listing(rt, seconds, two) else {
+    let Some(second) = print_listing(rt, seconds, two) else {
         return stopped();
     };
-    let Room::From(both) = print_listing(rt, boths, three) else {
+    let Some(both) = print_listing(rt, boths, three) else {
         return stopped();
     };
     Shown {
@@ -118,20 +114,16 @@ fn print_compared(
     ensures { ListingsWritten (compare_refusal first.now second.now (lists firsts.old seconds.old boths.old)) first.now second.now (lists one.new two.new three.new) result }
 {
     match comparing::compare(first, second, firsts, seconds, boths) {
-        Compared::Listings {
-            first,
-            second,
-            both,
-        } => print_three(
+        Ok(compared) => print_three(
             rt,
-            &firsts[..first.count as usize],
-            &seconds[..second.count as usize],
-            &boths[..both.count as usize],
+            &firsts[..compared.first.count as usize],
+            &seconds[..compared.second.count as usize],
+            &boths[..compared.both.count as usize],
             one,
             two,
             three,
         ),
-        Compared::Refused { refusal, place } => {
+        Err(Refused { refusal, place }) => {
             let end = report::put_line(refusal, one);
             console::print_first(rt, one, end);
             Shown {
@@ -157,13 +149,8 @@ fn say_refused(rt: &HostRuntime, first: &[u8], refusal: u64, place: u64) {
         return;
     }
     match reader::check(first) {
-        Checked::Refused { .. } => console::say_text(
-            rt,
-            b"compare: the first file",
-            refusal,
-            place,
-        ),
-        Checked::Text { .. } => console::say_text(rt, b"compare: the second file", refusal, place),
+        Err(Refused { .. }) => console::say_text(rt, b"compare: the first file", refusal, place),
+        Ok(Checked { .. }) => console::say_text(rt, b"compare: the second file", refusal, place),
     }
 }
 
@@ -192,12 +179,12 @@ fn compare_texts(rt: &HostRuntime, first: &[u8], second: &[u8]) {
 }
 
 // "one it can't read counts as empty"
-fn bytes_of(read: BytesRead) -> usize
+fn bytes_of(read: Option<usize>) -> usize
     ensures { result ≡ bytes_of read }
 {
     match read {
-        BytesRead::Count(count) => count,
-        BytesRead::Failed => 0, // said by load
+        Some(count) => count,
+        None => 0, // said by load
     }
 }
 

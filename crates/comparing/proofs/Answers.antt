@@ -1,4 +1,7 @@
 -- The answers of comparing, refusal by refusal, and what the lent codes hold then. Assumes nothing.
+use Rattle.std.specs.Prelude.{Err, Ok, Result}
+use Rattle.reading.specs.declared.Refused.{Refused}
+use Rattle.comparing.specs.declared.Compared.{Compared}
 use mathlib.Core.Path.{◌≡◌, refl, sym, ap, ap₂, ◌∙◌}
 use mathlib.Core.Bool.{Bool, true, false, ◌&&◌, ◌||◌, not}
 use mathlib.Core.List.{List, ◌++◌}
@@ -22,8 +25,6 @@ use Rattle.reader.specs.Check.{text_refusal, place_with}
 use Rattle.reader.specs.Laws.Answer.{TextChecked, TextRefused, checked-arrangement}
 use Rattle.comparing.specs.declared.Cursor.{Cursor}
 use Rattle.comparing.specs.declared.Read.{Read}
-use Rattle.comparing.specs.declared.Compared.{Compared}
-use Rattle.comparing.specs.declared.Compared.TheVariants.{Listings, Refused}
 use Rattle.comparing.specs.Compare.{first_only, second_only, in_both, ThreeLists, codes_for, shared_codes, with_codes, Compares}
 use Rattle.comparing.specs.Compare.{arrangements_differ, room_short, compare_refusal, compare_place, compared}
 use Rattle.comparing.proofs.Laws.Compare.{first-tie, second-tie}
@@ -32,23 +33,23 @@ use Rattle.comparing.specs.Internal.Found.{WasRead, TextsMeasured, TextsFound, t
 -- ---- refused: nothing is changed
 
 refused-with :
-    {t u : List ℕ} {lent : ThreeLists} {r p : ℕ} → compare_refusal t u lent ≡ r → (r ≡ 0 → ⊥) → p ≡ compare_place t u → Compares t u lent lent (Refused r p)
+    {t u : List ℕ} {lent : ThreeLists} {r p : ℕ} → compare_refusal t u lent ≡ r → (r ≡ 0 → ⊥) → p ≡ compare_place t u → Compares t u lent lent (Err (record { refusal = r; place = p }))
 unfolding compared given
 refused-with {r = zero} e h k = absurd (h refl)
 refused-with {t = t} {u = u} {lent = lent} {r = suc r} e h k =
     record {
-      answer = ap (Refused (suc r)) k ∙ sym (ap (λ (x : ℕ). compared x t u) e);
+      answer = ap (λ (p : ℕ). Err (record { refusal = suc r; place = p })) k ∙ sym (ap (λ (x : ℕ). compared x t u) e);
       memory = sym (ap (λ (x : ℕ). given x (with_codes (shared_codes t u) lent) lent) e);
     }
 
-pub first-refused : {t u : List ℕ} {lent : ThreeLists} {r p : ℕ} → TextRefused t r p → Compares t u lent lent (Refused r p)
+pub first-refused : {t u : List ℕ} {lent : ThreeLists} {r p : ℕ} → TextRefused t r p → Compares t u lent lent (Err (record { refusal = r; place = p }))
 unfolding compare_refusal compare_place
 first-refused {t} {u} {lent} {r} {p} v =
     let n : text_refusal t ≡ 0 → ⊥ = λ z. v.some (sym v.refusal ∙ z) in
     refused-with (stops _ _ n ∙ v.refusal) v.some
     (v.place ∙ ap (λ (x : ℕ). place_with x t) (sym v.refusal) ∙ sym (given-none (text_refusal t) (place_with (text_refusal u) u) (place_with (text_refusal t) t) n))
 
-pub second-refused : {t u : List ℕ} {lent : ThreeLists} {r p : ℕ} → text_refusal t ≡ 0 → TextRefused u r p → Compares t u lent lent (Refused r p)
+pub second-refused : {t u : List ℕ} {lent : ThreeLists} {r p : ℕ} → text_refusal t ≡ 0 → TextRefused u r p → Compares t u lent lent (Err (record { refusal = r; place = p }))
 unfolding compare_refusal compare_place
 second-refused {t} {u} {lent} {r} {p} e v =
     refused-with (passes _ e ∙ stops _ _ (λ z. v.some (sym v.refusal ∙ z)) ∙ v.refusal) v.some
@@ -65,7 +66,7 @@ module _ (t u : List ℕ) (e : text_refusal t ≡ 0) (f : text_refusal u ≡ 0) 
   unfolding compare_refusal
   both_read lent = passes _ e ∙ passes _ f
 
-  fourteen : {lent : ThreeLists} → arrangements_differ t u ≡ true → Compares t u lent lent (Refused 14 0)
+  fourteen : {lent : ThreeLists} → arrangements_differ t u ≡ true → Compares t u lent lent (Err (record { refusal = 14; place = 0 }))
   unfolding ◌otherwise◌
   fourteen {lent} d =
       refused-with (both_read lent ∙ ap (λ (x : Bool). refuse x 14 otherwise refuse (room_short lent (shared_codes t u)) 8) d) (λ z. omega arith) no_place
@@ -82,13 +83,13 @@ module _ {t u : List ℕ} {p : Profile} {n s c z b : ℕ} {one : Read} (v : WasR
   first-south : one.arrangement.south ≡ south_of t
   first-south = ap (λ x. x.south) v.arranged
 
-  pub other-north : {lent : ThreeLists} → (one.arrangement.north ≡ n → ⊥) → Compares t u lent lent (Refused 14 0)
+  pub other-north : {lent : ThreeLists} → (one.arrangement.north ≡ n → ⊥) → Compares t u lent lent (Err (record { refusal = 14; place = 0 }))
   unfolding arrangements_differ
   other-north h =
       fourteen t u v.allowed w.allowed
       (ap (λ (x : Bool). not (x && eqb (south_of t) (south_of u))) (ne_eqb (north_of t) (north_of u) (λ i. h (first-north ∙ i ∙ sym w.north))))
 
-  pub other-south : {lent : ThreeLists} → (one.arrangement.south ≡ s → ⊥) → Compares t u lent lent (Refused 14 0)
+  pub other-south : {lent : ThreeLists} → (one.arrangement.south ≡ s → ⊥) → Compares t u lent lent (Err (record { refusal = 14; place = 0 }))
   unfolding arrangements_differ
   other-south h =
       fourteen t u v.allowed w.allowed
@@ -135,7 +136,7 @@ module _ {t u : List ℕ} {one two : Read} {found : Cursor} (v : WasRead t one) 
       || (ltb (length lent.seconds) (m.seconds i) || ltb (length lent.boths) (m.boths i)))
       8)
 
-  pub room-short : {lent : ThreeLists} {b : Bool} → b ≡ short lent found → b ≡ true → Compares t u lent lent (Refused 8 0)
+  pub room-short : {lent : ThreeLists} {b : Bool} → b ≡ short lent found → b ≡ true → Compares t u lent lent (Err (record { refusal = 8; place = 0 }))
   room-short {lent} e h =
       refused-with (rooms lent ∙ ap (λ (x : Bool). refuse x 8) (sym e ∙ h)) (λ z. omega arith) (no_place t u v.allowed w.allowed)
 
@@ -160,10 +161,10 @@ module _ {t u : List ℕ} {one two : Read} {found : Cursor} (v : WasRead t one) 
       let c₁ : found.firsts ≡ length (first_only a b) = m.firsts ∙ counted (first_only a b) in
       let c₂ : found.seconds ≡ length (second_only a b) = m.seconds ∙ counted (second_only a b) in
       let c₃ : found.boths ≡ length (in_both a b) = m.boths ∙ counted (in_both a b) in
-      λ i. Listings (record { count = c₁ i; size = s₁ i }) (record { count = c₂ i; size = s₂ i }) (record { count = c₃ i; size = m.size i })
+      λ i. Ok (record { first = record { count = c₁ i; size = s₁ i }; second = record { count = c₂ i; size = s₂ i }; both = record { count = c₃ i; size = m.size i } })
 
   pub all_listed :
-      {lent later : ThreeLists} {b : Bool} {end : Cursor} {r : Compared} → b ≡ short lent found → b ≡ false → TextsFound t u lent later end →
+      {lent later : ThreeLists} {b : Bool} {end : Cursor} {r : Result Compared Refused} → b ≡ short lent found → b ≡ false → TextsFound t u lent later end →
       r ≡ tied_up found one.size two.size → Compares t u lent later r
   all_listed {lent} {later} e h l q =
       let n : short lent found ≡ false = sym e ∙ h in

@@ -1,5 +1,7 @@
 -- Comparing two texts (02, W-205): the three listings, what is answered, the refusals and their order. Assumes nothing.
-use Rattle.std.specs.Prelude.{◌≡◌, Bool, ◌&&◌, ◌||◌, not, List, map, ℕ, zero, suc, eqb, ltb, length}
+use Rattle.std.specs.Prelude.{◌≡◌, Bool, ◌&&◌, ◌||◌, not, List, map, ℕ, zero, suc, eqb, ltb, length, Err, Ok, Result}
+use Rattle.reading.specs.declared.Refused.{Refused}
+use Rattle.comparing.specs.declared.Compared.{Compared}
 use Rattle.logic.specs.Lent.{in_front}
 use Rattle.logic.specs.Refusal.{refuse, ◌otherwise◌, given}
 use Rattle.cell.specs.declared.Cell.{Cell}
@@ -9,8 +11,6 @@ use Rattle.reading.specs.Ground.{whole_cells, Covers, size_sum}
 use Rattle.reading.specs.TextReading.{nodes_of, north_of, south_of, text_arrangement}
 use Rattle.reader.specs.Check.{text_refusal, place_with}
 use Rattle.comparing.specs.declared.Listing.{Listing}
-use Rattle.comparing.specs.declared.Compared.{Compared}
-use Rattle.comparing.specs.declared.Compared.TheVariants.{Listings, Refused}
 use Rattle.comparing.specs.Shared.{shared}
 
 -- ---- "ground only in the first, only in the second, and in both", of two readings
@@ -81,11 +81,11 @@ compare_place t u = given (text_refusal t) (place_with (text_refusal u) u) (plac
 abbrev pub listing_of : List Cell → Listing
 listing_of cells = record { count = length cells; size = size_sum cells }
 
-unfoldable pub compared : (r : ℕ) (t u : List ℕ) → Compared
+unfoldable pub compared : (r : ℕ) (t u : List ℕ) → Result Compared Refused
 unfolding compare_place
 compared zero t u =
-    Listings (listing_of (first_only (nodes_of t) (nodes_of u))) (listing_of (second_only (nodes_of t) (nodes_of u))) (listing_of (in_both (nodes_of t) (nodes_of u)))
-compared (suc r) t u = Refused (suc r) (compare_place t u)
+    Ok (record { first = listing_of (first_only (nodes_of t) (nodes_of u)); second = listing_of (second_only (nodes_of t) (nodes_of u)); both = listing_of (in_both (nodes_of t) (nodes_of u)) })
+compared (suc r) t u = Err (record { refusal = suc r; place = compare_place t u })
 
 -- the lent codes afterwards: "A refusal changes no lent byte; an answer changes only its own length."
 abbrev pub with_codes : (codes lent : ThreeLists) → ThreeLists
@@ -93,6 +93,6 @@ with_codes codes lent =
     lists (in_front codes.firsts lent.firsts) (in_front codes.seconds lent.seconds) (in_front codes.boths lent.boths)
 
 -- what is promised
-pub record Compares (t u : List ℕ) (lent later : ThreeLists) (r : Compared) : Type 0 where
+pub record Compares (t u : List ℕ) (lent later : ThreeLists) (r : Result Compared Refused) : Type 0 where
   pub answer : r ≡ compared (compare_refusal t u lent) t u
   pub memory : later ≡ given (compare_refusal t u lent) (with_codes (shared_codes t u) lent) lent

@@ -10,6 +10,7 @@ ghost use Rattle.comparing.specs.Internal.Found.{past_of, weight, ChildIs, CellF
 
 use cell::Arrangement;
 use reader::Checked;
+use reading::Refused;
 
 // How much of a cell a text covers: nothing, all, or what its list covers.
 const NOTHING: u64 = 0;
@@ -25,18 +26,12 @@ pub struct Listing {
     pub size: u64,
 }
 
-// The three listings; or the refusal, with the place for 9.
+// What only the first text covers, what only the second, and what both.
 #[derive(Clone, Copy)]
-pub enum Compared {
-    Listings {
-        first: Listing,
-        second: Listing,
-        both: Listing,
-    },
-    Refused {
-        refusal: u64,
-        place: u64,
-    },
+pub struct Compared {
+    pub first: Listing,
+    pub second: Listing,
+    pub both: Listing,
 }
 
 // How much of a cell a text covers, and the place of the next byte.
@@ -351,11 +346,11 @@ fn is_short(found: Cursor, firsts: usize, seconds: usize, boths: usize) -> bool
 }
 
 // How long the listings are, and their sizes: what is in both and what is in one only make up that one, so two sizes follow from the third.
-fn listings(found: Cursor, first: u64, second: u64) -> Compared
+fn listings(found: Cursor, first: u64, second: u64) -> Result<Compared, Refused>
     requires { (found.size ≤ first) × (found.size ≤ second) }
     ensures { result ≡ tied_up found first second }
 {
-    Compared::Listings {
+    Ok(Compared {
         first: Listing {
             count: found.firsts as u64,
             size: first - found.size,
@@ -368,7 +363,7 @@ fn listings(found: Cursor, first: u64, second: u64) -> Compared
             count: found.boths as u64,
             size: found.size,
         },
-    }
+    })
 }
 
 // The three listings of two texts of one arrangement: 8 where a room is short.
@@ -380,16 +375,16 @@ fn list_both(
     firsts: &mut [u64],
     seconds: &mut [u64],
     boths: &mut [u64],
-) -> Compared
+) -> Result<Compared, Refused>
     requires { WasRead first.now one × WasRead second.now two × (arrangements_differ first.now second.now ≡ false) }
     ensures { Compares first.now second.now (lists firsts.old seconds.old boths.old) (lists firsts.new seconds.new boths.new) result }
 {
     let found = measure_texts(first, second, one, two);
     if is_short(found, firsts.len(), seconds.len(), boths.len()) {
-        return Compared::Refused {
+        return Err(Refused {
             refusal: 8,
             place: 0,
-        };
+        });
     }
     list_texts(first, second, one, two, firsts, seconds, boths);
     listings(found, one.size, two.size)
@@ -403,41 +398,30 @@ fn compare_second(
     firsts: &mut [u64],
     seconds: &mut [u64],
     boths: &mut [u64],
-) -> Compared
+) -> Result<Compared, Refused>
     requires { WasRead first.now one }
     ensures { Compares first.now second.now (lists firsts.old seconds.old boths.old) (lists firsts.new seconds.new boths.new) result }
 {
-    match reader::check(second) {
-        Checked::Refused { refusal, place } => Compared::Refused { refusal, place },
-        Checked::Text {
-            profile: _,
-            north,
-            south,
-            cells: _,
-            size,
-            body,
-        } => {
-            let arrangement = one.arrangement;
-            if arrangement.north != north {
-                return Compared::Refused {
-                    refusal: 14,
-                    place: 0,
-                };
-            }
-            if arrangement.south != south {
-                return Compared::Refused {
-                    refusal: 14,
-                    place: 0,
-                };
-            }
-            let two = Read {
-                arrangement: Arrangement { north, south },
-                size,
-                body,
-            };
-            list_both(first, second, one, two, firsts, seconds, boths)
-        }
+    let checked = reader::check(second)?;
+    let arrangement = one.arrangement;
+    if arrangement.north != checked.arrangement.north {
+        return Err(Refused {
+            refusal: 14,
+            place: 0,
+        });
     }
+    if arrangement.south != checked.arrangement.south {
+        return Err(Refused {
+            refusal: 14,
+            place: 0,
+        });
+    }
+    let two = Read {
+        arrangement: checked.arrangement,
+        size: checked.size,
+        body: checked.body,
+    };
+    list_both(first, second, one, two, firsts, seconds, boths)
 }
 
 // "ground only in the first, only in the second, and in both", of any bytes: the first text's 13, 10 or 9, then the second's, then 14, then 8.
@@ -447,25 +431,14 @@ pub fn compare(
     firsts: &mut [u64],
     seconds: &mut [u64],
     boths: &mut [u64],
-) -> Compared
+) -> Result<Compared, Refused>
     ensures { Compares first.now second.now (lists firsts.old seconds.old boths.old) (lists firsts.new seconds.new boths.new) result }
 {
-    match reader::check(first) {
-        Checked::Refused { refusal, place } => Compared::Refused { refusal, place },
-        Checked::Text {
-            profile: _,
-            north,
-            south,
-            cells: _,
-            size,
-            body,
-        } => {
-            let one = Read {
-                arrangement: Arrangement { north, south },
-                size,
-                body,
-            };
-            compare_second(first, second, one, firsts, seconds, boths)
-        }
-    }
+    let checked = reader::check(first)?;
+    let one = Read {
+        arrangement: checked.arrangement,
+        size: checked.size,
+        body: checked.body,
+    };
+    compare_second(first, second, one, firsts, seconds, boths)
 }

@@ -1,4 +1,5 @@
 -- What was decoded, and what was read of a history, make the answers. Assumes nothing.
+use Rattle.std.specs.Prelude.{None, Some}
 use mathlib.Core.Path.{◌≡◌, sym, ap, ◌∙◌}
 use mathlib.Core.Bool.{true, false}
 use mathlib.Core.List.{List, []}
@@ -14,7 +15,6 @@ use Rattle.history.specs.History.{empty, placed, read_of}
 use Rattle.encoding.specs.declared.Decoded.{Decoded}
 use Rattle.encoding.specs.Decoding.{decoded_of}
 use Rattle.encoding.proofs.Laws.Encoding.{decode-nothing}
-use Rattle.console.specs.declared.Arguments.TheVariants.{Good, Wrong}
 use Rattle.console.specs.History.{loaded_from, setting_from, setting_at}
 
 module _ (t : List ℕ) (d : Decoded) (e : d ≡ decoded_of t) where
@@ -40,14 +40,14 @@ module _ (h : History) (r : ℕ) (a : SettingsAnswer) (e : a ≡ read_of h r) wh
   unfolding read_of
   number_is = ap (λ (x : SettingsAnswer). x.refusal) e
 
-  pub not-kept : (a.refusal ≡ 0 → ⊥) → Wrong ≡ setting_at h r
+  pub not-kept : (a.refusal ≡ 0 → ⊥) → None ≡ setting_at h r
   unfolding setting_at
-  not-kept n = sym (given-none (read_refusal h.newest r) (Good (setting_from (placed h r))) Wrong (λ z. n (number_is ∙ z)))
+  not-kept n = sym (given-none (read_refusal h.newest r) (Some (setting_from (placed h r))) None (λ z. n (number_is ∙ z)))
 
-  pub is-kept : a.refusal ≡ 0 → Good (setting_from a.settings) ≡ setting_at h r
+  pub is-kept : a.refusal ≡ 0 → Some (setting_from a.settings) ≡ setting_at h r
   unfolding setting_at read_of
   is-kept z =
       let q : read_refusal h.newest r ≡ 0 = sym number_is ∙ z in
-      ap (λ (x : SettingsAnswer). Good (setting_from x.settings)) e
-      ∙ ap (λ (x : Settings). Good (setting_from x)) (given-value (placed h r) _ q)
-      ∙ sym (given-value (Good (setting_from (placed h r))) Wrong q)
+      ap (λ (x : SettingsAnswer). Some (setting_from x.settings)) e
+      ∙ ap (λ (x : Settings). Some (setting_from x)) (given-value (placed h r) _ q)
+      ∙ sym (given-value (Some (setting_from (placed h r))) None q)

@@ -1,9 +1,9 @@
 -- Names printed part by part. Assumes nothing.
+use Rattle.std.specs.Prelude.{None}
 use mathlib.Core.Path.{◌≡◌, refl, sym, ap, ◌∙◌}
 use mathlib.Core.Logic.{◌⊎◌, inl, inr, ⊎_elim}
 use borrow.Author.Tests.{ltb-true}
 use Rattle.logic.specs.Laws.Order.{lt-or}
-use Rattle.console.specs.declared.Room.TheVariants.{Failed}
 use Rattle.console.specs.Room.{Made}
 use Rattle.console.specs.Names.{NamesWritten}
 use mathlib.Core.List.{List}
@@ -48,7 +48,7 @@ pub waits-none : (codes out : List ℕ) → Waits codes out 0 0
 waits-none codes out = record { first = 0; names = refl; some = λ z. omega arith; all = λ z. (refl, inl refl) }
 
 -- where something waited that was printed, the names do not have room
-pub unprinted : (codes out : List ℕ) (from end : ℕ) → from < length codes → end ≤ length out → 17 ≤ length out → Waits codes out from end → Made (length out) end (length out) Failed →
+pub unprinted : (codes out : List ℕ) (from end : ℕ) → from < length codes → end ≤ length out → 17 ≤ length out → Waits codes out from end → Made (length out) end (length out) None →
     length out < 17 * length codes
 unprinted codes out from end h k l w m = ⊎_elim (λ x. x) (λ x. absurd (none x)) (lt-or (length out) (17 * length codes))
   where

@@ -1,15 +1,13 @@
 -- The lines of standard input. Which bytes the system gives no statement can say: they are the ones that there are. Assumes nothing.
-use Rattle.std.specs.Prelude.{◌≡◌, List, [], ◌∷◌, ◌++◌, ℕ, zero, suc, ◌≤◌, ◌<◌, length, take, drop}
+use Rattle.std.specs.Prelude.{◌≡◌, List, [], ◌∷◌, ◌++◌, ℕ, zero, suc, ◌≤◌, ◌<◌, length, take, drop, None, Option, Some}
 use Rattle.lines.specs.Lines.{Unended}
-use Rattle.console.specs.declared.BytesRead.{BytesRead}
-use Rattle.console.specs.declared.BytesRead.TheVariants as bytes-as
 use Rattle.console.specs.declared.LineRead.{LineRead}
 use Rattle.console.specs.declared.LineRead.TheVariants.{Line, Last, End, Failed}
 
 -- so many bytes stand in front
-abbrev pub Fits : List ℕ → BytesRead → Type 0
-Fits bytes (bytes-as.Count n) = n ≤ length bytes
-Fits bytes bytes-as.Failed = Unit {0}
+abbrev pub Fits : List ℕ → Option ℕ → Type 0
+Fits bytes (Some n) = n ≤ length bytes
+Fits bytes None = Unit {0}
 
 -- the bytes read and not yet handed on
 abbrev pub unread : (bytes : List ℕ) (from end : ℕ) → List ℕ

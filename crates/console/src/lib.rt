@@ -10,7 +10,6 @@ ghost use Rattle.console.specs.Room.{Made};
 ghost use Rattle.console.specs.Names.{NamesIn};
 
 use cell::Arrangement;
-use decimal::Whole;
 use flight::{Latitude, Setting};
 use history::History;
 use lines::Reached;
@@ -20,32 +19,11 @@ use std::fs::{File, OpenOptions};
 use std::io::{ErrorKind, Read, Write};
 use std::{fmt, fs, io, str};
 
-// The arguments n, s, resolution and, if there is one, eccentricity.
-#[derive(Clone, Copy)]
-pub enum Arguments {
-    Good(Setting),
-    Wrong,
-}
-
-// The same of the fourth argument, or that there is none.
-#[derive(Clone, Copy)]
-enum LatitudeGiven {
-    Good(Latitude),
-    Wrong,
-}
-
 // A history that was read from a file, or that there is none.
 #[derive(Clone, Copy)]
 pub struct Loaded {
     pub done: bool,
     pub history: History,
-}
-
-// How many bytes were read. No byte is the end of the input.
-#[derive(Clone, Copy)]
-pub enum BytesRead {
-    Count(usize),
-    Failed,
 }
 
 // A line that ended: so many bytes of it stand in its room, and the bytes read behind it from one place up to another. Or the last line, which
@@ -61,13 +39,6 @@ pub enum LineRead {
         length: usize,
     },
     End,
-    Failed,
-}
-
-// From where on there is room, or writing failed.
-#[derive(Clone, Copy)]
-pub enum Room {
-    From(usize),
     Failed,
 }
 
@@ -98,9 +69,7 @@ pub fn say(rt: &HostRuntime, text: &[u8]) {
 fn words_of(bytes: &[u8]) -> usize
     ensures { result ≤ length bytes.now }
 {
-    let mut n = bytes.len();
-    while n > 1 {
-        n = n - 1;
+    for n in (1..bytes.len()).rev() {
         if bytes[n] == b'(' {
             return n - 1;
         }
@@ -174,35 +143,36 @@ pub fn print_first(rt: &HostRuntime, buf: &[u8], count: usize)
 }
 
 // Room for `size` bytes more behind the first `at`. Where there is none, all of these are printed first.
-pub fn make_room(rt: &HostRuntime, out: &[u8], at: usize, size: usize) -> Room
+pub fn make_room(rt: &HostRuntime, out: &[u8], at: usize, size: usize) -> Option<usize>
     requires { at ≤ length out.now }
     ensures { Made (length out.now) at size result }
 {
     if out.len() - at < size {
         if printed(rt, &out[..at]) {
-            return Room::From(0);
+            return Some(0);
         }
-        return Room::Failed;
+        return None;
     }
-    Room::From(at)
+    Some(at)
 }
 
 // The names of codes, one a line: what is left of them in front, behind what was printed. Where printing fails no further name is put.
-pub fn put_all_names(rt: &HostRuntime, codes: &[u64], out: &mut [u8]) -> Room
+pub fn put_all_names(rt: &HostRuntime, codes: &[u64], out: &mut [u8]) -> Option<usize>
     requires { 17 ≤ length out.old }
     ensures { NamesIn codes.now out.new result }
 {
     let mut from: usize = 0;
     let mut end: usize = 0;
+    // by hand: a turn goes on by as many names as there is room for
     while from < codes.len() {
-        let Room::From(_) = make_room(rt, out, end, out.len()) else {
-            return Room::Failed; // all that follows too
+        let Some(_) = make_room(rt, out, end, out.len()) else {
+            return None; // all that follows too
         };
         let names = report::put_names(&codes[from..], out);
         from = from + names.count;
         end = names.end;
     }
-    Room::From(end)
+    Some(end)
 }
 
 // A number in decimal, to standard error.
@@ -323,7 +293,7 @@ pub fn argument_count(rt: &HostRuntime) -> usize {
 }
 
 // The argument with this number, if it is a whole number.
-pub fn whole_argument(rt: &HostRuntime, i: usize) -> Whole
+pub fn whole_argument(rt: &HostRuntime, i: usize) -> Option<u64>
     ensures { OfWord result }
 {
     let mut word = [0u8; 20];
@@ -335,38 +305,35 @@ pub fn whole_argument(rt: &HostRuntime, i: usize) -> Whole
 
 // What the second number of a line is, by the number of words, the program's own name among them, and the fourth argument: z, or with a fourth
 // argument the sine of a geodetic latitude.
-fn latitude_given(count: usize, fourth: Whole) -> LatitudeGiven
+fn latitude_given(count: usize, fourth: Option<u64>) -> Option<Latitude>
     ensures { result ≡ latitude_given count fourth }
 {
     if count == 4 {
-        return LatitudeGiven::Good(Latitude::Authalic);
+        return Some(Latitude::Authalic);
     }
     if count != 5 {
-        return LatitudeGiven::Wrong;
+        return None;
     }
     match fourth {
-        Whole::Is(eccentricity) => LatitudeGiven::Good(Latitude::Geodetic(eccentricity)),
-        Whole::Not => LatitudeGiven::Wrong,
+        Some(eccentricity) => Some(Latitude::Geodetic(eccentricity)),
+        None => None,
     }
 }
 
 // The setting that is given, not yet tested.
-fn setting_given(latitude: LatitudeGiven, n: Whole, s: Whole, resolution: Whole) -> Arguments
+fn setting_given(
+    latitude: Option<Latitude>,
+    n: Option<u64>,
+    s: Option<u64>,
+    resolution: Option<u64>,
+) -> Option<Setting>
     ensures { result ≡ setting_given latitude n s resolution }
 {
-    let LatitudeGiven::Good(latitude) = latitude else {
-        return Arguments::Wrong;
-    };
-    let Whole::Is(north) = n else {
-        return Arguments::Wrong;
-    };
-    let Whole::Is(south) = s else {
-        return Arguments::Wrong;
-    };
-    let Whole::Is(resolution) = resolution else {
-        return Arguments::Wrong;
-    };
-    Arguments::Good(Setting {
+    let latitude = latitude?;
+    let north = n?;
+    let south = s?;
+    let resolution = resolution?;
+    Some(Setting {
         arrangement: Arrangement { north, south },
         resolution,
         latitude, // with its eccentricity
@@ -472,13 +439,10 @@ fn written(rt: &HostRuntime, program: &[u8], path: &[u8], bytes: &[u8]) -> bool 
 fn folder_length(path: &[u8]) -> usize
     ensures { Folder path.now result }
 {
-    let mut n = path.len();
-    while n > 0 {
-        let before = n - 1;
+    for before in (0..path.len()).rev() {
         if path[before] == b'/' {
-            return n;
+            return before + 1;
         }
-        n = before;
     }
     0
 }
@@ -548,14 +512,14 @@ fn read<R: Read>(
     what: &[u8],
     from: &mut R,
     buf: &mut [u8],
-) -> BytesRead
+) -> Option<usize>
     ensures { Fits buf.new result }
 {
     match from.read(buf) {
-        Ok(count) => BytesRead::Count(count),
+        Ok(count) => Some(count),
         Err(error) => {
             say_failure(rt, program, what, &error);
-            BytesRead::Failed
+            None
         }
     }
 }
@@ -572,6 +536,7 @@ fn read_on(file: &mut File, buf: &mut [u8]) -> Following
     ensures { result.count ≤ length buf.new }
 {
     let mut count: usize = 0;
+    // by hand: a turn goes on by as many bytes as were read
     while count < buf.len() {
         match file.read(&mut buf[count..]) {
             Ok(more) => {
@@ -593,9 +558,9 @@ fn read_on(file: &mut File, buf: &mut [u8]) -> Following
 fn at_end(rt: &HostRuntime, program: &[u8], path: &[u8], file: &mut File, why: &io::Error) -> bool {
     let mut one = [0u8; 1];
     match read(rt, program, path, file, &mut one) {
-        BytesRead::Failed => false,
-        BytesRead::Count(0) => true,
-        BytesRead::Count(_) => {
+        None => false,
+        Some(0) => true,
+        Some(_) => {
             say_failure(rt, program, path, why);
             false
         }
@@ -609,37 +574,35 @@ pub fn read_all(
     path: &[u8],
     file: &mut File,
     buf: &mut [u8],
-) -> BytesRead
+) -> Option<usize>
     ensures { Fits buf.new result }
 {
-    let BytesRead::Count(first) = read(rt, program, path, file, buf) else {
-        return BytesRead::Failed;
-    };
+    let first = read(rt, program, path, file, buf)?;
     let following = read_on(file, &mut buf[first..]);
     let rest = following.count;
     let count = first + rest;
     if count < buf.len() {
         if !at_end(rt, program, path, file, &following.why) {
-            return BytesRead::Failed;
+            return None;
         }
     }
-    BytesRead::Count(count)
+    Some(count)
 }
 
 // The same of the file with a path.
-pub fn read_file(rt: &HostRuntime, program: &[u8], path: &[u8], buf: &mut [u8]) -> BytesRead
+pub fn read_file(rt: &HostRuntime, program: &[u8], path: &[u8], buf: &mut [u8]) -> Option<usize>
     ensures { Fits buf.new result }
 {
     match open(rt, path) {
         Err(error) => {
             say_failure(rt, program, path, &error);
-            return BytesRead::Failed; // not opened
+            return None; // not opened
         }
         Ok(mut file) => {
-            let BytesRead::Count(count) = read_all(rt, program, path, &mut file, buf) else {
-                return BytesRead::Failed;
+            let Some(count) = read_all(rt, program, path, &mut file, buf) else {
+                return None;
             };
-            BytesRead::Count(count) // of the file
+            Some(count) // of the file
         }
     }
 }
@@ -674,7 +637,7 @@ pub fn load_history(rt: &HostRuntime, program: &[u8], path: &[u8]) -> Loaded
     ensures { OfBytes result }
 {
     let mut bytes = [0u8; 264];
-    let BytesRead::Count(count) = read_file(rt, program, path, &mut bytes) else {
+    let Some(count) = read_file(rt, program, path, &mut bytes) else {
         return Loaded {
             done: false, // no file
             history: history::no_history(),
@@ -684,28 +647,28 @@ pub fn load_history(rt: &HostRuntime, program: &[u8], path: &[u8]) -> Loaded
 }
 
 // The revision that is asked for, by the number of words, the program's own name among them: the newest, or with one word more the one that it says.
-fn revision_wanted(count: usize, word: Whole, newest: u64) -> Whole
+fn revision_wanted(count: usize, word: Option<u64>, newest: u64) -> Option<u64>
     ensures { result ≡ revision_wanted count word newest }
 {
     if count == 3 {
-        return Whole::Is(newest);
+        return Some(newest);
     }
     if count != 4 {
-        return Whole::Not;
+        return None;
     }
     word
 }
 
 // The setting of a revision: its lines have the sine of a geodetic latitude. None where the revision is not kept.
-fn setting_at(history: History, revision: u64) -> Arguments
+fn setting_at(history: History, revision: u64) -> Option<Setting>
     ensures { result ≡ setting_at history revision }
 {
     let answer = history::read(history, revision);
     if answer.refusal != 0 {
-        return Arguments::Wrong;
+        return None;
     }
     let settings = answer.settings;
-    Arguments::Good(Setting {
+    Some(Setting {
         arrangement: Arrangement {
             north: settings.n, // of the revision
             south: settings.s, // of the revision
@@ -721,33 +684,33 @@ fn setting_of(
     program: &[u8],
     path: &[u8],
     history: History,
-    wanted: Whole,
-) -> Arguments
+    wanted: Option<u64>,
+) -> Option<Setting>
     ensures { result ≡ setting_wanted history wanted }
 {
-    let Whole::Is(revision) = wanted else {
-        return Arguments::Wrong;
+    let Some(revision) = wanted else {
+        return None;
     };
     let given = setting_at(history, revision);
     say(rt, program);
-    let Arguments::Good(setting) = given else {
+    let Some(setting) = given else {
         say(rt, b": ");
         say_refusal(rt, 18);
-        return Arguments::Wrong;
+        return None;
     };
     say(rt, b": revision ");
     say_whole(rt, revision);
     say(rt, b" of ");
     say(rt, path);
     say(rt, b"\n");
-    Arguments::Good(setting) // of that revision
+    Some(setting) // of that revision
 }
 
 // The setting of a file's history, in the revision that the next argument says, if there is one.
-fn setting_in_file(rt: &HostRuntime, program: &[u8], count: usize, path: &[u8]) -> Arguments {
+fn setting_in_file(rt: &HostRuntime, program: &[u8], count: usize, path: &[u8]) -> Option<Setting> {
     let loaded = load_history(rt, program, path);
     if !loaded.done {
-        return Arguments::Wrong;
+        return None;
     }
     let history = loaded.history;
     let wanted = revision_wanted(count, whole_argument(rt, 3), history.newest);
@@ -755,12 +718,12 @@ fn setting_in_file(rt: &HostRuntime, program: &[u8], count: usize, path: &[u8]) 
 }
 
 // The arguments `settings`, a file and, if there is one, a revision.
-fn kept_setting(rt: &HostRuntime, program: &[u8], count: usize) -> Arguments {
+fn kept_setting(rt: &HostRuntime, program: &[u8], count: usize) -> Option<Setting> {
     let mut path = [0u8; 4096];
     match argument(rt, 2, &mut path) {
         Err(error) => {
             say_failure(rt, program, b"FILE", &error);
-            Arguments::Wrong
+            None
         }
         Ok(n) => setting_in_file(rt, program, count, &path[..n]),
     }
@@ -772,25 +735,23 @@ fn is_kept(rt: &HostRuntime, count: usize) -> bool {
 }
 
 // The setting, if it can be used. Where it cannot, standard error says why.
-fn usable(rt: &HostRuntime, program: &[u8], given: Arguments) -> Arguments
+fn usable(rt: &HostRuntime, program: &[u8], given: Option<Setting>) -> Option<Setting>
     ensures { result ≡ judged given }
 {
-    let Arguments::Good(setting) = given else {
-        return Arguments::Wrong;
-    };
+    let setting = given?;
     let number = setting.refusal();
     if number != 0 {
         say(rt, program);
         say(rt, b": ");
         say_refusal(rt, number);
-        return Arguments::Wrong;
+        return None;
     }
-    Arguments::Good(setting) // as it is given
+    Some(setting) // as it is given
 }
 
 // The setting that the first `count` words say, the program's own name among them: n, s, resolution and, where there is a fourth, eccentricity; or
 // `settings`, a file and, if there is one, a revision (02 W-209). Where they cannot be used, standard error says why.
-pub fn setting_in(rt: &HostRuntime, program: &[u8], count: usize) -> Arguments
+pub fn setting_in(rt: &HostRuntime, program: &[u8], count: usize) -> Option<Setting>
     ensures { Usable result }
 {
     if is_kept(rt, count) {
@@ -807,7 +768,7 @@ pub fn setting_in(rt: &HostRuntime, program: &[u8], count: usize) -> Arguments
 }
 
 // The same of all words.
-pub fn given_setting(rt: &HostRuntime, program: &[u8]) -> Arguments
+pub fn given_setting(rt: &HostRuntime, program: &[u8]) -> Option<Setting>
     ensures { Usable result }
 {
     setting_in(rt, program, argument_count(rt))
@@ -820,20 +781,20 @@ pub fn load(
     i: usize,
     path: &mut [u8],
     text: &mut [u8],
-) -> BytesRead
+) -> Option<usize>
     ensures { Fits text.new result }
 {
     match argument(rt, i, path) {
         Err(error) => {
             say_failure(rt, program, b"FILE", &error);
-            return BytesRead::Failed; // no word
+            return None; // no word
         }
         Ok(n) => read_file(rt, program, &path[..n], text),
     }
 }
 
 // What comes next of standard input. Where reading fails, standard error says why.
-fn read_more(rt: &HostRuntime, program: &[u8], bytes: &mut [u8]) -> BytesRead
+fn read_more(rt: &HostRuntime, program: &[u8], bytes: &mut [u8]) -> Option<usize>
     ensures { Fits bytes.new result }
 {
     read(rt, program, b"standard input", &mut rt.stdin(), bytes)
@@ -865,8 +826,7 @@ pub fn next_line(
     let mut at = from;
     let mut stop = end;
     let mut kept: usize = 0;
-    let mut turns = u64::MAX;
-    while turns > 0 {
+    for _ in 0..u64::MAX {
         match lines::next(&bytes[..stop], at, room, kept) {
             Reached::LineEnd { length, at } => {
                 return LineRead::Line {
@@ -877,7 +837,7 @@ pub fn next_line(
             }
             Reached::PartEnd { kept: more } => kept = more,
         }
-        let BytesRead::Count(count) = read_more(rt, program, bytes) else {
+        let Some(count) = read_more(rt, program, bytes) else {
             return LineRead::Failed;
         };
         if count == 0 {
@@ -885,7 +845,6 @@ pub fn next_line(
         }
         at = 0;
         stop = count;
-        turns = turns - 1;
     }
     LineRead::Failed
 }

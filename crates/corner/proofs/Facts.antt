@@ -1,4 +1,5 @@
 -- What the functions of this crate lean on: the count by its tests, and a code taken into the list. Assumes nothing.
+use Rattle.std.specs.Prelude.{Err, Ok}
 use mathlib.Core.Path.{◌≡◌, sym, ap, ap₂, ◌∙◌}
 use mathlib.Core.Bool.{Bool, true, false, ◌&&◌, cond}
 use mathlib.Core.List.{List, ◌++◌}
@@ -12,7 +13,6 @@ use Rattle.cell.specs.declared.Cell.{Cell}
 use Rattle.cell.specs.declared.Arrangement.{Arrangement}
 use Rattle.cell.specs.Neighbour.{rows}
 use Rattle.code.specs.Code.{code_of}
-use Rattle.track.specs.declared.Added.TheVariants.{Count, Refused}
 use Rattle.track.specs.Track.{inserted, add_refusal, counted, added, memory}
 use Rattle.corner.specs.Corner.{first_or_last, corner_number}
 use Rattle.corner.specs.List.{face_corner, across_corner, with_corner, in_front}
@@ -46,20 +46,20 @@ module _ (a : Arrangement) (c : Cell) (d : ℕ) (codes : List ℕ) (count : ℕ)
         ap (λ (t : Bool). refuse t 8) (le-ltb (length codes) (length (inserted (code_of a (across_corner a c d)) (take count codes))) (omega arith))
 
     pub put_one :
-        (n : ℕ) (exit : List ℕ) → Count n ≡ added (length codes) (take count codes) (code_of a (across_corner a c d)) →
+        (n : ℕ) (exit : List ℕ) → Ok n ≡ added (length codes) (take count codes) (code_of a (across_corner a c d)) →
         exit ≡ memory codes (take count codes) (code_of a (across_corner a c d)) → Put n exit
     unfolding counted memory given
     put_one n exit p q =
         let x = inserted (code_of a (across_corner a c d)) (take count codes) in
         let s = sym (adds_one a c d (take count codes) e) in
-        let r : Count n ≡ Count (length x) = p ∙ ap (λ (y : ℕ). counted y (length x)) allowed in
+        let r : Ok n ≡ Ok (length x) = p ∙ ap (λ (y : ℕ). counted y (length x)) allowed in
         let m : n ≡ length x = cc in
         (m ∙ ap length s, q ∙ ap (λ (y : ℕ). given y (x ++ drop (length x) codes) codes) allowed ∙ ap (λ (y : List ℕ). in_front y codes) s)
 
-    pub put-never : (r : ℕ) → Refused r ≡ added (length codes) (take count codes) (code_of a (across_corner a c d)) → ⊥
+    pub put-never : (r : ℕ) → Err r ≡ added (length codes) (take count codes) (code_of a (across_corner a c d)) → ⊥
     unfolding counted
     put-never r p =
         let n = length (inserted (code_of a (across_corner a c d)) (take count codes)) in
-        let s : Refused r ≡ Count n = p ∙ ap (λ (y : ℕ). counted y n) allowed in
+        let s : Err r ≡ Ok n = p ∙ ap (λ (y : ℕ). counted y n) allowed in
         let z : ◌≡◌ {A = ℕ} 0 1 = cc in
         omega arith

@@ -1,6 +1,6 @@
 -- The list of the cells that meet a cell at a corner (02, W-204): "list these cells in rising code order, under any arrangement". What is here is the
 -- computing form. Laws/List shows that it has the codes of the cells that `MeetsAtCorner` says, no others, rising. Assumes nothing.
-use Rattle.std.specs.Prelude.{Bool, ◌&&◌, cond, List, [], ℕ, zero, suc, ◌+◌, ◌%◌, ltb, length}
+use Rattle.std.specs.Prelude.{Bool, ◌&&◌, cond, List, [], ℕ, zero, suc, ◌+◌, ◌%◌, ltb, length, Err, Ok, Result}
 pub use Rattle.logic.specs.Lent.{in_front}
 use Rattle.logic.specs.Refusal.{refuse, ◌otherwise◌, given}
 use Rattle.cell.specs.declared.Cell.{Cell}
@@ -8,8 +8,6 @@ use Rattle.cell.specs.declared.Arrangement.{Arrangement}
 use Rattle.cell.specs.Neighbour.{leaves, neighbour_of}
 use Rattle.code.specs.Code.{code_of, cell_of, arrangement_of, code_refusal}
 use Rattle.track.specs.Track.{inserted}
-use Rattle.corner.specs.declared.Cornered.{Cornered}
-use Rattle.corner.specs.declared.Cornered.TheVariants.{Count, Refused}
 
 -- the next direction: up, right, down, left, up
 abbrev pub clockwise : ℕ → ℕ
@@ -51,6 +49,6 @@ abbrev pub corner_memory : (code : ℕ) (lent : List ℕ) → List ℕ
 corner_memory code lent = given (corners_refusal code (length lent)) (in_front (codes_at code) lent) lent
 
 -- ---- the answer: how many codes were listed, or the number of the refusal
-unfoldable pub cornered : (r n : ℕ) → Cornered
-cornered zero n = Count n
-cornered (suc r) n = Refused (suc r)
+unfoldable pub cornered : (r n : ℕ) → Result ℕ ℕ
+cornered zero n = Ok n
+cornered (suc r) n = Err (suc r)

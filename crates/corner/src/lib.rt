@@ -7,15 +7,7 @@ ghost use Rattle.track.specs.Track.{Held};
 ghost use Rattle.corner.specs.Corner.{first_or_last, corner_number};
 ghost use Rattle.corner.specs.List.{face_corner, across_corner, with_corner, corner_codes, codes_at, in_front, cornered, corners_refusal, corner_memory};
 
-use cell::{Arrangement, Cell, Found};
-use track::Added;
-
-// How many codes were listed, or the number of the refusal.
-#[derive(Clone, Copy)]
-pub enum Cornered {
-    Count(u64),
-    Refused(u64),
-}
+use cell::{Arrangement, Cell};
 
 // The first or the last of m rows or columns.
 fn first_or_last(m: u64, i: u64) -> bool
@@ -98,8 +90,8 @@ fn put_corner(
     let across = across_corner(arrangement, cell, direction);
     let code = code::code_of(arrangement, across);
     match track::add(codes, count, code) {
-        Added::Count(more) => more,
-        Added::Refused(_) => count, // never
+        Ok(more) => more,
+        Err(_) => count, // never
     }
 }
 
@@ -111,25 +103,23 @@ fn put_corners(arrangement: Arrangement, cell: Cell, codes: &mut [u64])
     ensures { codes.new ≡ in_front (corner_codes arrangement cell) codes.old }
 {
     let mut count: usize = 0;
-    let mut direction: u64 = 0;
-    while direction < 4 {
+    for direction in 0..4 {
         count = put_corner(arrangement, cell, direction, codes, count);
-        direction = direction + 1;
     }
 }
 
 // "list these cells in rising code order, under any arrangement": 4 where the code is no cell's, 8 where the room is short.
-pub fn list(code: u64, codes: &mut [u64]) -> Cornered
+pub fn list(code: u64, codes: &mut [u64]) -> Result<u64, u64>
     ensures value { result ≡ cornered (corners_refusal code (length codes.old)) (length (codes_at code)) }
     ensures codes_after { codes.new ≡ corner_memory code codes.old }
 {
-    let Found::At(cell) = code::cell_of(code) else {
-        return Cornered::Refused(4);
+    let Ok(cell) = code::cell_of(code) else {
+        return Err(4);
     };
     let number = count(cell);
     if (codes.len() as u64) < number {
-        return Cornered::Refused(8);
+        return Err(8);
     }
     put_corners(code::arrangement_of(code), cell, codes);
-    Cornered::Count(number)
+    Ok(number)
 }

@@ -1,4 +1,6 @@
 -- A name more is read; a name is asked for; names are printed part by part. Assumes nothing.
+use Rattle.std.specs.Prelude.{Err, None, Ok, Option, Result, Some}
+use Rattle.reading.specs.declared.Refused.{Refused}
 use mathlib.Core.Path.{◌≡◌, refl, sym, ap, ◌∙◌, subst}
 use mathlib.Core.Logic.{⊎_elim}
 use mathlib.Core.Bool.{Bool, true, false, not}
@@ -12,8 +14,6 @@ use borrow.Author.Tests.{lt-ltb, lt-leb, le-leb}
 use Rattle.logic.specs.Laws.Order.{lt-or}
 use Rattle.logic.specs.Refusal.{refuse, given, ◌otherwise◌}
 use Rattle.logic.specs.Laws.Refusal.{stops, passes}
-use Rattle.code.specs.declared.Coded.{Coded}
-use Rattle.code.specs.declared.Coded.TheVariants as coded-as
 use Rattle.code.specs.Code.{coded, code_in, refusal_in, is_code, is_of}
 use Rattle.code.proofs.Laws.Code.{code-passes}
 use Rattle.decimal.specs.Decimal.{trimmed}
@@ -34,10 +34,7 @@ use Rattle.cell.specs.declared.Arrangement.{Arrangement}
 use Rattle.cell.specs.Cell.{IsArrangement}
 use Rattle.reading.specs.TextReading.{text_arrangement}
 use Rattle.reader.specs.Check.{text_refusal, place_with}
-use Rattle.asking.specs.declared.Asked.TheVariants.{Refused}
 use Rattle.asking.specs.Ask.{asked, ask_refusal}
-use Rattle.listing.specs.declared.Listed.{Listed}
-use Rattle.listing.specs.declared.Listed.TheVariants as listed_by
 use Rattle.listing.specs.List.{codes_in, listing_refusal, listed}
 use Rattle.listing.proofs.Laws.Listed.{listed-allowed, listed-taken, listed-refused}
 use Rattle.coverage.specs.declared.NamesRead.{NamesRead}
@@ -45,31 +42,27 @@ use Rattle.coverage.specs.declared.Text.{Text}
 use Rattle.coverage.specs.declared.Form.{Form}
 use Rattle.coverage.specs.declared.Text.TheVariants as text-as
 use Rattle.coverage.specs.declared.Text.TheVariants.{Length}
-use Rattle.coverage.specs.declared.Taken.{Taken}
-use Rattle.coverage.specs.declared.Taken.TheVariants as taken_as
 use Rattle.coverage.specs.declared.NamesRead.TheVariants as read_as
 use Rattle.coverage.specs.Names.{Names, read, stopped, named_or, with_name, NameTaken, AllTaken}
 use Rattle.coverage.specs.Own.{Own}
 use Rattle.coverage.specs.Laws.Asked.{named-code, named_in}
 use Rattle.coverage.specs.Laws.Names.{names-held}
-use Rattle.console.specs.declared.Room.{Room}
-use Rattle.console.specs.declared.Room.TheVariants.{From, Failed}
 use Rattle.console.specs.Names.{NamesIn}
 use Rattle.coverage.specs.Printed.{asked_name, waits, ListWritten, TextWritten, NamesText}
 
 -- ---- one name
 
-as_code : (q code c : ℕ) → coded q code ≡ coded-as.Code c → (q ≡ 0) × (code ≡ c)
+as_code : (q code c : ℕ) → coded q code ≡ Ok c → (q ≡ 0) × (code ≡ c)
 unfolding coded
 as_code zero code c e = (refl, ap code_in e)
 as_code (suc q) code c e = let z : ◌≡◌ {A = ℕ} 0 1 = cc in absurd (omega arith)
 
-as-refusal : (q code r : ℕ) → coded q code ≡ coded-as.Refused r → (q ≡ r) × (r ≡ 0 → ⊥)
+as-refusal : (q code r : ℕ) → coded q code ≡ Err r → (q ≡ r) × (r ≡ 0 → ⊥)
 unfolding coded
 as-refusal zero code r e = let z : ◌≡◌ {A = ℕ} 0 1 = cc in absurd (omega arith)
 as-refusal (suc q) code r e = let k : suc q ≡ r = ap refusal_in e in (k, λ z. omega arith)
 
-module _ (a : Arrangement) (line codes : List ℕ) (count : ℕ) (h : count ≤ length codes) {n : ℕ} (t : n ≡ length (trimmed line)) {x : Coded}
+module _ (a : Arrangement) (line codes : List ℕ) (count : ℕ) (h : count ≤ length codes) {n : ℕ} (t : n ≡ length (trimmed line)) {x : Result ℕ ℕ}
     (e : x ≡ coded (name_refusal (take n line)) (name_code a (take n line))) where
   name-text : take n line ≡ trimmed line
   name-text = ap (λ (i : ℕ). take i line) t ∙ trimmed-take line
@@ -81,14 +74,14 @@ module _ (a : Arrangement) (line codes : List ℕ) (count : ℕ) (h : count ≤ 
   held = length-take-le count codes h
 
   -- a name's code is a code
-  pub name-coded : IsArrangement a → (code : ℕ) → x ≡ coded-as.Code code → is_code code ≡ true
+  pub name-coded : IsArrangement a → (code : ℕ) → x ≡ Ok code → is_code code ≡ true
   name-coded g code f =
       let k = as_code (name_refusal (trimmed line)) (name_code a (trimmed line)) code (sym named ∙ f) in
       ap is_code (sym k.1) ∙ name-code-is (trimmed line) g (accepted (trimmed line) k.0)
 
   pub name-taken :
-      (code n : ℕ) (later : List ℕ) → x ≡ coded-as.Code code → count < length codes → take n later ≡ gathered a code (take count codes) → n ≤ length later →
-      NameTaken a line codes count later (taken_as.Count n)
+      (code n : ℕ) (later : List ℕ) → x ≡ Ok code → count < length codes → take n later ≡ gathered a code (take count codes) → n ≤ length later →
+      NameTaken a line codes count later (Ok n)
   name-taken code n later f l w i =
       let k = as_code (name_refusal (trimmed line)) (name_code a (trimmed line)) code (sym named ∙ f) in (
         passes _ k.0 ∙ ap (λ (b : Bool). refuse b 13) (ap (leb (length codes)) held ∙ lt-leb (length codes) count l),
@@ -96,12 +89,12 @@ module _ (a : Arrangement) (line codes : List ℕ) (count : ℕ) (h : count ≤ 
         i,
       )
 
-  pub name-full : (code : ℕ) → x ≡ coded-as.Code code → length codes ≤ count → NameTaken a line codes count codes (taken_as.Refused 13)
+  pub name-full : (code : ℕ) → x ≡ Ok code → length codes ≤ count → NameTaken a line codes count codes (Err 13)
   name-full code f l =
       let k = as_code (name_refusal (trimmed line)) (name_code a (trimmed line)) code (sym named ∙ f) in
       (passes _ k.0 ∙ ap (λ (b : Bool). refuse b 13) (ap (leb (length codes)) held ∙ le-leb (length codes) count l), λ z. omega arith)
 
-  pub name-refused : (r : ℕ) → x ≡ coded-as.Refused r → NameTaken a line codes count codes (taken_as.Refused r)
+  pub name-refused : (r : ℕ) → x ≡ Err r → NameTaken a line codes count codes (Err r)
   name-refused r f =
       let k = as-refusal (name_refusal (trimmed line)) (name_code a (trimmed line)) r (sym named ∙ f) in
       (stops (name_refusal (trimmed line)) _ (λ z. k.1 (sym k.0 ∙ z)) ∙ k.0, k.1)
@@ -138,46 +131,46 @@ module _ (a : Arrangement) (room : List ℕ) (big : 18 ≤ length room) (all cod
   line_code = name_code a (trimmed (take n room))
 
   -- what the line comes to
-  abbrev comes : (r : Taken) → NameTaken a (take n room) codes count later r → Names
-  comes (taken_as.Count k) h = read (all ++ (line_code ∷ [])) (take k later)
-  comes (taken_as.Refused r) h = stopped (suc (length all)) r
+  abbrev comes : (r : Result ℕ ℕ) → NameTaken a (take n room) codes count later r → Names
+  comes (Ok k) h = read (all ++ (line_code ∷ [])) (take k later)
+  comes (Err r) h = stopped (suc (length all)) r
 
-  is : (r : Taken) (h : NameTaken a (take n room) codes count later r) → with_name a (length codes) (read all kept) (take n room) ≡ comes r h
-  is (taken_as.Count k) (e, f, i) = ap (λ (q : ℕ). named_or a q all kept line_code) e ∙ ap (read (all ++ (line_code ∷ []))) (sym f)
-  is (taken_as.Refused r) (e, f) = ap (λ (q : ℕ). named_or a q all kept line_code) e ∙ some r f
+  is : (r : Result ℕ ℕ) (h : NameTaken a (take n room) codes count later r) → with_name a (length codes) (read all kept) (take n room) ≡ comes r h
+  is (Ok k) (e, f, i) = ap (λ (q : ℕ). named_or a q all kept line_code) e ∙ ap (read (all ++ (line_code ∷ []))) (sym f)
+  is (Err r) (e, f) = ap (λ (q : ℕ). named_or a q all kept line_code) e ∙ some r f
     where
       some : (q : ℕ) → (q ≡ 0 → ⊥) → named_or a q all kept line_code ≡ stopped (suc (length all)) q
       some zero g = absurd (g refl)
       some (suc q) g = refl
 
-  whole : (x : List ℕ) → take n room ≡ take (length room) x → (r : Taken) (h : NameTaken a (take n room) codes count later r) → with_name a (length codes) (read all kept) x ≡ comes r h
+  whole : (x : List ℕ) → take n room ≡ take (length room) x → (r : Result ℕ ℕ) (h : NameTaken a (take n room) codes count later r) → with_name a (length codes) (read all kept) x ≡ comes r h
   whole x f r h =
       sym (cut-name a (length codes) (length room) all kept x big) ∙ ap (with_name a (length codes) (read all kept)) (sym f) ∙ is r h
 
-  line-comes : (left bytes : List ℕ) (from end : ℕ) → Given left bytes room (Line n from end) → (r : Taken) (h : NameTaken a (take n room) codes count later r) → OfEnded
+  line-comes : (left bytes : List ℕ) (from end : ℕ) → Given left bytes room (Line n from end) → (r : Result ℕ ℕ) (h : NameTaken a (take n room) codes count later r) → OfEnded
       (with_name a (length codes)) (read [] []) (comes r h)
   line-comes left bytes from end (more, x, u, g, f, i, j, l) r h = subst (OfEnded (with_name a (length codes)) (read [] [])) (whole x f r h) (then-line (with_name a (length codes)) x u o)
 
-  last-comes : (left bytes : List ℕ) → Given left bytes room (Last n) → (r : Taken) (h : NameTaken a (take n room) codes count later r) → OfBytes (with_name a (length codes)) (read [] []) (comes r h)
+  last-comes : (left bytes : List ℕ) → Given left bytes room (Last n) → (r : Result ℕ ℕ) (h : NameTaken a (take n room) codes count later r) → OfBytes (with_name a (length codes)) (read [] []) (comes r h)
   last-comes left bytes (more, u, l, f, i) r h = subst (OfBytes (with_name a (length codes)) (read [] [])) (whole (left ++ more) f r h) (then-last (with_name a (length codes)) (left ++ more) u l o)
 
-  module _ {r : Taken} (h : NameTaken a (take n room) codes count later r) where
-    pub taken-fits : (k : ℕ) → r ≡ taken_as.Count k → k ≤ length later
+  module _ {r : Result ℕ ℕ} (h : NameTaken a (take n room) codes count later r) where
+    pub taken-fits : (k : ℕ) → r ≡ Ok k → k ≤ length later
     taken-fits k e = (subst (NameTaken a (take n room) codes count later) e h).2
 
-    pub line_read : (left bytes : List ℕ) (from end k : ℕ) → Given left bytes room (Line n from end) → r ≡ taken_as.Count k → OfEnded (with_name a (length codes)) (read [] [])
+    pub line_read : (left bytes : List ℕ) (from end k : ℕ) → Given left bytes room (Line n from end) → r ≡ Ok k → OfEnded (with_name a (length codes)) (read [] [])
         (read (all ++ (line_code ∷ [])) (take k later))
-    line_read left bytes from end k g e = line-comes left bytes from end g (taken_as.Count k) (subst (NameTaken a (take n room) codes count later) e h)
+    line_read left bytes from end k g e = line-comes left bytes from end g (Ok k) (subst (NameTaken a (take n room) codes count later) e h)
 
-    pub line-stops : (left bytes : List ℕ) (from end q : ℕ) → Given left bytes room (Line n from end) → r ≡ taken_as.Refused q → AllTaken a (length codes) later (read_as.Stopped q)
+    pub line-stops : (left bytes : List ℕ) (from end q : ℕ) → Given left bytes room (Line n from end) → r ≡ Err q → AllTaken a (length codes) later (read_as.Stopped q)
     line-stops left bytes from end q g e =
-        (_, then-none (with_name a (length codes)) (line-comes left bytes from end g (taken_as.Refused q) (subst (NameTaken a (take n room) codes count later) e h)))
+        (_, then-none (with_name a (length codes)) (line-comes left bytes from end g (Err q) (subst (NameTaken a (take n room) codes count later) e h)))
 
-    pub last-read : (left bytes : List ℕ) (k : ℕ) → Given left bytes room (Last n) → r ≡ taken_as.Count k → AllTaken a (length codes) later (read_as.Count k)
-    last-read left bytes k g e = (_, last-comes left bytes g (taken_as.Count k) (subst (NameTaken a (take n room) codes count later) e h), taken-fits k e)
+    pub last-read : (left bytes : List ℕ) (k : ℕ) → Given left bytes room (Last n) → r ≡ Ok k → AllTaken a (length codes) later (read_as.Count k)
+    last-read left bytes k g e = (_, last-comes left bytes g (Ok k) (subst (NameTaken a (take n room) codes count later) e h), taken-fits k e)
 
-    pub last-stops : (left bytes : List ℕ) (q : ℕ) → Given left bytes room (Last n) → r ≡ taken_as.Refused q → AllTaken a (length codes) later (read_as.Stopped q)
-    last-stops left bytes q g e = (_, last-comes left bytes g (taken_as.Refused q) (subst (NameTaken a (take n room) codes count later) e h))
+    pub last-stops : (left bytes : List ℕ) (q : ℕ) → Given left bytes room (Last n) → r ≡ Err q → AllTaken a (length codes) later (read_as.Stopped q)
+    last-stops left bytes q g e = (_, last-comes left bytes g (Err q) (subst (NameTaken a (take n room) codes count later) e h))
 
 -- ---- a name asked for
 
@@ -193,14 +186,14 @@ name-place : (name t : List ℕ) → place_with (name_refusal name) t ≡ 0
 unfolding name_refusal
 name-place name t = chain (ltb 16 (length name)) (not (first_letter name)) (not (all_digits (drop 1 name))) t
 
-pub name-stops : (t name : List ℕ) (a : Arrangement) {x : Coded} (r : ℕ) → x ≡ coded (name_refusal name) (name_code a name) → x ≡ coded-as.Refused r → Refused r 0 ≡ asked_name t name
+pub name-stops : (t name : List ℕ) (a : Arrangement) {x : Result ℕ ℕ} (r : ℕ) → x ≡ coded (name_refusal name) (name_code a name) → x ≡ Err r → Err (record { refusal = r; place = 0 }) ≡ asked_name t name
 unfolding asked_name asked
 name-stops t name a r e f = let k = as-refusal (name_refusal name) (name_code a name) r (sym e ∙ f) in go r k.0 k.1
   where
-    go : (q : ℕ) → name_refusal name ≡ q → (q ≡ 0 → ⊥) → Refused q 0 ≡ asked_name t name
+    go : (q : ℕ) → name_refusal name ≡ q → (q ≡ 0 → ⊥) → Err (record { refusal = q; place = 0 }) ≡ asked_name t name
     go zero i j = absurd (j refl)
     go (suc q) i j =
-        ap (Refused (suc q)) (sym (name-place name t) ∙ ap (λ (y : ℕ). place_with y t) i)
+        ap (λ (p : ℕ). Err (record { refusal = suc q; place = p })) (sym (name-place name t) ∙ ap (λ (y : ℕ). place_with y t) i)
         ∙ sym (ap (λ (y : ℕ). asked y t (name_code (text_arrangement t) name)) (stops (name_refusal name) (text_refusal t) (λ z. j (sym i ∙ z)) ∙ i))
 
 module _ (t name : List ℕ) (a : Arrangement) (o : Own t a) (e : name_refusal name ≡ 0) where
@@ -229,7 +222,7 @@ module _ (t name : List ℕ) (a : Arrangement) (o : Own t a) (e : name_refusal n
           ∙ sym (ap (λ (y : ℕ). asked y t (name_code (text_arrangement t) name)) (passes _ e ∙ i))
 
 pub name-asked :
-    (t name : List ℕ) (a : Arrangement) (c : ℕ) {x : Coded} → Own t a → x ≡ coded (name_refusal name) (name_code a name) → x ≡ coded-as.Code c →
+    (t name : List ℕ) (a : Arrangement) (c : ℕ) {x : Result ℕ ℕ} → Own t a → x ≡ coded (name_refusal name) (name_code a name) → x ≡ Ok c →
     asked (ask_refusal t c) t c ≡ asked_name t name
 name-asked t name a c o e f =
     let k = as_code (name_refusal name) (name_code a name) c (sym e ∙ f) in
@@ -238,20 +231,20 @@ name-asked t name a c o e f =
 -- ---- what is handed on
 
 -- what waits has its room
-pub waits-fit : (codes out : List ℕ) (room : Room) → NamesIn codes out room → waits room ≤ length out
-waits-fit codes out (From end) w = w.fits
-waits-fit codes out Failed w = omega arith
+pub waits-fit : (codes out : List ℕ) (room : Option ℕ) → NamesIn codes out room → waits room ≤ length out
+waits-fit codes out (Some end) w = w.fits
+waits-fit codes out None w = omega arith
 
-module _ (t codes : List ℕ) {r : Listed} (e : r ≡ listed (listing_refusal t (length codes)) t) where
+module _ (t codes : List ℕ) {r : Result ℕ Refused} (e : r ≡ listed (listing_refusal t (length codes)) t) where
   pub list_written :
-      (n : ℕ) (later out : List ℕ) (room : Room) (waiting : ℕ) → r ≡ listed_by.Count n → later ≡ given (listing_refusal t (length codes)) (codes_in t codes) codes →
+      (n : ℕ) (later out : List ℕ) (room : Option ℕ) (waiting : ℕ) → r ≡ Ok n → later ≡ given (listing_refusal t (length codes)) (codes_in t codes) codes →
       NamesIn (take n later) out room → waiting ≡ waits room → ListWritten (listing_refusal t (length codes)) t out waiting
   list_written n later out room waiting f g w z =
       subst (λ (q : ℕ). ListWritten q t out waiting) (sym (listed-allowed t codes e n f))
       (room, subst (λ (l : List ℕ). NamesIn l out room) (listed-taken t codes e n later f g) w, z)
 
   pub list-refused :
-      (q p : ℕ) {out later : List ℕ} {end : ℕ} → r ≡ listed_by.Refused q p → Put 0 (number_line q) out later end → end ≤ length out → ListWritten (listing_refusal t (length codes)) t later end
+      (q p : ℕ) {out later : List ℕ} {end : ℕ} → r ≡ Err (record { refusal = q; place = p }) → Put 0 (number_line q) out later end → end ≤ length out → ListWritten (listing_refusal t (length codes)) t later end
   list-refused q p {later = later} {end} f w h =
       let k = listed-refused t codes e q p f in
       subst (λ (x : ℕ). ListWritten x t later end) (sym k.0) (line q k.1 (put-taken w h))

@@ -1,13 +1,11 @@
 -- What `coverage write` reads: "names, one a line". Assumes nothing.
-use Rattle.std.specs.Prelude.{◌≡◌, List, [], ◌∷◌, ◌++◌, ℕ, zero, suc, ◌≤◌, leb, length, take}
+use Rattle.std.specs.Prelude.{◌≡◌, List, [], ◌∷◌, ◌++◌, ℕ, zero, suc, ◌≤◌, leb, length, take, Err, Ok, Result}
 use Rattle.logic.specs.Refusal.{refuse, ◌otherwise◌}
 use Rattle.cell.specs.declared.Arrangement.{Arrangement}
 use Rattle.decimal.specs.Decimal.{trimmed}
 use Rattle.name.specs.Name.{name_refusal, name_code}
 use Rattle.lines.specs.Fold.{OfBytes}
 use Rattle.gathering.specs.Gather.{gathered}
-use Rattle.coverage.specs.declared.Taken.{Taken}
-use Rattle.coverage.specs.declared.Taken.TheVariants as taken_as
 use Rattle.coverage.specs.declared.NamesRead.{NamesRead}
 use Rattle.coverage.specs.declared.NamesRead.TheVariants as read_as
 
@@ -30,10 +28,10 @@ with_name a room (read codes held) line = named_or a (line_refusal room held lin
 with_name a room (stopped n r) line = stopped n r
 
 -- one line: its code is gathered with the others, or this is its refusal
-abbrev pub NameTaken : Arrangement → (line codes : List ℕ) (count : ℕ) (later : List ℕ) → Taken → Type 0
-NameTaken a line codes count later (taken_as.Count n) =
+abbrev pub NameTaken : Arrangement → (line codes : List ℕ) (count : ℕ) (later : List ℕ) → Result ℕ ℕ → Type 0
+NameTaken a line codes count later (Ok n) =
     (line_refusal (length codes) (take count codes) line ≡ 0) × (take n later ≡ gathered a (name_code a (trimmed line)) (take count codes)) × (n ≤ length later)
-NameTaken a line codes count later (taken_as.Refused r) = (line_refusal (length codes) (take count codes) line ≡ r) × (r ≡ 0 → ⊥)
+NameTaken a line codes count later (Err r) = (line_refusal (length codes) (take count codes) line ≡ r) × (r ≡ 0 → ⊥)
 
 -- what the lines of some bytes come to: what is held of all names, in their order, or the refusal of the first line that stops
 abbrev pub AllTaken : Arrangement → (room : ℕ) (codes : List ℕ) → NamesRead → Type 0

@@ -20,14 +20,11 @@ ghost use Rattle.coverage.specs.Rescued.{RescueLeft, ChangesWritten, ChangesIn};
 
 use asking::Asked;
 use cell::Arrangement;
-use code::Coded;
-use console::{BytesRead, LineRead, Room};
-use decimal::Whole;
-use listing::Listed;
+use console::LineRead;
 use reader::Checked;
+use reading::Refused;
 use rescue::Rescued;
 use sheet::Judged;
-use writing::Written;
 
 // What the first argument asks for.
 #[derive(Clone, Copy)]
@@ -42,13 +39,6 @@ enum Command {
     Question,
     Write,
     Unknown,
-}
-
-// How many codes there are after a name, or its refusal.
-#[derive(Clone, Copy)]
-enum Taken {
-    Count(usize),
-    Refused(u64),
 }
 
 // How many codes are held of the names read; or a line stopped the reading; or the input failed.
@@ -158,7 +148,7 @@ fn check_text(text: &[u8], out: &mut [u8]) -> Shown
 {
     let checked = reader::check(text);
     let end = report::put_check(checked, out);
-    let Checked::Refused { refusal, place } = checked else {
+    let Err(Refused { refusal, place }) = checked else {
         return Shown {
             end,
             refusal: 0,
@@ -173,12 +163,12 @@ fn check_text(text: &[u8], out: &mut [u8]) -> Shown
 }
 
 // How much waits in front: nothing where printing failed, for then nothing more is to be printed.
-fn waiting(room: Room) -> usize
+fn waiting(room: Option<usize>) -> usize
     ensures { result ≡ waits room }
 {
     match room {
-        Room::From(end) => end,
-        Room::Failed => 0,
+        Some(end) => end,
+        None => 0,
     }
 }
 
@@ -189,12 +179,12 @@ fn list_text(rt: &HostRuntime, text: &[u8], codes: &mut [u64], out: &mut [u8]) -
     ensures end_in_bounds { result.end ≤ length out.new }
 {
     match listing::list(text, codes) {
-        Listed::Count(count) => Shown {
+        Ok(count) => Shown {
             end: waiting(console::put_all_names(rt, &codes[..count as usize], out)),
             refusal: 0,
             place: 0,
         },
-        Listed::Refused { refusal, place } => Shown {
+        Err(Refused { refusal, place }) => Shown {
             end: report::put_line(refusal, out),
             refusal,
             place,
@@ -207,18 +197,18 @@ fn own_arrangement(text: &[u8]) -> Arrangement
     ensures { Own text.now result }
 {
     match reader::check(text) {
-        Checked::Text { north, south, .. } => Arrangement { north, south },
-        Checked::Refused { .. } => Arrangement { north: 0, south: 0 },
+        Ok(checked) => checked.arrangement,
+        Err(Refused { .. }) => Arrangement { north: 0, south: 0 },
     }
 }
 
 // Whether the text covers the cell of a name. The name is tested first.
-fn ask_name(text: &[u8], name: &[u8]) -> Asked
+fn ask_name(text: &[u8], name: &[u8]) -> Result<Asked, Refused>
     ensures { result ≡ asked_name text.now name.now }
 {
     match name::name_code(own_arrangement(text), name) {
-        Coded::Code(code) => asking::ask(text, code),
-        Coded::Refused(refusal) => Asked::Refused { refusal, place: 0 },
+        Ok(code) => asking::ask(text, code),
+        Err(refusal) => Err(Refused { refusal, place: 0 }),
     }
 }
 
@@ -230,7 +220,7 @@ fn ask_text(text: &[u8], name: &[u8], out: &mut [u8]) -> Shown
 {
     let asked = ask_name(text, name);
     let end = report::put_asked(asked, out);
-    let Asked::Refused { refusal, place } = asked else {
+    let Err(Refused { refusal, place }) = asked else {
         return Shown {
             end,
             refusal: 0,
@@ -245,20 +235,25 @@ fn ask_text(text: &[u8], name: &[u8], out: &mut [u8]) -> Shown
 }
 
 // One line: a name, whose code is gathered with the others. One that is none, or that has no room, is said.
-fn take_name(arrangement: Arrangement, line: &[u8], codes: &mut [u64], count: usize) -> Taken
+fn take_name(
+    arrangement: Arrangement,
+    line: &[u8],
+    codes: &mut [u64],
+    count: usize,
+) -> Result<usize, u64>
     requires arrangement { IsArrangement arrangement }
     requires count_in_bounds { count ≤ length codes.old }
     ensures { NameTaken arrangement line.now codes.old count codes.new result }
 {
     let length = decimal::trimmed_length(line);
     match name::name_code(arrangement, &line[..length]) {
-        Coded::Code(code) => {
+        Ok(code) => {
             if count < codes.len() {
-                return Taken::Count(gathering::gather(arrangement, codes, count, code));
+                return Ok(gathering::gather(arrangement, codes, count, code));
             }
-            Taken::Refused(13)
+            Err(13)
         }
-        Coded::Refused(refusal) => Taken::Refused(refusal),
+        Err(refusal) => Err(refusal),
     }
 }
 
@@ -288,13 +283,13 @@ fn take_all(
                 end: stop,
             } => {
                 match take_name(arrangement, &room[..length], codes, count) {
-                    Taken::Count(more) => {
+                    Ok(more) => {
                         count = more;
                         from = next;
                         end = stop;
                         line = line + 1;
                     }
-                    Taken::Refused(refusal) => {
+                    Err(refusal) => {
                         console::say_line(rt, b"coverage", line + 1, refusal);
                         return NamesRead::Stopped(refusal);
                     }
@@ -302,8 +297,8 @@ fn take_all(
             }
             LineRead::Last { length } => {
                 match take_name(arrangement, &room[..length], codes, count) {
-                    Taken::Count(more) => return NamesRead::Count(more),
-                    Taken::Refused(refusal) => {
+                    Ok(more) => return NamesRead::Count(more),
+                    Err(refusal) => {
                         console::say_line(rt, b"coverage", line + 1, refusal);
                         return NamesRead::Stopped(refusal);
                     }
@@ -328,8 +323,8 @@ fn put_text(form: Form, codes: &[u64], count: usize, text: &mut [u8]) -> Text
         &codes[..count],
         text,
     ) {
-        Written::Length(length) => Text::Length(length as usize),
-        Written::Refused(refusal) => Text::Refused(refusal),
+        Ok(length) => Text::Length(length as usize),
+        Err(refusal) => Text::Refused(refusal),
     }
 }
 
@@ -376,7 +371,7 @@ fn write_depth(rt: &HostRuntime, arrangement: Arrangement)
         );
         return;
     }
-    let Whole::Is(depth) = console::whole_argument(rt, 4) else {
+    let Some(depth) = console::whole_argument(rt, 4) else {
         usage(rt);
         return;
     };
@@ -397,11 +392,11 @@ fn write_depth(rt: &HostRuntime, arrangement: Arrangement)
 
 // coverage write n s [depth].
 fn write_names(rt: &HostRuntime) {
-    let Whole::Is(north) = console::whole_argument(rt, 2) else {
+    let Some(north) = console::whole_argument(rt, 2) else {
         usage(rt);
         return;
     };
-    let Whole::Is(south) = console::whole_argument(rt, 3) else {
+    let Some(south) = console::whole_argument(rt, 3) else {
         usage(rt);
         return;
     };
@@ -576,6 +571,7 @@ fn say_changes(rt: &HostRuntime, list: &[u64], lines: &mut [u8]) -> usize
 {
     let mut i: usize = 0;
     let mut end: usize = 0;
+    // by hand: a change is two numbers
     while i + 1 < list.len() {
         let at = line_room(rt, lines, end);
         end = report::put_change(list, i, lines, at);
@@ -603,13 +599,13 @@ fn rescue_text(text: &[u8], out: &mut [u8], list: &mut [u64]) -> RescueRooms
     ensures { RescueLeft (loose_refusal text.now) text.now out.new list.new result }
 {
     match rescue::rescue(text, out, list) {
-        Rescued::Done { length, changes } => RescueRooms {
+        Ok(Rescued { length, changes }) => RescueRooms {
             end: length as usize,
             numbers: changes as usize * 2, // place and kind
             refusal: 0,
             place: 0,
         },
-        Rescued::Refused { refusal, place } => RescueRooms {
+        Err(Refused { refusal, place }) => RescueRooms {
             end: 0,
             numbers: 0,
             refusal, // as it is given
@@ -672,7 +668,7 @@ fn answer(rt: &HostRuntime, command: Command, text: &[u8]) {
 }
 
 // The file that is named, into a room that is longer than any text: of a longer file there is a byte more than a text has.
-fn load_text(rt: &HostRuntime, path: &mut [u8], text: &mut [u8]) -> BytesRead
+fn load_text(rt: &HostRuntime, path: &mut [u8], text: &mut [u8]) -> Option<usize>
     requires { 65537 ≤ length text.old }
     ensures { Fits text.new result }
 {
@@ -682,7 +678,7 @@ fn load_text(rt: &HostRuntime, path: &mut [u8], text: &mut [u8]) -> BytesRead
 fn answer_file(rt: &HostRuntime, command: Command) {
     let mut path = [0u8; 4096];
     let mut text = [0u8; 65537];
-    let BytesRead::Count(count) = load_text(rt, &mut path, &mut text) else {
+    let Some(count) = load_text(rt, &mut path, &mut text) else {
         return;
     };
     answer(rt, command, &text[..count]);

@@ -2,6 +2,7 @@ pub mod Decimal
 pub mod Fraction
 pub mod Long
 -- Reading digits from the left and writing them from the right; what stands ahead of a space and behind it. Assumes nothing.
+use Rattle.std.specs.Prelude.{None, Option, Some}
 use mathlib.Core.Path.{◌≡◌, refl, sym, ap, ap₂, ◌∙◌}
 use mathlib.Core.Bool.{Bool, true, false, ◌&&◌, cond}
 use mathlib.Core.List.{List, [], ◌∷◌, ◌++◌, map, append_assoc}
@@ -18,11 +19,6 @@ use Rattle.logic.specs.Laws.Bools.{by_cond}
 use Rattle.ternary.specs.Digits.{value}
 use Rattle.signed.specs.Sign.{with_sign}
 use Rattle.decimal.specs.Decimal.{is_decimal, all_decimal, decimal_value, whole_in, signed_number, number_in, ahead, behind, trimmed, fix_of, fix_in, printed_from, printed}
-use Rattle.decimal.specs.declared.Whole.{Whole}
-use Rattle.decimal.specs.declared.Whole.TheVariants as Wholes
-use Rattle.decimal.specs.declared.Number.{Number}
-use Rattle.decimal.specs.declared.Number.TheVariants as Numbers
-use Rattle.decimal.specs.declared.FixLine.TheVariants as Lines
 
 pub ten-le : {i j : ℕ} → i ≤ j → 10 ^ i ≤ 10 ^ j
 ten-le h = pow-le-pow_right (zero-lt-suc 9) h
@@ -82,42 +78,42 @@ module _ (s : List ℕ) (i : ℕ) (h : i < length s) where
 
 -- the answers of the reader
 module _ (s : List ℕ) where
-  pub none_in : length s ≡ 0 → Wholes.Not ≡ whole_in s
+  pub none_in : length s ≡ 0 → None ≡ whole_in s
   unfolding whole_in
   none_in e = simp (lt-leb 1 (length s) (omega arith))
 
-  pub many-in : 19 < length s → Wholes.Not ≡ whole_in s
+  pub many-in : 19 < length s → None ≡ whole_in s
   unfolding whole_in
   many-in h = simp (le-leb 1 (length s) (omega arith), lt-leb (length s) 19 h)
 
-  pub other-in : 0 < length s → length s ≤ 19 → all_decimal s ≡ false → Wholes.Not ≡ whole_in s
+  pub other-in : 0 < length s → length s ≤ 19 → all_decimal s ≡ false → None ≡ whole_in s
   unfolding whole_in
   other-in h k e = simp (le-leb 1 (length s) h, le-leb (length s) 19 k, e)
 
-  pub digits_in : (x : ℕ) → 0 < length s → length s ≤ 19 → all_decimal s ≡ true → x ≡ decimal_value s → Wholes.Is x ≡ whole_in s
+  pub digits_in : (x : ℕ) → 0 < length s → length s ≤ 19 → all_decimal s ≡ true → x ≡ decimal_value s → Some x ≡ whole_in s
   unfolding whole_in
-  digits_in x h k e q = simp (le-leb 1 (length s) h, le-leb (length s) 19 k, e) (ap Wholes.Is q)
+  digits_in x h k e q = simp (le-leb 1 (length s) h, le-leb (length s) 19 k, e) (ap Some q)
 
 -- ---- a number with its sign
 
-pub no_size : (b : Bool) {s : Whole} → s ≡ Wholes.Not → Numbers.Not ≡ signed_number b s
+pub no_size : (b : Bool) {s : Option ℕ} → s ≡ None → None ≡ signed_number b s
 unfolding signed_number
 no_size b e = sym (ap (signed_number b) e)
 
-pub large : (b : Bool) {s : Whole} (n : ℕ) → s ≡ Wholes.Is n → 9223372036854775807 < n → Numbers.Not ≡ signed_number b s
+pub large : (b : Bool) {s : Option ℕ} (n : ℕ) → s ≡ Some n → 9223372036854775807 < n → None ≡ signed_number b s
 unfolding signed_number
 large b n e h = sym (ap (signed_number b) e ∙ simp (le-ltb n (2 ^ 63) (omega arith)))
 
-pub small : {b : Bool} {s : Whole} {z : ℤ} (t : Bool) (n : ℕ) → b ≡ t → s ≡ Wholes.Is n → n ≤ 9223372036854775807 → z ≡ with_sign t n → Numbers.Is z ≡ signed_number b s
+pub small : {b : Bool} {s : Option ℕ} {z : ℤ} (t : Bool) (n : ℕ) → b ≡ t → s ≡ Some n → n ≤ 9223372036854775807 → z ≡ with_sign t n → Some z ≡ signed_number b s
 unfolding signed_number
-small t n f e h q = sym (ap₂ signed_number f e ∙ simp (lt-ltb n (2 ^ 63) (omega arith)) (ap Numbers.Is (sym q)))
+small t n f e h q = sym (ap₂ signed_number f e ∙ simp (lt-ltb n (2 ^ 63) (omega arith)) (ap Some (sym q)))
 
 -- the bytes from k on, as the code has them
 pub from_on : (k : ℕ) (s : List ℕ) → take (length s - k) (drop k s) ≡ drop k s
 from_on k s = take_all (length s - k) (drop k s) (omega (arith, length-drop k s))
 
 -- by the first byte
-pub no_number : (s : List ℕ) → length s ≡ 0 → Numbers.Not ≡ number_in s
+pub no_number : (s : List ℕ) → length s ≡ 0 → None ≡ number_in s
 unfolding number_in
 no_number [] e = refl
 no_number (b ∷ s) e = absurd (omega arith)
@@ -199,25 +195,25 @@ take-trimmed (b ∷ c ∷ s) = ap (λ (l : List ℕ). b ∷ l) (take-trimmed (c 
 
 -- ---- the fix of a line
 
-fix-second : (x : Number) → Lines.Not ≡ fix_of x Numbers.Not
+fix-second : (x : Option ℤ) → None ≡ fix_of x None
 unfolding fix_of
-fix-second (Numbers.Is a) = refl
-fix-second Numbers.Not = refl
+fix-second (Some a) = refl
+fix-second None = refl
 
 module _ (s : List ℕ) where
-  pub no-space : length (ahead 32 (trimmed s)) ≡ length (trimmed s) → Lines.Not ≡ fix_in s
+  pub no-space : length (ahead 32 (trimmed s)) ≡ length (trimmed s) → None ≡ fix_in s
   unfolding fix_in number_in
   no-space e = fix-second (number_in (ahead 32 (trimmed s))) ∙ ap (λ (l : List ℕ). fix_of (number_in (ahead 32 (trimmed s))) (number_in l)) (sym (behind-none 32 (trimmed s) e))
 
-  pub no-first : Numbers.Not ≡ number_in (ahead 32 (trimmed s)) → Lines.Not ≡ fix_in s
+  pub no-first : None ≡ number_in (ahead 32 (trimmed s)) → None ≡ fix_in s
   unfolding fix_in fix_of
-  no-first e = ap (λ (x : Number). fix_of x (number_in (behind 32 (trimmed s)))) e
+  no-first e = ap (λ (x : Option ℤ). fix_of x (number_in (behind 32 (trimmed s)))) e
 
-  pub no_second : Numbers.Not ≡ number_in (behind 32 (trimmed s)) → Lines.Not ≡ fix_in s
+  pub no_second : None ≡ number_in (behind 32 (trimmed s)) → None ≡ fix_in s
   unfolding fix_in
   no_second e = fix-second (number_in (ahead 32 (trimmed s))) ∙ ap (fix_of (number_in (ahead 32 (trimmed s)))) e
 
-  pub two-numbers : (a b : ℤ) → Numbers.Is a ≡ number_in (ahead 32 (trimmed s)) → Numbers.Is b ≡ number_in (behind 32 (trimmed s)) → Lines.Fix a b ≡ fix_in s
+  pub two-numbers : (a b : ℤ) → Some a ≡ number_in (ahead 32 (trimmed s)) → Some b ≡ number_in (behind 32 (trimmed s)) → Some (a, b) ≡ fix_in s
   unfolding fix_in fix_of
   two-numbers a b e f = ap₂ fix_of e f
 

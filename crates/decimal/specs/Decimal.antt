@@ -1,14 +1,8 @@
 -- Whole numbers in decimal, and the lines of a flight: "a line for each fix, `longitude z`, two whole numbers in decimal". Bytes 48 to 57 are the
 -- digits, 45 is the minus sign, 32 the space, 13 the carriage return. Assumes nothing.
-use Rattle.std.specs.Prelude.{Bool, true, false, ◌&&◌, cond, List, [], ◌∷◌, ◌++◌, map, ℕ, zero, suc, ◌+◌, ◌-◌, ◌/◌, ◌%◌, ◌^◌, eqb, leb, ltb, ℤ, pos, negsuc, length}
+use Rattle.std.specs.Prelude.{Bool, true, false, ◌&&◌, cond, List, [], ◌∷◌, ◌++◌, map, ℕ, zero, suc, ◌+◌, ◌-◌, ◌/◌, ◌%◌, ◌^◌, eqb, leb, ltb, ℤ, pos, negsuc, length, None, Option, Some}
 use Rattle.ternary.specs.Digits.{value}
 use Rattle.signed.specs.Sign.{with_sign}
-use Rattle.decimal.specs.declared.Whole.{Whole}
-use Rattle.decimal.specs.declared.Whole.TheVariants as Wholes
-use Rattle.decimal.specs.declared.Number.{Number}
-use Rattle.decimal.specs.declared.Number.TheVariants as Numbers
-use Rattle.decimal.specs.declared.FixLine.{FixLine}
-use Rattle.decimal.specs.declared.FixLine.TheVariants as Lines
 
 abbrev pub is_decimal : ℕ → Bool
 is_decimal b = leb 48 b && leb b 57
@@ -22,19 +16,19 @@ abbrev pub decimal_value : List ℕ → ℕ
 decimal_value bs = value 10 (map (λ b. b - 48) bs)
 
 -- 1 to 19 digits
-unfoldable pub whole_in : List ℕ → Whole
+unfoldable pub whole_in : List ℕ → Option ℕ
 unfolding all_decimal
-whole_in bs = cond (leb 1 (length bs) && (leb (length bs) 19 && all_decimal bs)) (Wholes.Is (decimal_value bs)) Wholes.Not
+whole_in bs = cond (leb 1 (length bs) && (leb (length bs) 19 && all_decimal bs)) (Some (decimal_value bs)) None
 
 -- a number too large for 63 bits is refused
-unfoldable pub signed_number : Bool → Whole → Number
-signed_number b (Wholes.Is n) = cond (ltb n (2 ^ 63)) (Numbers.Is (with_sign b n)) Numbers.Not
-signed_number b Wholes.Not = Numbers.Not
+unfoldable pub signed_number : Bool → Option ℕ → Option ℤ
+signed_number b (Some n) = cond (ltb n (2 ^ 63)) (Some (with_sign b n)) None
+signed_number b None = None
 
 -- digits, with or without a minus sign before them
-unfoldable pub number_in : List ℕ → Number
+unfoldable pub number_in : List ℕ → Option ℤ
 unfolding whole_in signed_number
-number_in [] = Numbers.Not
+number_in [] = None
 number_in (b ∷ bs) = cond (eqb b 45) (signed_number true (whole_in bs)) (signed_number false (whole_in (b ∷ bs)))
 
 -- what stands before the first byte that is so, and what after it
@@ -52,13 +46,13 @@ trimmed [] = []
 trimmed (b ∷ []) = cond (eqb b 13) [] (b ∷ [])
 trimmed (b ∷ c ∷ bs) = b ∷ trimmed (c ∷ bs)
 
-unfoldable pub fix_of : Number → Number → FixLine
-fix_of (Numbers.Is longitude) (Numbers.Is z) = Lines.Fix longitude z
-fix_of (Numbers.Is longitude) Numbers.Not = Lines.Not
-fix_of Numbers.Not other = Lines.Not
+unfoldable pub fix_of : Option ℤ → Option ℤ → Option (ℤ × ℤ)
+fix_of (Some longitude) (Some z) = Some (longitude, z)
+fix_of (Some longitude) None = None
+fix_of None other = None
 
 -- two numbers with a space between them
-unfoldable pub fix_in : List ℕ → FixLine
+unfoldable pub fix_in : List ℕ → Option (ℤ × ℤ)
 unfolding number_in fix_of
 fix_in line = fix_of (number_in (ahead 32 (trimmed line))) (number_in (behind 32 (trimmed line)))
 

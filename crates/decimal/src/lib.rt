@@ -5,34 +5,6 @@ ghost use Rattle.std.specs.Prelude.{◌≡◌, ◌++◌, ◌+◌, ◌^◌, ◌�
 ghost use Rattle.decimal.specs.Fraction.{whole_fraction, fraction_in};
 ghost use Rattle.decimal.specs.Decimal.{whole_in, number_in, fix_in, signed_number, ahead, trimmed, printed};
 
-// A whole number that some bytes write.
-#[derive(Clone, Copy)]
-pub enum Whole {
-    Is(u64),
-    Not,
-}
-
-// The same with a sign.
-#[derive(Clone, Copy)]
-pub enum Number {
-    Is(i64),
-    Not,
-}
-
-// A fraction that some bytes write: a whole number over a power of ten.
-#[derive(Clone, Copy)]
-pub enum Fraction {
-    Is(u64, u64),
-    Not,
-}
-
-// The fix that a line writes: longitude and z.
-#[derive(Clone, Copy)]
-pub enum FixLine {
-    Fix(i64, i64),
-    Not,
-}
-
 fn wide(x: u8) -> u64
     ensures { result ≡ x }
 {
@@ -40,53 +12,49 @@ fn wide(x: u8) -> u64
 }
 
 // 1 to 19 decimal digits.
-pub fn whole_in(text: &[u8]) -> Whole
+pub fn whole_in(text: &[u8]) -> Option<u64>
     ensures { result ≡ whole_in text.now }
 {
     if text.len() == 0 {
-        return Whole::Not;
+        return None;
     }
     if text.len() > 19 {
-        return Whole::Not;
+        return None;
     }
     let mut n: u64 = 0;
-    let mut i: usize = 0;
-    while i < text.len() {
-        let b = wide(text[i]);
+    for byte in text {
+        let b = wide(*byte);
         if b < 48 {
-            return Whole::Not;
+            return None;
         }
         if b > 57 {
-            return Whole::Not;
+            return None;
         }
         n = n * 10 + (b - 48);
-        i = i + 1;
     }
-    Whole::Is(n)
+    Some(n)
 }
 
 // A number with its sign. One whose size is 2^63 or more is refused.
-fn number_of(minus: bool, size: Whole) -> Number
+fn number_of(minus: bool, size: Option<u64>) -> Option<i64>
     ensures { result ≡ signed_number minus size }
 {
-    let Whole::Is(n) = size else {
-        return Number::Not;
-    };
+    let n = size?;
     if n > 9_223_372_036_854_775_807 {
-        return Number::Not;
+        return None;
     }
     if minus {
-        return Number::Is(signed::difference(0, n));
+        return Some(signed::difference(0, n));
     }
-    Number::Is(signed::as_signed(n))
+    Some(signed::as_signed(n))
 }
 
 // A whole number with or without a minus sign before it.
-pub fn number_in(text: &[u8]) -> Number
+pub fn number_in(text: &[u8]) -> Option<i64>
     ensures { result ≡ number_in text.now }
 {
     if text.len() == 0 {
-        return Number::Not;
+        return None;
     }
     if text[0] == b'-' {
         return number_of(true, whole_in(&text[1..]));
@@ -98,14 +66,12 @@ pub fn number_in(text: &[u8]) -> Number
 fn ahead_of(text: &[u8], stop: u8) -> usize
     ensures { result ≡ length (ahead stop text.now) }
 {
-    let mut i: usize = 0;
-    while i < text.len() {
-        if text[i] == stop {
+    for (i, byte) in text.iter().enumerate() {
+        if *byte == stop {
             return i;
         }
-        i = i + 1;
     }
-    i
+    text.len()
 }
 
 // The length of a line without the carriage return that may end it.
@@ -124,23 +90,19 @@ pub fn trimmed_length(line: &[u8]) -> usize
 }
 
 // The fix of a line: two numbers with a space between them.
-pub fn fix_in(line: &[u8]) -> FixLine
+pub fn fix_in(line: &[u8]) -> Option<(i64, i64)>
     ensures { result ≡ fix_in line.now }
 {
     let end = trimmed_length(line);
     let text = &line[..end];
     let space = ahead_of(text, b' ');
     if space == end {
-        return FixLine::Not;
+        return None;
     }
-    let Number::Is(longitude) = number_in(&text[..space]) else {
-        return FixLine::Not;
-    };
+    let longitude = number_in(&text[..space])?;
     let rest = space + 1;
-    let Number::Is(z) = number_in(&text[rest..]) else {
-        return FixLine::Not;
-    };
-    FixLine::Fix(longitude, z)
+    let z = number_in(&text[rest..])?;
+    Some((longitude, z))
 }
 
 // How many decimal digits a number has.
@@ -150,6 +112,7 @@ fn length_of(x: u64) -> usize
 {
     let mut n: usize = 1;
     let mut rest = x;
+    // by hand: it ends at a size, not after a number of turns known before
     while rest > 9 {
         rest = rest / 10;
         n = n + 1;
@@ -165,10 +128,8 @@ pub fn put_whole(x: u64, out: &mut [u8], at: usize) -> usize
     ensures out_after { out.new ≡ take at out.old ++ (printed x ++ drop (at + length (printed x)) out.old) }
 {
     let end = at + length_of(x);
-    let mut i = end;
     let mut rest = x;
-    while i > at {
-        i = i - 1;
+    for i in (at..end).rev() {
         out[i] = (48 + rest % 10) as u8;
         rest = rest / 10;
     }
@@ -181,29 +142,27 @@ fn ten_to(places: usize) -> u64
     ensures { result ≡ 10 ^ places }
 {
     let mut power: u64 = 1;
-    let mut i: usize = 0;
-    while i < places {
+    for _ in 0..places {
         power = power * 10;
-        i = i + 1;
     }
     power
 }
 
 // Up to 15 digits alone.
-fn whole_fraction(text: &[u8]) -> Fraction
+fn whole_fraction(text: &[u8]) -> Option<(u64, u64)>
     ensures { result ≡ whole_fraction text.now }
 {
     if text.len() > 15 {
-        return Fraction::Not;
+        return None;
     }
     match whole_in(text) {
-        Whole::Is(number) => Fraction::Is(number, 1),
-        Whole::Not => Fraction::Not,
+        Some(number) => Some((number, 1)),
+        None => None,
     }
 }
 
 // Digits, with or without a point and digits behind it: up to 15 in all.
-pub fn fraction_in(text: &[u8]) -> Fraction
+pub fn fraction_in(text: &[u8]) -> Option<(u64, u64)>
     ensures { result ≡ fraction_in text.now }
 {
     let point = ahead_of(text, b'.');
@@ -211,15 +170,11 @@ pub fn fraction_in(text: &[u8]) -> Fraction
         return whole_fraction(text);
     }
     if text.len() > 16 {
-        return Fraction::Not;
+        return None;
     }
-    let Whole::Is(front) = whole_in(&text[..point]) else {
-        return Fraction::Not;
-    };
+    let front = whole_in(&text[..point])?;
     let rest = point + 1;
-    let Whole::Is(back) = whole_in(&text[rest..]) else {
-        return Fraction::Not;
-    };
+    let back = whole_in(&text[rest..])?;
     let scale = ten_to(text.len() - rest);
-    Fraction::Is(front * scale + back, scale)
+    Some((front * scale + back, scale))
 }

@@ -1,4 +1,6 @@
 -- The answer to a question by name: the name's refusal, the text's, the question's. Assumes nothing.
+use Rattle.std.specs.Prelude.{Err, Ok, Result, Bool}
+use Rattle.reading.specs.declared.Refused.{Refused}
 use mathlib.Core.Path.{◌≡◌, refl, sym, ap, ap₂, ◌∙◌, subst}
 use mathlib.Core.List.{List}
 use Prim.Native.Nat.{ℕ, zero, suc}
@@ -6,8 +8,6 @@ use native.Mathlib.Omega.{arith}
 use Rattle.logic.specs.Laws.Refusal.{stops, passes, given-value, given-none}
 use Rattle.cell.specs.declared.Arrangement.{Arrangement}
 use Rattle.cell.specs.Cell.{IsArrangement}
-use Rattle.code.specs.declared.Coded.{Coded}
-use Rattle.code.specs.declared.Coded.TheVariants as coded-as
 use Rattle.code.specs.Code.{coded, code_in, refusal_in}
 use Rattle.name.specs.Name.{name_refusal, name_code}
 use Rattle.reading.specs.Ground.{whole_cells}
@@ -16,31 +16,28 @@ use Rattle.reading.proofs.Laws.TextReading.{text-arranged}
 use Rattle.reader.specs.Check.{text_refusal, place_with}
 use Rattle.reader.specs.Laws.Answer.{text-read}
 use Rattle.report.specs.Lines.{number_line}
-use Rattle.summary.specs.declared.Summarized.{Summarized}
-use Rattle.summary.specs.declared.Summarized.TheVariants as summarized-as
-use Rattle.summary.specs.declared.Questioned.{Questioned}
 use Rattle.summary.specs.Summary.{counters_of, summarized, question_refusal, questioned}
 use Rattle.summary.proofs.Laws.Answer.{kept-text}
 use Rattle.districts.specs.Question.{kept_arrangement, name_question_refusal, question_place, questioned_name, question_line, refusal_of}
 
 -- what is kept is an arrangement
-pub kept-arranged : (t : List ℕ) {x : Summarized} → x ≡ summarized (text_refusal t) t → IsArrangement (kept_arrangement x)
+pub kept-arranged : (t : List ℕ) {x : Result Arrangement Refused} → x ≡ summarized (text_refusal t) t → IsArrangement (kept_arrangement x)
 kept-arranged t {x} e = go x e
   where
-    go : (x : Summarized) → x ≡ summarized (text_refusal t) t → IsArrangement (kept_arrangement x)
-    go (summarized-as.Kept n s) e =
+    go : (x : Result Arrangement Refused) → x ≡ summarized (text_refusal t) t → IsArrangement (kept_arrangement x)
+    go (Ok x) e =
         let k = kept-text t e in
         subst IsArrangement (sym k.1) (text-arranged t (text-read t k.0))
-    go (summarized-as.Refused r p) e = record { northern = omega arith; southern = omega arith }
+    go (Err e') e = record { northern = omega arith; southern = omega arith }
 
 -- ---- the name
 
-as_code : (q code c : ℕ) → coded q code ≡ coded-as.Code c → (q ≡ 0) × (code ≡ c)
+as_code : (q code c : ℕ) → coded q code ≡ Ok c → (q ≡ 0) × (code ≡ c)
 unfolding coded
 as_code zero code c e = (refl, ap code_in e)
 as_code (suc q) code c e = let z : ◌≡◌ {A = ℕ} 0 1 = cc in absurd (omega arith)
 
-as-refusal : (q code r : ℕ) → coded q code ≡ coded-as.Refused r → (q ≡ r) × (r ≡ 0 → ⊥)
+as-refusal : (q code r : ℕ) → coded q code ≡ Err r → (q ≡ r) × (r ≡ 0 → ⊥)
 unfolding coded
 as-refusal zero code r e = let z : ◌≡◌ {A = ℕ} 0 1 = cc in absurd (omega arith)
 as-refusal (suc q) code r e = let k : suc q ≡ r = ap refusal_in e in (k, λ z. omega arith)
@@ -53,21 +50,21 @@ module _ (t name : List ℕ) where
   stopped {r = suc r} e h =
       (sym (ap (λ (q : ℕ). question_line (questioned q (counters_of (whole_cells (nodes_of t))) (name_code (text_arrangement t) name))) e), sym e)
 
-  module _ (a : Arrangement) {x : Coded} (e : x ≡ coded (name_refusal name) (name_code a name)) where
-    pub no_name : {r : ℕ} → x ≡ coded-as.Refused r → (name_question_refusal t name ≡ r) × (r ≡ 0 → ⊥)
+  module _ (a : Arrangement) {x : Result ℕ ℕ} (e : x ≡ coded (name_refusal name) (name_code a name)) where
+    pub no_name : {r : ℕ} → x ≡ Err r → (name_question_refusal t name ≡ r) × (r ≡ 0 → ⊥)
     unfolding name_question_refusal
     no_name {r} f =
         let k = as-refusal (name_refusal name) (name_code a name) r (sym e ∙ f) in
         (stops (name_refusal name) _ (λ z. k.1 (sym k.0 ∙ z)) ∙ k.0, k.1)
 
     -- a name's refusal has no place
-    pub no-name-place : {r : ℕ} → x ≡ coded-as.Refused r → 0 ≡ question_place t name
+    pub no-name-place : {r : ℕ} → x ≡ Err r → 0 ≡ question_place t name
     unfolding question_place
     no-name-place {r} f =
         let k = as-refusal (name_refusal name) (name_code a name) r (sym e ∙ f) in
         sym (given-none (name_refusal name) (place_with (text_refusal t) t) 0 (λ z. k.1 (sym k.0 ∙ z)))
 
-    module _ {code : ℕ} (f : x ≡ coded-as.Code code) where
+    module _ {code : ℕ} (f : x ≡ Ok code) where
       named : (name_refusal name ≡ 0) × (name_code a name ≡ code)
       named = as_code (name_refusal name) (name_code a name) code (sym e ∙ f)
 
@@ -90,7 +87,7 @@ module _ (t name : List ℕ) where
         asked-refusal = ap₂ question_refusal j (sym own) ∙ sym (passes _ named.0 ∙ passes _ i)
 
         pub answered :
-            {counters : List ℕ} {y : Questioned} → counters ≡ counters_of (whole_cells (nodes_of t)) → y ≡ questioned (question_refusal a code) counters code →
+            {counters : List ℕ} {y : Result Bool ℕ} → counters ≡ counters_of (whole_cells (nodes_of t)) → y ≡ questioned (question_refusal a code) counters code →
             (question_line y ≡ question_line (questioned_name t name)) × (refusal_of y ≡ name_question_refusal t name)
         unfolding questioned_name questioned
         answered {y = y} g h =

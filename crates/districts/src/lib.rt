@@ -1,18 +1,16 @@
 // What `coverage summary` prints: the districts that have anything, or the answer to a question by name.
 #![tactic(auto)]
 
-ghost use Rattle.std.specs.Prelude.{◌≡◌, ◌+◌, ◌≤◌, ◌<◌, ◌^◌, length, get_or};
+ghost use Rattle.std.specs.Prelude.{◌≡◌, ◌+◌, ◌≤◌, ◌<◌, ◌^◌, length, get_or, Ok};
 ghost use Rattle.cell.specs.Cell.{IsArrangement};
 ghost use Rattle.reader.specs.Check.{text_refusal, place_with};
 ghost use Rattle.report.specs.Put.{Put};
-ghost use Rattle.summary.specs.declared.Questioned.TheVariants.{Answer};
 ghost use Rattle.report.specs.Lines.{number_line};
 ghost use Rattle.districts.specs.Districts.{share_line, district_line, district_lines, summary_lines, AtMostFull};
 ghost use Rattle.districts.specs.Question.{kept_arrangement, name_question_refusal, question_place, questioned_name, question_line, refusal_of};
 
 use cell::Arrangement;
-use code::Coded;
-use summary::{Questioned, Summarized};
+use reading::Refused;
 
 // Where lines end; and their refusal, 0 for none, with the place.
 #[derive(Clone, Copy)]
@@ -68,11 +66,9 @@ pub fn put_districts(arrangement: Arrangement, counters: &[u64; 486], out: &mut 
     ensures put { Put 0 (district_lines 0 counters.now) out.old out.new result }
     ensures upper_bound { result ≤ 29160 }
 {
-    let mut i: usize = 0;
     let mut end: usize = 0;
-    while i < 486 {
+    for i in 0..486 {
         end = put_district(arrangement, i as u64, counters[i], out, end);
-        i = i + 1;
     }
     end
 }
@@ -98,32 +94,29 @@ pub fn put_summary(text: &[u8], out: &mut [u8]) -> LinesPut
 {
     let mut counters = [0u64; 486];
     match summary::summarize(text, &mut counters) {
-        Summarized::Kept { north, south } => {
-            let arrangement = Arrangement { north, south };
-            LinesPut {
-                end: put_districts(arrangement, &counters, out),
-                refusal: 0, // summed up
-                place: 0,
-            }
-        }
-        Summarized::Refused { refusal, place } => refused(refusal, place, out), // no summary
+        Ok(arrangement) => LinesPut {
+            end: put_districts(arrangement, &counters, out),
+            refusal: 0, // summed up
+            place: 0,
+        },
+        Err(Refused { refusal, place }) => refused(refusal, place, out), // no summary
     }
 }
 
 // The arrangement that is kept. Where the text is refused any will do, for then no question is asked.
-fn kept_arrangement(summarized: Summarized) -> Arrangement
+fn kept_arrangement(summarized: Result<Arrangement, Refused>) -> Arrangement
     ensures { result ≡ kept_arrangement summarized }
 {
     match summarized {
-        Summarized::Kept { north, south } => Arrangement { north, south },
-        Summarized::Refused { .. } => Arrangement { north: 0, south: 0 },
+        Ok(arrangement) => arrangement,
+        Err(Refused { .. }) => Arrangement { north: 0, south: 0 },
     }
 }
 
 // Puts `yes` or `no` on a line, in front: where it ends.
 fn put_word(yes: bool, out: &mut [u8]) -> usize
     requires { 21 ≤ length out.old }
-    ensures put { Put 0 (question_line (Answer yes)) out.old out.new result }
+    ensures put { Put 0 (question_line (Ok yes)) out.old out.new result }
     ensures upper_bound { result ≤ 21 }
 {
     if yes {
@@ -133,18 +126,18 @@ fn put_word(yes: bool, out: &mut [u8]) -> usize
 }
 
 // Puts `yes`, `no` or the refusal number on a line, in front.
-fn put_answer(questioned: Questioned, out: &mut [u8]) -> LinesPut
+fn put_answer(questioned: Result<bool, u64>, out: &mut [u8]) -> LinesPut
     requires { 21 ≤ length out.old }
     ensures put { Put 0 (question_line questioned) out.old out.new result.end }
     ensures refusal_value { (result.refusal ≡ refusal_of questioned) × (result.place ≡ 0) × (result.end ≤ 21) }
 {
     match questioned {
-        Questioned::Answer(covered) => LinesPut {
+        Ok(covered) => LinesPut {
             end: put_word(covered, out),
             refusal: 0, // answered
             place: 0, // of an answer
         },
-        Questioned::Refused(refusal) => refused(refusal, 0, out), // of a question
+        Err(refusal) => refused(refusal, 0, out), // of a question
     }
 }
 
@@ -158,10 +151,10 @@ pub fn put_question(text: &[u8], name: &[u8], out: &mut [u8]) -> LinesPut
     let summarized = summary::summarize(text, &mut counters);
     let kept = kept_arrangement(summarized);
     match name::name_code(kept, name) {
-        Coded::Refused(refusal) => refused(refusal, 0, out), // of the name
-        Coded::Code(code) => match summarized {
-            Summarized::Refused { refusal, place } => refused(refusal, place, out), // of the text
-            Summarized::Kept { .. } => put_answer(summary::question(kept, &counters, code), out),
+        Err(refusal) => refused(refusal, 0, out), // of the name
+        Ok(code) => match summarized {
+            Err(Refused { refusal, place }) => refused(refusal, place, out), // of the text
+            Ok(_) => put_answer(summary::question(kept, &counters, code), out),
         },
     }
 }

@@ -21,12 +21,10 @@ pub fn scaled(base: u64, k: u64, n: u64, d: u64) -> Quotient
 {
     let mut whole: u64 = 0;
     let mut rest = n;
-    let mut i: u64 = 0;
-    while i < k {
+    for _ in 0..k {
         let next = rest * base;
         whole = whole * base + next / d;
         rest = next % d;
-        i += 1;
     }
     Quotient { whole, rest }
 }

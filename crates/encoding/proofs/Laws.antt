@@ -1,5 +1,6 @@
 pub mod Encoding
 -- What each number that is read makes of the answer, and what stands at each turn of the loops. Assumes nothing.
+use Rattle.std.specs.Prelude.{Err, Ok}
 use mathlib.Core.Path.{◌≡◌, sym, ap, ap₂, ◌∙◌}
 use mathlib.Core.Bool.{Bool}
 use mathlib.Core.List.{List, ◌++◌}
@@ -11,9 +12,7 @@ use lib.Seq.{sets, sets-eq}
 use Rattle.logic.specs.Laws.Stores.{sets-append}
 use Rattle.ternary.specs.Digits.{digits}
 use Rattle.ternary.proofs.Laws.Digits.{length_digits}
-use Rattle.fields.specs.declared.NumberRead.TheVariants as number-as
 use Rattle.fields.specs.Number.{number_at}
-use Rattle.encoding.specs.declared.SettingsRead.TheVariants.{Is, Wrong}
 use Rattle.history.specs.declared.Settings.{Settings}
 use Rattle.history.specs.declared.History.{History}
 use Rattle.history.specs.Settings.{none}
@@ -25,36 +24,36 @@ use Rattle.encoding.proofs.Internal.Spelling.{mark-bytes}
 -- ---- the settings of a place
 
 module _ (t : List ℕ) (at : ℕ) (reached : Bool) where
-  pub wrong-n : {p : ℕ} → number_at t at 1 0 (up_to reached 3) ≡ number-as.Wrong p → Wrong p ≡ settings_at t at reached
+  pub wrong-n : {p : ℕ} → number_at t at 1 0 (up_to reached 3) ≡ Err p → Err p ≡ settings_at t at reached
   unfolding settings_at
   wrong-n e = rw e
 
-  module _ {n : ℕ} (n-is : number_at t at 1 0 (up_to reached 3) ≡ number-as.Is n) where
-    pub wrong-s : {p : ℕ} → number_at t (at + 1) 1 0 (up_to reached 3) ≡ number-as.Wrong p → Wrong p ≡ settings_at t at reached
+  module _ {n : ℕ} (n-is : number_at t at 1 0 (up_to reached 3) ≡ Ok n) where
+    pub wrong-s : {p : ℕ} → number_at t (at + 1) 1 0 (up_to reached 3) ≡ Err p → Err p ≡ settings_at t at reached
     unfolding settings_at
     wrong-s e = rw (n-is, e)
 
-    module _ {s : ℕ} (s-is : number_at t (at + 1) 1 0 (up_to reached 3) ≡ number-as.Is s) where
-      pub wrong-resolution : {p : ℕ} → number_at t (at + 2) 1 0 (up_to reached 15) ≡ number-as.Wrong p → Wrong p ≡ settings_at t at reached
+    module _ {s : ℕ} (s-is : number_at t (at + 1) 1 0 (up_to reached 3) ≡ Ok s) where
+      pub wrong-resolution : {p : ℕ} → number_at t (at + 2) 1 0 (up_to reached 15) ≡ Err p → Err p ≡ settings_at t at reached
       unfolding settings_at
       wrong-resolution e = rw (n-is, s-is, e)
 
-      module _ {k : ℕ} (k-is : number_at t (at + 2) 1 0 (up_to reached 15) ≡ number-as.Is k) where
-        pub wrong-eccentricity : {p : ℕ} → number_at t (at + 3) 5 0 (up_to reached 10000000000) ≡ number-as.Wrong p → Wrong p ≡ settings_at t at reached
+      module _ {k : ℕ} (k-is : number_at t (at + 2) 1 0 (up_to reached 15) ≡ Ok k) where
+        pub wrong-eccentricity : {p : ℕ} → number_at t (at + 3) 5 0 (up_to reached 10000000000) ≡ Err p → Err p ≡ settings_at t at reached
         unfolding settings_at
         wrong-eccentricity e = rw (n-is, s-is, k-is, e)
 
-        pub settings-right : {e : ℕ} → number_at t (at + 3) 5 0 (up_to reached 10000000000) ≡ number-as.Is e → Is (settings n s k e) ≡ settings_at t at reached
+        pub settings-right : {e : ℕ} → number_at t (at + 3) 5 0 (up_to reached 10000000000) ≡ Ok e → Ok (settings n s k e) ≡ settings_at t at reached
         unfolding settings_at
         settings-right e = rw (n-is, s-is, k-is, e)
 
 -- ---- the newest revision
 
-pub wrong-mark : (t : List ℕ) {p : ℕ} → number_at t 0 5 319024201729 319024201729 ≡ number-as.Wrong p → number-as.Wrong p ≡ newest_in t
+pub wrong-mark : (t : List ℕ) {p : ℕ} → number_at t 0 5 319024201729 319024201729 ≡ Err p → Err p ≡ newest_in t
 unfolding newest_in
 wrong-mark t e = rw e
 
-pub mark-right : (t : List ℕ) {m : ℕ} → number_at t 0 5 319024201729 319024201729 ≡ number-as.Is m → number_at t 5 2 0 65535 ≡ newest_in t
+pub mark-right : (t : List ℕ) {m : ℕ} → number_at t 0 5 319024201729 319024201729 ≡ Ok m → number_at t 5 2 0 65535 ≡ newest_in t
 unfolding newest_in
 mark-right t e = rw e
 

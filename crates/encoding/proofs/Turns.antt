@@ -1,4 +1,5 @@
 -- Decoding place by place: what is read from each place on, and what each place makes of the answer. Assumes nothing.
+use Rattle.std.specs.Prelude.{Err, Ok, Result}
 use mathlib.Core.Path.{◌≡◌, refl, sym, ap, ap₂, ◌∙◌}
 use mathlib.Core.Bool.{Bool}
 use mathlib.Core.List.{List, [], ◌∷◌, ◌++◌, append-nil, append_assoc}
@@ -8,15 +9,12 @@ use native.Mathlib.Omega.{arith}
 use lib.Dec.{leb}
 use lib.ListN.{length, set, take, drop, length-set}
 use lib.Seq.{take_all, take-suc-set}
-use Rattle.fields.specs.declared.NumberRead.{NumberRead}
-use Rattle.fields.specs.declared.NumberRead.TheVariants as number-as
 use Rattle.fields.specs.Form.{Form, done, number}
 use Rattle.fields.specs.Read.{Read, wrong, behind, read_as}
 use Rattle.fields.specs.Number.{number_at, by_number}
 use Rattle.fields.proofs.Laws.Places.{behind-none, number_read, end_read, more-read}
 use Rattle.history.specs.declared.Settings.{Settings}
 use Rattle.history.specs.declared.History.{History}
-use Rattle.encoding.specs.declared.SettingsRead.TheVariants.{Is, Wrong}
 use Rattle.encoding.specs.Decoding.{up_to, settings, settings_form, places_form, history_form, refused_at, answer_to, decoded_of, with_number, settings_at, by_settings, then_number, newest_in}
 
 abbrev history : ℕ → List Settings → History
@@ -40,51 +38,51 @@ module _ {A : Type 0} (t : List ℕ) (reached : Bool) (next : Settings → Form 
   abbrev then : Settings → Read A
   then x = rest (at + 8) (next x)
 
-  read-round : (n s k : ℕ) → rest (at + 3) (round n s k) ≡ by_settings (with_number (number_at t (at + 3) 5 0 (up_to reached 10000000000)) (λ e. Is (settings n s k e))) then
+  read-round : (n s k : ℕ) → rest (at + 3) (round n s k) ≡ by_settings (with_number (number_at t (at + 3) 5 0 (up_to reached 10000000000)) (λ e. Ok (settings n s k e))) then
   read-round n s k =
       number_read t (at + 3) 5 0 (up_to reached 10000000000) (λ e. next (settings n s k e)) ∙ go (number_at t (at + 3) 5 0 (up_to reached 10000000000))
     where
-      go : (r : NumberRead) → by_number r (λ e. rest (at + 3 + 5) (next (settings n s k e))) ≡ by_settings (with_number r (λ e. Is (settings n s k e))) then
-      go (number-as.Is e) = ap (λ (i : ℕ). rest i (next (settings n s k e))) (let z : at + 3 + 5 ≡ at + 8 = omega arith in z)
-      go (number-as.Wrong p) = refl
+      go : (r : Result ℕ ℕ) → by_number r (λ e. rest (at + 3 + 5) (next (settings n s k e))) ≡ by_settings (with_number r (λ e. Ok (settings n s k e))) then
+      go (Ok e) = ap (λ (i : ℕ). rest i (next (settings n s k e))) (let z : at + 3 + 5 ≡ at + 8 = omega arith in z)
+      go (Err p) = refl
 
   read-fine : (n s : ℕ) → rest (at + 2) (fine n s)
-      ≡ by_settings (with_number (number_at t (at + 2) 1 0 (up_to reached 15)) (λ k. with_number (number_at t (at + 3) 5 0 (up_to reached 10000000000)) (λ e. Is (settings n s k e)))) then
+      ≡ by_settings (with_number (number_at t (at + 2) 1 0 (up_to reached 15)) (λ k. with_number (number_at t (at + 3) 5 0 (up_to reached 10000000000)) (λ e. Ok (settings n s k e)))) then
   read-fine n s = number_read t (at + 2) 1 0 (up_to reached 15) (round n s) ∙ go (number_at t (at + 2) 1 0 (up_to reached 15))
     where
-      go : (r : NumberRead) → by_number r (λ k. rest (at + 2 + 1) (round n s k))
-          ≡ by_settings (with_number r (λ k. with_number (number_at t (at + 3) 5 0 (up_to reached 10000000000)) (λ e. Is (settings n s k e)))) then
-      go (number-as.Is k) = ap (λ (i : ℕ). rest i (round n s k)) (let z : at + 2 + 1 ≡ at + 3 = omega arith in z) ∙ read-round n s k
-      go (number-as.Wrong p) = refl
+      go : (r : Result ℕ ℕ) → by_number r (λ k. rest (at + 2 + 1) (round n s k))
+          ≡ by_settings (with_number r (λ k. with_number (number_at t (at + 3) 5 0 (up_to reached 10000000000)) (λ e. Ok (settings n s k e)))) then
+      go (Ok k) = ap (λ (i : ℕ). rest i (round n s k)) (let z : at + 2 + 1 ≡ at + 3 = omega arith in z) ∙ read-round n s k
+      go (Err p) = refl
 
   read-south : (n : ℕ) → rest (at + 1) (south n)
       ≡ by_settings
       (with_number (number_at t (at + 1) 1 0 (up_to reached 3))
-      (λ s. with_number (number_at t (at + 2) 1 0 (up_to reached 15)) (λ k. with_number (number_at t (at + 3) 5 0 (up_to reached 10000000000)) (λ e. Is (settings n s k e)))))
+      (λ s. with_number (number_at t (at + 2) 1 0 (up_to reached 15)) (λ k. with_number (number_at t (at + 3) 5 0 (up_to reached 10000000000)) (λ e. Ok (settings n s k e)))))
       then
   read-south n = number_read t (at + 1) 1 0 (up_to reached 3) (fine n) ∙ go (number_at t (at + 1) 1 0 (up_to reached 3))
     where
-      go : (r : NumberRead) → by_number r (λ s. rest (at + 1 + 1) (fine n s))
+      go : (r : Result ℕ ℕ) → by_number r (λ s. rest (at + 1 + 1) (fine n s))
           ≡ by_settings
           (with_number r
-          (λ s. with_number (number_at t (at + 2) 1 0 (up_to reached 15)) (λ k. with_number (number_at t (at + 3) 5 0 (up_to reached 10000000000)) (λ e. Is (settings n s k e)))))
+          (λ s. with_number (number_at t (at + 2) 1 0 (up_to reached 15)) (λ k. with_number (number_at t (at + 3) 5 0 (up_to reached 10000000000)) (λ e. Ok (settings n s k e)))))
           then
-      go (number-as.Is s) = ap (λ (i : ℕ). rest i (fine n s)) (let z : at + 1 + 1 ≡ at + 2 = omega arith in z) ∙ read-fine n s
-      go (number-as.Wrong p) = refl
+      go (Ok s) = ap (λ (i : ℕ). rest i (fine n s)) (let z : at + 1 + 1 ≡ at + 2 = omega arith in z) ∙ read-fine n s
+      go (Err p) = refl
 
   settings-read : rest at (settings_form reached next) ≡ by_settings (settings_at t at reached) then
   unfolding settings_form settings_at
   settings-read = number_read t at 1 0 (up_to reached 3) south ∙ go (number_at t at 1 0 (up_to reached 3))
     where
-      go : (r : NumberRead) → by_number r (λ n. rest (at + 1) (south n))
+      go : (r : Result ℕ ℕ) → by_number r (λ n. rest (at + 1) (south n))
           ≡ by_settings
           (with_number r
           (λ n.
           with_number (number_at t (at + 1) 1 0 (up_to reached 3))
-          (λ s. with_number (number_at t (at + 2) 1 0 (up_to reached 15)) (λ k. with_number (number_at t (at + 3) 5 0 (up_to reached 10000000000)) (λ e. Is (settings n s k e))))))
+          (λ s. with_number (number_at t (at + 2) 1 0 (up_to reached 15)) (λ k. with_number (number_at t (at + 3) 5 0 (up_to reached 10000000000)) (λ e. Ok (settings n s k e))))))
           then
-      go (number-as.Is n) = read-south n
-      go (number-as.Wrong p) = refl
+      go (Ok n) = read-south n
+      go (Err p) = refl
 
 -- ---- the heading
 
@@ -95,10 +93,10 @@ heading-read t = sym (behind-none (read_as history_form t)) ∙ number_read t 0 
     after : Form History
     after = number 2 0 65535 (λ n. places_form 32 0 n (λ xs. done (history n xs)))
 
-    go : (r : NumberRead) → by_number r (λ m. behind 5 (read_as after (drop 5 t)))
+    go : (r : Result ℕ ℕ) → by_number r (λ m. behind 5 (read_as after (drop 5 t)))
         ≡ by_number (then_number r (number_at t 5 2 0 65535)) (λ n. behind 7 (read_as (places_form 32 0 n (λ xs. done (history n xs))) (drop 7 t)))
-    go (number-as.Is m) = number_read t 5 2 0 65535 (λ n. places_form 32 0 n (λ xs. done (history n xs)))
-    go (number-as.Wrong p) = refl
+    go (Ok m) = number_read t 5 2 0 65535 (λ n. places_form 32 0 n (λ xs. done (history n xs)))
+    go (Err p) = refl
 
 -- ---- the loop
 
@@ -108,11 +106,11 @@ pub record Reading (t : List ℕ) (newest q : ℕ) (kept : List Settings) : Type
   pub long : length kept ≡ 32
   pub whole : read_as history_form t ≡ behind (7 + 8 * q) (read_as (places_form (32 - q) q newest (λ xs. done (history newest (take q kept ++ xs)))) (drop (7 + 8 * q) t))
 
-pub not-read : (t : List ℕ) {p : ℕ} → newest_in t ≡ number-as.Wrong p → refused_at p ≡ decoded_of t
+pub not-read : (t : List ℕ) {p : ℕ} → newest_in t ≡ Err p → refused_at p ≡ decoded_of t
 unfolding decoded_of
 not-read t {p} e = let z : read_as history_form t ≡ wrong p = heading-read t ∙ rw e refl in sym (ap answer_to z)
 
-pub begun : (t : List ℕ) (n : ℕ) (kept : List Settings) → newest_in t ≡ number-as.Is n → length kept ≡ 32 → Reading t n 0 kept
+pub begun : (t : List ℕ) (n : ℕ) (kept : List Settings) → newest_in t ≡ Ok n → length kept ≡ 32 → Reading t n 0 kept
 begun t n kept e l = record { within = omega arith; long = l; whole = heading-read t ∙ rw e refl }
 
 module _ {t : List ℕ} {newest q : ℕ} {kept : List Settings} (r : Reading t newest q kept) where
@@ -128,11 +126,11 @@ module _ {t : List ℕ} {newest q : ℕ} {kept : List Settings} (r : Reading t n
         (let z : 32 - q ≡ suc (32 - (q + 1)) = omega arith in z)
         ∙ settings-read t (leb q newest) goes_on (7 + 8 * q)
 
-    pub place-wrong : {p : ℕ} → settings_at t (7 + 8 * q) (leb q newest) ≡ Wrong p → refused_at p ≡ decoded_of t
+    pub place-wrong : {p : ℕ} → settings_at t (7 + 8 * q) (leb q newest) ≡ Err p → refused_at p ≡ decoded_of t
     unfolding decoded_of
     place-wrong {p} e = let z : read_as history_form t ≡ wrong p = one_more ∙ rw e refl in sym (ap answer_to z)
 
-    pub place-right : (x : Settings) → settings_at t (7 + 8 * q) (leb q newest) ≡ Is x → Reading t newest (q + 1) (set kept q x)
+    pub place-right : (x : Settings) → settings_at t (7 + 8 * q) (leb q newest) ≡ Ok x → Reading t newest (q + 1) (set kept q x)
     place-right x e =
         record {
           within = omega arith;

@@ -1,15 +1,11 @@
 -- Decoding as it is computed: the numbers of an encoding, each between its limits, up to the first byte that is wrong. Laws/Encoding shows that exactly
 -- the encodings are decoded, to what they encode, and that the place is the longest leading part that some encoding begins with. Assumes nothing.
-use Rattle.std.specs.Prelude.{Bool, cond, List, [], ◌∷◌, ℕ, zero, suc, ◌+◌, leb}
-use Rattle.fields.specs.declared.NumberRead.{NumberRead}
-use Rattle.fields.specs.declared.NumberRead.TheVariants as number-as
+use Rattle.std.specs.Prelude.{Bool, cond, List, [], ◌∷◌, ℕ, zero, suc, ◌+◌, leb, Err, Ok, Result}
 use Rattle.fields.specs.Form.{Form, done, number}
 use Rattle.fields.specs.Read.{Read, said, wrong, read_as}
 use Rattle.fields.specs.Number.{number_at}
 use Rattle.history.specs.declared.Settings.{Settings}
 use Rattle.history.specs.declared.History.{History}
-use Rattle.encoding.specs.declared.SettingsRead.{SettingsRead}
-use Rattle.encoding.specs.declared.SettingsRead.TheVariants.{Is, Wrong}
 use Rattle.encoding.specs.declared.Decoded.{Decoded}
 use Rattle.history.specs.History.{empty}
 
@@ -49,26 +45,26 @@ decoded_of t = answer_to (read_as history_form t)
 -- ---- at a place of the bytes, as the code answers it
 
 -- what follows a number
-abbrev pub with_number : NumberRead → (ℕ → SettingsRead) → SettingsRead
-with_number (number-as.Is v) next = next v
-with_number (number-as.Wrong place) next = Wrong place
+abbrev pub with_number : Result ℕ ℕ → (ℕ → Result Settings ℕ) → Result Settings ℕ
+with_number (Ok v) next = next v
+with_number (Err place) next = Err place
 
-unfoldable pub settings_at : (t : List ℕ) (at : ℕ) (reached : Bool) → SettingsRead
+unfoldable pub settings_at : (t : List ℕ) (at : ℕ) (reached : Bool) → Result Settings ℕ
 settings_at t at reached =
     with_number (number_at t at 1 0 (up_to reached 3))
     (λ n.
     with_number (number_at t (at + 1) 1 0 (up_to reached 3))
-    (λ s. with_number (number_at t (at + 2) 1 0 (up_to reached 15)) (λ k. with_number (number_at t (at + 3) 5 0 (up_to reached 10000000000)) (λ e. Is (settings n s k e)))))
+    (λ s. with_number (number_at t (at + 2) 1 0 (up_to reached 15)) (λ k. with_number (number_at t (at + 3) 5 0 (up_to reached 10000000000)) (λ e. Ok (settings n s k e)))))
 
 -- what follows settings
-abbrev pub by_settings : {A : Type 0} → SettingsRead → (Settings → Read A) → Read A
-by_settings (Is x) next = next x
-by_settings (Wrong place) next = wrong place
+abbrev pub by_settings : {A : Type 0} → Result Settings ℕ → (Settings → Read A) → Read A
+by_settings (Ok x) next = next x
+by_settings (Err place) next = wrong place
 
 -- the newest revision behind the mark and the version
-abbrev pub then_number : NumberRead → NumberRead → NumberRead
-then_number (number-as.Is v) next = next
-then_number (number-as.Wrong place) next = number-as.Wrong place
+abbrev pub then_number : Result ℕ ℕ → Result ℕ ℕ → Result ℕ ℕ
+then_number (Ok v) next = next
+then_number (Err place) next = Err place
 
-unfoldable pub newest_in : List ℕ → NumberRead
+unfoldable pub newest_in : List ℕ → Result ℕ ℕ
 newest_in t = then_number (number_at t 0 5 319024201729 319024201729) (number_at t 5 2 0 65535)

@@ -7,7 +7,6 @@ ghost use Rattle.fields.specs.Number.{number_at};
 ghost use Rattle.encoding.specs.Encoding.{settings_bytes, encoding_of};
 ghost use Rattle.encoding.specs.Decoding.{up_to, settings_at, newest_in, refused_at, decoded_of};
 
-use fields::NumberRead;
 use history::{History, Settings};
 
 // How long an encoding is.
@@ -15,13 +14,6 @@ pub const LENGTH: usize = 263;
 
 // The mark `JGS` and the version 1 in two bytes, as one number.
 const MARK: u64 = 0x4A_47_53_00_01;
-
-// The settings at a place, or the first byte that is wrong.
-#[derive(Clone, Copy)]
-enum SettingsRead {
-    Is(Settings),
-    Wrong(usize),
-}
 
 // The history; or 9, with the place of the first byte that is wrong. (An enum cannot hold its array.)
 #[derive(Clone, Copy)]
@@ -32,7 +24,13 @@ pub struct Decoded {
 }
 
 // A number of a place, up to the greatest that it may be: only 0 where no revision has reached the place.
-fn number_up_to(bytes: &[u8], at: usize, width: usize, reached: bool, most: u64) -> NumberRead
+fn number_up_to(
+    bytes: &[u8],
+    at: usize,
+    width: usize,
+    reached: bool,
+    most: u64,
+) -> Result<u64, usize>
     requires { (width ≤ 5) × (at + width < 2 ^ 64) }
     ensures { result ≡ number_at bytes.now at width 0 (up_to reached most) }
 {
@@ -43,40 +41,40 @@ fn number_up_to(bytes: &[u8], at: usize, width: usize, reached: bool, most: u64)
 }
 
 // The settings of 8 bytes from `at` on.
-fn settings_at(bytes: &[u8], at: usize, reached: bool) -> SettingsRead
+fn settings_at(bytes: &[u8], at: usize, reached: bool) -> Result<Settings, usize>
     requires { at + 8 < 2 ^ 64 }
     ensures { result ≡ settings_at bytes.now at reached }
 {
     let n = match number_up_to(bytes, at, 1, reached, 3) {
-        NumberRead::Is(n) => n,
-        NumberRead::Wrong(place) => return SettingsRead::Wrong(place),
+        Ok(n) => n,
+        Err(place) => return Err(place),
     };
     let s = match number_up_to(bytes, at + 1, 1, reached, 3) {
-        NumberRead::Is(s) => s,
-        NumberRead::Wrong(place) => return SettingsRead::Wrong(place),
+        Ok(s) => s,
+        Err(place) => return Err(place),
     };
     let resolution = match number_up_to(bytes, at + 2, 1, reached, 15) {
-        NumberRead::Is(resolution) => resolution,
-        NumberRead::Wrong(place) => return SettingsRead::Wrong(place),
+        Ok(resolution) => resolution,
+        Err(place) => return Err(place),
     };
     match number_up_to(bytes, at + 3, 5, reached, 10_000_000_000) {
-        NumberRead::Is(eccentricity) => SettingsRead::Is(Settings {
+        Ok(eccentricity) => Ok(Settings {
             n,
             s,
             resolution,
             eccentricity,
         }),
-        NumberRead::Wrong(place) => SettingsRead::Wrong(place),
+        Err(place) => Err(place),
     }
 }
 
 // The newest revision, behind the mark and the version.
-fn newest_in(bytes: &[u8]) -> NumberRead
+fn newest_in(bytes: &[u8]) -> Result<u64, usize>
     ensures { result ≡ newest_in bytes.now }
 {
     match fields::number_at(bytes, 0, 5, MARK, MARK) {
-        NumberRead::Is(_) => fields::number_at(bytes, 5, 2, 0, 65_535),
-        NumberRead::Wrong(place) => NumberRead::Wrong(place),
+        Ok(_) => fields::number_at(bytes, 5, 2, 0, 65_535),
+        Err(place) => Err(place),
     }
 }
 
@@ -96,17 +94,15 @@ pub fn decode(bytes: &[u8]) -> Decoded
     ensures { result ≡ decoded_of bytes.now }
 {
     let newest = match newest_in(bytes) {
-        NumberRead::Is(newest) => newest,
-        NumberRead::Wrong(place) => return refused_at(place),
+        Ok(newest) => newest,
+        Err(place) => return refused_at(place),
     };
     let mut kept = history::no_history().kept;
-    let mut place: usize = 0;
-    while place < 32 {
+    for place in 0..32 {
         match settings_at(bytes, 7 + 8 * place, place as u64 <= newest) {
-            SettingsRead::Is(settings) => kept[place] = settings,
-            SettingsRead::Wrong(at) => return refused_at(at),
+            Ok(settings) => kept[place] = settings,
+            Err(at) => return refused_at(at),
         }
-        place = place + 1;
     }
     if bytes.len() > LENGTH {
         return refused_at(LENGTH);
@@ -137,9 +133,7 @@ pub fn encode(history: History, bytes: &mut [u8])
     let kept = history.kept;
     fields::put_number(MARK, 5, bytes, 0);
     fields::put_number(history.newest, 2, bytes, 5);
-    let mut place: usize = 0;
-    while place < 32 {
+    for place in 0..32 {
         put_settings(kept[place], bytes, 7 + 8 * place);
-        place = place + 1;
     }
 }

@@ -1,7 +1,5 @@
 -- The answers of the batches (02, W-202), as numbers, and the refusal that they give. Assumes nothing.
-use Rattle.std.specs.Prelude.{List, [], ◌∷◌, ℕ, ◌+◌, ◌*◌, ◌<◌, length, get_or}
-use Rattle.batch.specs.declared.Batched.{Batched}
-use Rattle.batch.specs.declared.Batched.TheVariants as batched-as
+use Rattle.std.specs.Prelude.{List, [], ◌∷◌, ℕ, ◌+◌, ◌*◌, ◌<◌, length, get_or, Err, Ok, Result}
 use Rattle.batch.specs.Batch.{cells_refusal, cells_in, codes_refusal, batched}
 use Rattle.entries.specs.declared.CodeAnswer.{CodeAnswer}
 use Rattle.entries.specs.declared.CellAnswer.{CellAnswer}
@@ -10,9 +8,9 @@ use Rattle.entries.specs.Entries.{code_of_cell}
 use Rattle.entries.specs.Order.{Chain}
 
 -- how many cells were answered, or the refusal, as numbers
-abbrev pub batch_numbers : Batched → CountAnswer
-batch_numbers (batched-as.Count count) = record { refusal = 0; count = count }
-batch_numbers (batched-as.Refused refusal) = record { refusal = refusal; count = 0 }
+abbrev pub batch_numbers : Result ℕ ℕ → CountAnswer
+batch_numbers (Ok count) = record { refusal = 0; count = count }
+batch_numbers (Err refusal) = record { refusal = refusal; count = 0 }
 
 unfoldable pub cells_answer : (codes : List ℕ) (room : ℕ) → CountAnswer
 cells_answer codes room = batch_numbers (batched (cells_refusal codes room) (length codes))

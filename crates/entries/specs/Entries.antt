@@ -1,18 +1,13 @@
 -- What each public entry answers, for every input: the first refusal that applies, in 01's order, or the answer; zeros beside a refusal.
 -- Assumes nothing.
-use Rattle.std.specs.Prelude.{List, [], ◌∷◌, ℕ, ℤ, pos, ltb, length}
+use Rattle.std.specs.Prelude.{List, [], ◌∷◌, ℕ, ℤ, pos, ltb, length, Err, Ok, Result}
 use Rattle.logic.specs.Refusal.{refuse, ◌otherwise◌, given}
 use Rattle.cell.specs.declared.Cell.{Cell}
 use Rattle.cell.specs.declared.Arrangement.{Arrangement}
-use Rattle.cell.specs.declared.Found.{Found}
-use Rattle.cell.specs.declared.Found.TheVariants as found_as
 use Rattle.cell.specs.Cell.{cell_refusal, arrangement_refusal, found}
 use Rattle.cell.specs.Hierarchy.{parent_of, parent_refusal, child_of, child_refusal}
 use Rattle.cell.specs.Neighbour.{neighbour_of}
-use Rattle.code.specs.declared.Coded.{Coded}
 use Rattle.code.specs.Code.{code_of, cell_of, arrangement_of, code_refusal, size_of, coded, refusal_in, code_in}
-use Rattle.name.specs.declared.Named.{Named}
-use Rattle.name.specs.declared.Named.TheVariants as named-as
 use Rattle.name.specs.Name.{name_refusal, name_code, name_of, code_name_refusal, named}
 use Rattle.plane.specs.declared.Square.{Square}
 use Rattle.plane.specs.declared.Point.{Point}
@@ -25,8 +20,6 @@ use Rattle.geodetic.specs.GeodeticFix.{geodetic_refusal, geodetic_cell}
 use Rattle.nucleus.specs.declared.Fix.{Fix}
 use Rattle.nucleus.specs.Nucleus.{ground_nucleus}
 use Rattle.shape.specs.Shape.{shape_of, shape_number}
-use Rattle.corner.specs.declared.Cornered.{Cornered}
-use Rattle.corner.specs.declared.Cornered.TheVariants as cornered-as
 use Rattle.corner.specs.Corner.{corner_number}
 use Rattle.corner.specs.List.{codes_at, corners_refusal, cornered}
 use Rattle.entries.specs.declared.CodeAnswer.{CodeAnswer}
@@ -54,7 +47,7 @@ or_zero refusal number = given refusal number 0
 -- ---- codes
 
 -- a code, or its refusal, as numbers
-abbrev pub coded_answer : Coded → CodeAnswer
+abbrev pub coded_answer : Result ℕ ℕ → CodeAnswer
 coded_answer coded = record { refusal = refusal_in coded; code = code_in coded }
 
 unfoldable pub code_answer : (refusal code : ℕ) → CodeAnswer
@@ -96,19 +89,19 @@ geodetic_code n s resolution longitude sine eccentricity =
 -- ---- other answers
 
 -- an arrangement and a cell, or the refusal, as numbers
-abbrev pub cell_numbers : Arrangement → Found → CellAnswer
-cell_numbers a (found_as.At c) =
+abbrev pub cell_numbers : Arrangement → Result Cell ℕ → CellAnswer
+cell_numbers a (Ok c) =
     record { refusal = 0; n = a.north; s = a.south; face = c.face; resolution = c.resolution; row = c.row; column = c.column }
-cell_numbers a (found_as.Refused refusal) =
+cell_numbers a (Err refusal) =
     record { refusal = refusal; n = 0; s = 0; face = 0; resolution = 0; row = 0; column = 0 }
 
 unfoldable pub code_cell : ℕ → CellAnswer
 code_cell code = cell_numbers (arrangement_of code) (found (code_refusal code) (cell_of code))
 
 -- an arrangement and the length of a name, or the refusal, as numbers
-abbrev pub name_numbers : Arrangement → Named → NameAnswer
-name_numbers a (named-as.Length length) = record { refusal = 0; n = a.north; s = a.south; length = length }
-name_numbers a (named-as.Refused refusal) = record { refusal = refusal; n = 0; s = 0; length = 0 }
+abbrev pub name_numbers : Arrangement → Result ℕ ℕ → NameAnswer
+name_numbers a (Ok length) = record { refusal = 0; n = a.north; s = a.south; length = length }
+name_numbers a (Err refusal) = record { refusal = refusal; n = 0; s = 0; length = 0 }
 
 unfoldable pub written_name : (code room : ℕ) → NameAnswer
 written_name code room = name_numbers (arrangement_of code) (named (code_name_refusal code room) (length (name_of (cell_of code))))
@@ -124,9 +117,9 @@ unfoldable pub corner_count : ℕ → CountAnswer
 corner_count code = record { refusal = code_refusal code; count = or_zero (code_refusal code) (corner_number (cell_of code)) }
 
 -- how many codes were listed, or the refusal, as numbers
-abbrev pub corner_numbers : Cornered → CountAnswer
-corner_numbers (cornered-as.Count count) = record { refusal = 0; count = count }
-corner_numbers (cornered-as.Refused refusal) = record { refusal = refusal; count = 0 }
+abbrev pub corner_numbers : Result ℕ ℕ → CountAnswer
+corner_numbers (Ok count) = record { refusal = 0; count = count }
+corner_numbers (Err refusal) = record { refusal = refusal; count = 0 }
 
 unfoldable pub corner_cells : (code room : ℕ) → CountAnswer
 corner_cells code room = corner_numbers (cornered (corners_refusal code room) (length (codes_at code)))

@@ -1,13 +1,11 @@
 -- The answers of the plotter's entries (02, W-214) as numbers, and 01's table of refusals for them. Assumes nothing.
-use Rattle.std.specs.Prelude.{◌≡◌, ◌⊎◌, false, List, [], ◌∷◌, ℕ, ◌<◌, ℤ, pos, Float}
+use Rattle.std.specs.Prelude.{◌≡◌, ◌⊎◌, false, List, [], ◌∷◌, ℕ, ◌<◌, ℤ, pos, Float, Err, Ok, Result}
 use Rattle.std.specs.Float.{fin, nan}
 use Rattle.code.proofs.Laws.Exact.{NoCell}
 use Rattle.metres.specs.Metres.{IsSide}
 use Rattle.plotter.specs.declared.Frame.{Frame}
 use Rattle.plotter.specs.declared.Mark.{Mark}
 use Rattle.plotter.specs.declared.Mark.TheVariants as mark-as
-use Rattle.plotter.specs.declared.Framed.{Framed}
-use Rattle.plotter.specs.declared.Framed.TheVariants as framed-as
 use Rattle.plotter.specs.Plotter.{mark_of_point, mark_of_code, first_frame, grown_frame}
 use Rattle.entries.specs.declared.MarkAnswer.{MarkAnswer}
 use Rattle.entries.specs.declared.FrameAnswer.{FrameAnswer}
@@ -26,9 +24,9 @@ mark_numbers (mark-as.Point x y) = record { refusal = 0; kind = 1; numbers = x �
 mark_numbers (mark-as.Box left bottom right top) = record { refusal = 0; kind = 2; numbers = left ∷ bottom ∷ right ∷ top ∷ [] }
 mark_numbers (mark-as.Nothing refusal) = record { refusal = refusal; kind = 0; numbers = zero_metres ∷ zero_metres ∷ zero_metres ∷ zero_metres ∷ [] }
 
-abbrev pub frame_numbers : Framed → FrameAnswer
-frame_numbers (framed-as.Edges f) = record { refusal = 0; left = f.left; bottom = f.bottom; right = f.right; top = f.top }
-frame_numbers (framed-as.Refused refusal) = record { refusal = refusal; left = zero_metres; bottom = zero_metres; right = zero_metres; top = zero_metres }
+abbrev pub frame_numbers : Result Frame ℕ → FrameAnswer
+frame_numbers (Ok f) = record { refusal = 0; left = f.left; bottom = f.bottom; right = f.right; top = f.top }
+frame_numbers (Err refusal) = record { refusal = refusal; left = zero_metres; bottom = zero_metres; right = zero_metres; top = zero_metres }
 
 -- ---- what the entries answer
 

@@ -1,12 +1,11 @@
 -- The answers of the entries that check and write a neighbour sheet (02, W-211), as numbers: for each case of the library's answer the refusal number
 -- and the values, zeros beside a refusal. Assumes nothing.
-use Rattle.std.specs.Prelude.{◌≡◌, List, [], ◌∷◌, ℕ, ◌<◌, length}
+use Rattle.std.specs.Prelude.{◌≡◌, List, [], ◌∷◌, ℕ, ◌<◌, length, Err, Ok, Result}
+use Rattle.reading.specs.declared.Refused.{Refused}
 use Rattle.reading.specs.Text.{Accepted}
 use Rattle.reader.specs.Check.{WrongVersion}
 use Rattle.sheet.specs.declared.Judged.{Judged}
 use Rattle.sheet.specs.declared.Judged.TheVariants as judged-as
-use Rattle.sheet.specs.declared.Written.{Written}
-use Rattle.sheet.specs.declared.Written.TheVariants as written_as
 use Rattle.sheet.specs.Sheet.{sheet_of}
 use Rattle.entries.specs.declared.SheetAnswer.{SheetAnswer}
 use Rattle.entries.specs.declared.SheetLengthAnswer.{SheetLengthAnswer}
@@ -19,9 +18,9 @@ sheet_numbers (judged-as.Wrong k) = record { refusal = 0; place = 0; right = 0; 
 sheet_numbers (judged-as.Refused refusal place) = record { refusal = refusal; place = place; right = 0; «record» = 0 }
 
 -- the length of the sheet in bytes
-abbrev pub sheet_length_numbers : Written → SheetLengthAnswer
-sheet_length_numbers (written_as.Length length) = record { refusal = 0; place = 0; length = length }
-sheet_length_numbers (written_as.Refused refusal place) = record { refusal = refusal; place = place; length = 0 }
+abbrev pub sheet_length_numbers : Result ℕ Refused → SheetLengthAnswer
+sheet_length_numbers (Ok length) = record { refusal = 0; place = 0; length = length }
+sheet_length_numbers (Err e) = record { refusal = e.refusal; place = e.place; length = 0 }
 
 -- checking has the text's 13, 10, 9 only. In writing 8: "lent buffer shorter than the answer"
 abbrev pub sheet_write_tests : (t : List ℕ) (room : ℕ) → Chain

@@ -1,12 +1,10 @@
 -- The answers of the summary's entries (02, W-207) as numbers, and the table of refusals for them. Assumes nothing.
-use Rattle.std.specs.Prelude.{◌≡◌, ◌⊎◌, cond, List, [], ◌∷◌, ℕ, ◌<◌}
+use Rattle.std.specs.Prelude.{◌≡◌, ◌⊎◌, cond, List, [], ◌∷◌, ℕ, ◌<◌, Err, Ok, Result, Bool}
+use Rattle.reading.specs.declared.Refused.{Refused}
+use Rattle.cell.specs.declared.Arrangement.{Arrangement}
 use Rattle.code.specs.Code.{cell_of, arrangement_of}
 use Rattle.code.proofs.Laws.Exact.{NoCell}
 use Rattle.reader.specs.Check.{text_refusal}
-use Rattle.summary.specs.declared.Summarized.{Summarized}
-use Rattle.summary.specs.declared.Summarized.TheVariants as summarized-as
-use Rattle.summary.specs.declared.Questioned.{Questioned}
-use Rattle.summary.specs.declared.Questioned.TheVariants as questioned-as
 use Rattle.summary.specs.Summary.{zeros, summarized, kept_counters, question_refusal, questioned}
 use Rattle.entries.specs.declared.SummaryAnswer.{SummaryAnswer}
 use Rattle.entries.specs.declared.SummaryAskAnswer.{SummaryAskAnswer}
@@ -14,14 +12,14 @@ use Rattle.entries.specs.Entries.{arrangement}
 use Rattle.entries.specs.Order.{Chain}
 
 -- the heading's n and s and the counters, or the refusal and the place
-abbrev pub summary_numbers : Summarized → (counters : List ℕ) → SummaryAnswer
-summary_numbers (summarized-as.Kept n s) counters = record { refusal = 0; place = 0; n = n; s = s; counters = counters }
-summary_numbers (summarized-as.Refused refusal place) counters = record { refusal = refusal; place = place; n = 0; s = 0; counters = counters }
+abbrev pub summary_numbers : Result Arrangement Refused → (counters : List ℕ) → SummaryAnswer
+summary_numbers (Ok x) counters = record { refusal = 0; place = 0; n = x.north; s = x.south; counters = counters }
+summary_numbers (Err e) counters = record { refusal = e.refusal; place = e.place; n = 0; s = 0; counters = counters }
 
 -- 1 for yes, 0 for no
-abbrev pub question_numbers : Questioned → SummaryAskAnswer
-question_numbers (questioned-as.Answer covered) = record { refusal = 0; covered = cond covered 1 0 }
-question_numbers (questioned-as.Refused refusal) = record { refusal = refusal; covered = 0 }
+abbrev pub question_numbers : Result Bool ℕ → SummaryAskAnswer
+question_numbers (Ok covered) = record { refusal = 0; covered = cond covered 1 0 }
+question_numbers (Err refusal) = record { refusal = refusal; covered = 0 }
 
 -- ---- what the entries answer
 

@@ -2,6 +2,7 @@ pub mod Number
 pub mod Places
 pub mod Read
 -- A number read byte by byte: what stands at each turn of the loop, and what each test makes of the answer. Assumes nothing.
+use Rattle.std.specs.Prelude.{Err, Ok, Result}
 use mathlib.Core.Path.{◌≡◌, refl, sym, ap, ap₂, ◌∙◌}
 use mathlib.Core.Bool.{cond}
 use mathlib.Core.List.{List, [], ◌∷◌, ◌++◌}
@@ -16,8 +17,6 @@ use borrow.Author.Tests.{le-leb, lt-leb, lt-ltb, le-ltb}
 use Rattle.logic.specs.Laws.Stores.{sets-append}
 use Rattle.ternary.specs.Digits.{value, digits}
 use Rattle.ternary.proofs.Laws.Digits.{value-snoc, length_digits}
-use Rattle.fields.specs.declared.NumberRead.{NumberRead}
-use Rattle.fields.specs.declared.NumberRead.TheVariants.{Is, Wrong}
 use Rattle.fields.specs.Read.{reach}
 use Rattle.fields.specs.Number.{number_at}
 
@@ -50,19 +49,19 @@ module _ {s : List ℕ} {at w least most place unit from : ℕ} (g : Gone s at w
   few h = let p : 256 ^ w ≤ 256 ^ 5 = pow-le-pow_right (zero-lt-suc 255) h in le_trans g.small p
 
   -- nothing further is right
-  stop : reach (at + w - place) least most from (drop place s) ≡ 0 → place < at + w → Wrong place ≡ number_at s at w least most
+  stop : reach (at + w - place) least most from (drop place s) ≡ 0 → place < at + w → Err place ≡ number_at s at w least most
   unfolding number_at
   stop e h =
       let l = g.low in
       let r : reach w least most 0 (drop at s) ≡ place - at = g.tied ∙ ap (λ (i : ℕ). place - at + i) e ∙ omega arith in
       let p : at + (place - at) ≡ place = omega arith in
       sym
-      (ap (λ (i : ℕ). cond (ltb i w) (Wrong (at + i)) (Is (value 256 (take w (drop at s))))) r
-      ∙ ap (λ b. cond b (Wrong (at + (place - at))) (Is (value 256 (take w (drop at s))))) (lt-ltb (place - at) w (omega arith))
-      ∙ ap Wrong p)
+      (ap (λ (i : ℕ). cond (ltb i w) (Err (at + i)) (Ok (value 256 (take w (drop at s))))) r
+      ∙ ap (λ b. cond b (Err (at + (place - at))) (Ok (value 256 (take w (drop at s))))) (lt-ltb (place - at) w (omega arith))
+      ∙ ap Err p)
 
   -- all bytes are right
-  pub all_right : place ≡ at + w → Is from ≡ number_at s at w least most
+  pub all_right : place ≡ at + w → Ok from ≡ number_at s at w least most
   unfolding number_at reach
   all_right e =
       let n : at + w - place ≡ 0 = omega arith in
@@ -72,10 +71,10 @@ module _ {s : List ℕ} {at w least most place unit from : ℕ} (g : Gone s at w
       let u : unit ≡ 1 = g.unit-is ∙ ap (λ (j : ℕ). 256 ^ j) n in
       let v : from ≡ value 256 (take w (drop at s)) =
       g.value-is ∙ ap₂ (λ (j k : ℕ). value 256 (take j (drop at s)) * k) i u ∙ omega arith in
-      ap Is v
+      ap Ok v
       ∙ sym
-      (ap (λ (j : ℕ). cond (ltb j w) (Wrong (at + j)) (Is (value 256 (take w (drop at s))))) r
-      ∙ ap (λ b. cond b (Wrong (at + w)) (Is (value 256 (take w (drop at s))))) (le-ltb w w (omega arith)))
+      (ap (λ (j : ℕ). cond (ltb j w) (Err (at + j)) (Ok (value 256 (take w (drop at s))))) r
+      ∙ ap (λ b. cond b (Err (at + w)) (Ok (value 256 (take w (drop at s))))) (le-ltb w w (omega arith)))
 
   module _ (h : place < at + w) where
     abbrev m : ℕ
@@ -85,7 +84,7 @@ module _ {s : List ℕ} {at w least most place unit from : ℕ} (g : Gone s at w
     more = omega arith
 
     -- the bytes end
-    pub no_byte : length s ≤ place → Wrong place ≡ number_at s at w least most
+    pub no_byte : length s ≤ place → Err place ≡ number_at s at w least most
     unfolding reach
     no_byte l = stop (ap₂ (λ (i : ℕ) (t : List ℕ). reach i least most from t) more (drop_of_length-le s l)) h
 
@@ -112,10 +111,10 @@ module _ {s : List ℕ} {at w least most place unit from : ℕ} (g : Gone s at w
           (λ (u : ℕ). cond (leb (from + x * u) most) (cond (ltb least (from + x * u + u)) (suc (reach m least most (from + x * u) (drop (place + 1) s))) 0) 0)
           (sym unit-next)
 
-      pub too-high : most < further → Wrong place ≡ number_at s at w least most
+      pub too-high : most < further → Err place ≡ number_at s at w least most
       too-high p = stop (test ∙ rw (lt-leb further most p)) h
 
-      pub too-low : further ≤ most → further + unit / 256 ≤ least → Wrong place ≡ number_at s at w least most
+      pub too-low : further ≤ most → further + unit / 256 ≤ least → Err place ≡ number_at s at w least most
       too-low p q = stop (test ∙ rw (le-leb further most p, le-ltb least (further + unit / 256) q)) h
 
       -- the byte's part of the number is no longer than the unit

@@ -6,13 +6,6 @@ ghost use Rattle.std.proofs.lemmas.List.Edits.{sets};
 ghost use Rattle.ternary.specs.Digits.{digits};
 ghost use Rattle.fields.specs.Number.{number_at};
 
-// A number, or the place of the first byte that is wrong: one that no number between the limits goes on with, or the end of the bytes.
-#[derive(Clone, Copy)]
-pub enum NumberRead {
-    Is(u64),
-    Wrong(usize),
-}
-
 fn wide(x: u8) -> u64
     ensures { result ≡ x }
 {
@@ -35,29 +28,27 @@ fn power(width: usize) -> u64
 }
 
 // The number of so many bytes from `at` on. With the bytes gone over it may be `from` or one of the next, as many as the unit says.
-pub fn number_at(bytes: &[u8], at: usize, width: usize, least: u64, most: u64) -> NumberRead
+pub fn number_at(bytes: &[u8], at: usize, width: usize, least: u64, most: u64) -> Result<u64, usize>
     requires { (width ≤ 5) × (at + width < 2 ^ 64) }
     ensures { result ≡ number_at bytes.now at width least most }
 {
     let stop = at + width;
-    let mut place = at;
     let mut unit = power(width);
     let mut from: u64 = 0;
-    while place < stop {
+    for place in at..stop {
         if place >= bytes.len() {
-            return NumberRead::Wrong(place);
+            return Err(place);
         }
         unit = unit / 256;
         from = from + wide(bytes[place]) * unit;
         if from > most {
-            return NumberRead::Wrong(place);
+            return Err(place);
         }
         if from + unit <= least {
-            return NumberRead::Wrong(place);
+            return Err(place);
         }
-        place = place + 1;
     }
-    NumberRead::Is(from)
+    Ok(from)
 }
 
 // Puts the last so many bytes of a number from `at` on.
@@ -66,9 +57,7 @@ pub fn put_number(x: u64, width: usize, bytes: &mut [u8], at: usize)
     ensures { bytes.new ≡ sets bytes.old at (digits 256 width x) }
 {
     let mut rest = x;
-    let mut left = width;
-    while left > 0 {
-        left = left - 1;
+    for left in (0..width).rev() {
         bytes[at + left] = (rest % 256) as u8;
         rest = rest / 256;
     }

@@ -1,4 +1,5 @@
 -- The text of no cell. Assumes nothing.
+use Rattle.std.specs.Prelude.{Err, Ok, Result}
 use mathlib.Core.Path.{◌≡◌, refl, sym, ap, ap₂, ◌∙◌, subst}
 use mathlib.Core.Bool.{true, false}
 use mathlib.Core.List.{List, [], ◌∷◌, ◌++◌}
@@ -20,8 +21,6 @@ use Rattle.reading.specs.TextReading.{is_text, profile_of, body_start}
 use Rattle.reading.specs.Written.{built, side, nodes_for, written_text, fitting, keeps}
 use Rattle.reading.proofs.Laws.TextReading.{read-text, read-profile}
 use Rattle.reading.proofs.Laws.Written.{written-reads}
-use Rattle.writing.specs.declared.Written.{Written}
-use Rattle.writing.specs.declared.Written.TheVariants as written_as
 use Rattle.writing.specs.Write.{all_codes, all_of, ordered, codes_refusal, is_version, text_of, fit_refusal, write_refusal, text_in, written}
 use Rattle.adding.specs.InMind.{InMind}
 use Rattle.adding.proofs.Laws.InMind.{near-faces}
@@ -51,15 +50,15 @@ module _ (a : Arrangement) (v : IsArrangement a) where
   reads : ReadsAs Full a.north a.south none (nodes_for [])
   reads = written-reads [] tt Full a.north a.south tt kept-none v.northern v.southern
 
-  module _ (before : List ℕ) (h : 65536 ≤ length before) {w : Written} (e : w ≡ written (write_refusal 1 15 a [] (length before)) (length (text_of Full a []))) where
-    put : w ≡ written_as.Length (length none)
+  module _ (before : List ℕ) (h : 65536 ≤ length before) {w : Result ℕ ℕ} (e : w ≡ written (write_refusal 1 15 a [] (length before)) (length (text_of Full a []))) where
+    put : w ≡ Ok (length none)
     unfolding written text_of
     put = e ∙ ap (λ (x : ℕ). written x (length none)) (passed (length before) (omega arith))
 
-    pub begin-not : {r : ℕ} → w ≡ written_as.Refused r → ⊥
+    pub begin-not : {r : ℕ} → w ≡ Err r → ⊥
     begin-not f = let p = put in let z : ◌≡◌ {A = ℕ} 0 1 = cc in omega arith
 
-    module _ {after : List ℕ} (f : after ≡ given (write_refusal 1 15 a [] (length before)) (text_in Full a [] before) before) {n : ℕ} (g : w ≡ written_as.Length n) where
+    module _ {after : List ℕ} (f : after ≡ given (write_refusal 1 15 a [] (length before)) (text_in Full a [] before) before) {n : ℕ} (g : w ≡ Ok n) where
       front : after ≡ none ++ drop (length none) before
       unfolding given text_in text_of
       front = f ∙ ap (λ (x : ℕ). given x (text_in Full a [] before) before) (passed (length before) (omega arith))

@@ -1,4 +1,5 @@
 -- The ways of a code into the text: the cell of the last fix is there already; else adding's two answers. Assumes nothing.
+use Rattle.std.specs.Prelude.{Err, Ok, Result}
 use mathlib.Core.Path.{◌≡◌, refl, sym, ap, ap₂, ◌∙◌, subst}
 use mathlib.Core.Bool.{true}
 use mathlib.Core.List.{List, ◌++◌}
@@ -9,21 +10,18 @@ use lib.Seq.{take_at, length-take-le}
 use borrow.Author.Tests.{le-ltb}
 use Rattle.logic.specs.Refusal.{◌otherwise◌, given}
 use Rattle.cell.specs.declared.Cell.{Cell}
-use Rattle.code.specs.declared.Coded.{Coded}
-use Rattle.code.specs.declared.Coded.TheVariants as coded-as
 use Rattle.code.specs.Code.{is_code, cell_of}
 use Rattle.code.proofs.Laws.Code.{code-is-cell}
 use Rattle.reading.specs.declared.Profile.TheVariants as profile-as
-use Rattle.adding.specs.declared.Added.TheVariants as added-as
 use Rattle.adding.specs.Add.{text_with, keeps_with, size_refusal, with_refusal, resized, placed, Holding, Gains}
 use Rattle.adding.proofs.Laws.Add.{full-keeps, with-again}
 use Rattle.flight.specs.declared.Recording.{Recording}
-use Rattle.flight.specs.declared.Taken.{Taken}
-use Rattle.flight.specs.declared.Taken.TheVariants.{Fix, Refused}
 use Rattle.flight.specs.Recording.{fix_taken, taken, taken_text, Records, recording_after}
+use Rattle.logic.specs.Laws.Answer.{err-is}
+use Rattle.reading.specs.declared.Refused.{Refused}
 
 -- what is to be shown of an answer and the bytes at exit
-abbrev pub Takes : Coded → (bytes : List ℕ) (m : Recording) (r : Taken) (exit : List ℕ) → Type 0
+abbrev pub Takes : Result ℕ ℕ → (bytes : List ℕ) (m : Recording) (r : Result Recording ℕ) (exit : List ℕ) → Type 0
 Takes a bytes m r exit =
     (r ≡ taken a (length bytes) (take m.length bytes)) × ((exit ≡ taken_text a bytes (take m.length bytes)) × Records exit (recording_after r m))
 
@@ -51,10 +49,10 @@ module _ (bytes : List ℕ) (m : Recording) (h : Records bytes m) (code : ℕ) (
         let n : length (text_with t c) ≡ m.length = ap length same ∙ long in
         rw (keeps, le-ltb 65536 (length (text_with t c)) (omega (arith, h.holds.small)), le-ltb (length bytes) (length (text_with t c)) (omega (arith, h.holds.fits)))
 
-    pub takes-last : Takes (coded-as.Code code) bytes m (Fix m) bytes
+    pub takes-last : Takes (Ok code) bytes m (Ok m) bytes
     unfolding taken fix_taken taken_text placed given
     takes-last = (
-      (λ i. Fix (record { length = (sym long ∙ sym (ap length same)) i; last = sym e i })) ∙ sym (ap (λ (x : ℕ). fix_taken x (length (text_with t c)) code) none),
+      (λ i. Ok (record { length = (sym long ∙ sym (ap length same)) i; last = sym e i })) ∙ sym (ap (λ (x : ℕ). fix_taken x (length (text_with t c)) code) none),
       (
         sym
             (ap (λ (x : ℕ). placed x (text_with t c) bytes) none
@@ -67,7 +65,7 @@ module _ (bytes : List ℕ) (m : Recording) (h : Records bytes m) (code : ℕ) (
   -- the cell is added, or refused
   module _ {after : List ℕ} where
     pub takes-added :
-        {n : ℕ} → Gains t c bytes after (added-as.Length n) → Holding profile-as.Full after n → Takes (coded-as.Code code) bytes m (Fix (record { length = n; last = code })) after
+        {n : ℕ} → Gains t c bytes after (Ok n) → Holding profile-as.Full after n → Takes (Ok code) bytes m (Ok (record { length = n; last = code })) after
     unfolding taken fix_taken taken_text resized placed given
     takes-added {n} g k = go (with_refusal t c (length bytes)) refl g.answer g.bytes
       where
@@ -75,12 +73,12 @@ module _ (bytes : List ℕ) (m : Recording) (h : Records bytes m) (code : ℕ) (
         u = text_with t c
 
         go :
-            (w : ℕ) → with_refusal t c (length bytes) ≡ w → added-as.Length n ≡ resized w (length u) → after ≡ placed w u bytes →
-            Takes (coded-as.Code code) bytes m (Fix (record { length = n; last = code })) after
+            (w : ℕ) → with_refusal t c (length bytes) ≡ w → Ok n ≡ resized w (length u) → after ≡ placed w u bytes →
+            Takes (Ok code) bytes m (Ok (record { length = n; last = code })) after
         go zero q f b =
             let i : n ≡ length u = cc in
             let w : take n after ≡ u = ap₂ take i b ∙ take_at u (drop (length u) bytes) (length u) refl in (
-              ap (λ (x : ℕ). Fix (record { length = x; last = code })) i ∙ sym (ap (λ (x : ℕ). fix_taken x (length u) code) q),
+              ap (λ (x : ℕ). Ok (record { length = x; last = code })) i ∙ sym (ap (λ (x : ℕ). fix_taken x (length u) code) q),
               (
                 b ∙ sym (ap (λ (x : ℕ). placed x u bytes) q),
                 record {
@@ -91,7 +89,7 @@ module _ (bytes : List ℕ) (m : Recording) (h : Records bytes m) (code : ℕ) (
             )
         go (suc w) q f b = let z : ◌≡◌ {A = ℕ} 0 1 = cc in absurd (omega arith)
 
-    pub takes-refused : {r p : ℕ} → Gains t c bytes after (added-as.Refused r p) → Takes (coded-as.Code code) bytes m (Refused r) after
+    pub takes-refused : {r p : ℕ} → Gains t c bytes after (Err (record { refusal = r; place = p })) → Takes (Ok code) bytes m (Err r) after
     unfolding taken fix_taken taken_text resized placed given
     takes-refused {r} {p} g = go (with_refusal t c (length bytes)) refl g.answer g.bytes
       where
@@ -99,15 +97,15 @@ module _ (bytes : List ℕ) (m : Recording) (h : Records bytes m) (code : ℕ) (
         u = text_with t c
 
         go :
-            (w : ℕ) → with_refusal t c (length bytes) ≡ w → added-as.Refused r p ≡ resized w (length u) → after ≡ placed w u bytes →
-            Takes (coded-as.Code code) bytes m (Refused r) after
+            (w : ℕ) → with_refusal t c (length bytes) ≡ w → Err (record { refusal = r; place = p }) ≡ resized w (length u) → after ≡ placed w u bytes →
+            Takes (Ok code) bytes m (Err r) after
         go zero q f b = let z : ◌≡◌ {A = ℕ} 0 1 = cc in absurd (omega arith)
         go (suc w) q f b =
-            let i : r ≡ suc w = cc in (
-              ap Refused i ∙ sym (ap (λ (x : ℕ). fix_taken x (length u) code) q),
+            let i : r ≡ suc w = ap (λ (x : Refused). x.refusal) (err-is f) in (
+              ap Err i ∙ sym (ap (λ (x : ℕ). fix_taken x (length u) code) q),
               (b ∙ sym (ap (λ (x : ℕ). placed x u bytes) q), subst (λ (x : List ℕ). Records x m) (sym b) h),
             )
 
-pub takes_none : (q : ℕ) (bytes : List ℕ) (m : Recording) → Records bytes m → Takes (coded-as.Refused q) bytes m (Refused q) bytes
+pub takes_none : (q : ℕ) (bytes : List ℕ) (m : Recording) → Records bytes m → Takes (Err q) bytes m (Err q) bytes
 unfolding taken taken_text
 takes_none q bytes m h = (refl, (refl, h))

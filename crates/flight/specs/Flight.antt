@@ -1,15 +1,11 @@
 -- A flight: "a line for each fix". Assumes nothing.
-use Rattle.std.specs.Prelude.{List, ℕ, ℤ}
+use Rattle.std.specs.Prelude.{List, ℕ, ℤ, Err, None, Option, Result, Some}
 use Rattle.logic.specs.Refusal.{◌otherwise◌}
 use Rattle.cell.specs.declared.Arrangement.{Arrangement}
 use Rattle.cell.specs.declared.Cell.{Cell}
-use Rattle.code.specs.declared.Coded.{Coded}
-use Rattle.code.specs.declared.Coded.TheVariants.{Refused}
 use Rattle.code.specs.Code.{code_of, coded}
 use Rattle.locate.specs.Fix.{fix_refusal, fix_cell}
 use Rattle.geodetic.specs.GeodeticFix.{geodetic_refusal, geodetic_cell}
-use Rattle.decimal.specs.declared.FixLine.{FixLine}
-use Rattle.decimal.specs.declared.FixLine.TheVariants.{Fix, Not}
 use Rattle.decimal.specs.Decimal.{fix_in}
 use Rattle.flight.specs.declared.Latitude.{Latitude}
 use Rattle.flight.specs.declared.Latitude.TheVariants.{Authalic, Geodetic}
@@ -32,17 +28,17 @@ unfoldable pub line_cell : Setting → (longitude second : ℤ) → Cell
 line_cell s longitude second = cell_by s.latitude s.arrangement s.resolution longitude second
 
 -- the code of the cell of a fix, in the setting's arrangement, or the refusal
-unfoldable pub fix_coded : Setting → (longitude second : ℤ) → Coded
+unfoldable pub fix_coded : Setting → (longitude second : ℤ) → Result ℕ ℕ
 fix_coded s longitude second = coded (line_refusal s longitude second) (code_of s.arrangement (line_cell s longitude second))
 
 -- a line that is no fix is refused as one out of range, and like that one after 5 and 2
-unfoldable pub no_fix : Setting → Coded
-no_fix s = Refused (setting_refusal s otherwise 6)
+unfoldable pub no_fix : Setting → Result ℕ ℕ
+no_fix s = Err (setting_refusal s otherwise 6)
 
-unfoldable pub of_line : Setting → FixLine → Coded
-of_line s (Fix longitude second) = fix_coded s longitude second
-of_line s Not = no_fix s
+unfoldable pub of_line : Setting → Option (ℤ × ℤ) → Result ℕ ℕ
+of_line s (Some (longitude, second)) = fix_coded s longitude second
+of_line s None = no_fix s
 
-unfoldable pub line_code : Setting → List ℕ → Coded
+unfoldable pub line_code : Setting → List ℕ → Result ℕ ℕ
 unfolding of_line fix_in
 line_code s line = of_line s (fix_in line)

@@ -1,9 +1,7 @@
 -- A flight recorded in a text and nothing else: what each line makes of it. Laws/Recording shows that the text is always that of the cells of the fixes
 -- taken, and which lines are taken. Assumes nothing.
-use Rattle.std.specs.Prelude.{◌≡◌, ◌⊎◌, Bool, true, cond, List, [], ◌∷◌, ℕ, zero, suc, ◌+◌, eqb, ltb, length, take}
+use Rattle.std.specs.Prelude.{◌≡◌, ◌⊎◌, Bool, true, cond, List, [], ◌∷◌, ℕ, zero, suc, ◌+◌, eqb, ltb, length, take, Err, Ok, Result}
 use Rattle.cell.specs.declared.Cell.{Cell}
-use Rattle.code.specs.declared.Coded.{Coded}
-use Rattle.code.specs.declared.Coded.TheVariants as coded-as
 use Rattle.code.specs.Code.{cell_of, is_code}
 use Rattle.reading.specs.declared.Profile.TheVariants as profile-as
 use Rattle.reading.specs.Ground.{Cells}
@@ -11,39 +9,37 @@ use Rattle.reading.specs.Written.{written_text}
 use Rattle.adding.specs.Add.{text_with, with_refusal, placed, Holding}
 use Rattle.flight.specs.declared.Setting.{Setting}
 use Rattle.flight.specs.declared.Recording.{Recording}
-use Rattle.flight.specs.declared.Taken.{Taken}
-use Rattle.flight.specs.declared.Taken.TheVariants.{Fix, Refused}
 use Rattle.flight.specs.Flight.{line_code}
 
 -- ---- one line: its cell is added where the text then has room; a refused line changes nothing
 
-unfoldable pub fix_taken : (r n code : ℕ) → Taken
-fix_taken zero n code = Fix (record { length = n; last = code })
-fix_taken (suc r) n code = Refused (suc r)
+unfoldable pub fix_taken : (r n code : ℕ) → Result Recording ℕ
+fix_taken zero n code = Ok (record { length = n; last = code })
+fix_taken (suc r) n code = Err (suc r)
 
-unfoldable pub taken : Coded → (room : ℕ) (t : List ℕ) → Taken
+unfoldable pub taken : Result ℕ ℕ → (room : ℕ) (t : List ℕ) → Result Recording ℕ
 unfolding fix_taken
-taken (coded-as.Code code) room t = fix_taken (with_refusal t (cell_of code) room) (length (text_with t (cell_of code))) code
-taken (coded-as.Refused r) room t = Refused r
+taken (Ok code) room t = fix_taken (with_refusal t (cell_of code) room) (length (text_with t (cell_of code))) code
+taken (Err r) room t = Err r
 
 -- the lent bytes then
-unfoldable pub taken_text : Coded → (bytes t : List ℕ) → List ℕ
-taken_text (coded-as.Code code) bytes t = placed (with_refusal t (cell_of code) (length bytes)) (text_with t (cell_of code)) bytes
-taken_text (coded-as.Refused r) bytes t = bytes
+unfoldable pub taken_text : Result ℕ ℕ → (bytes t : List ℕ) → List ℕ
+taken_text (Ok code) bytes t = placed (with_refusal t (cell_of code) (length bytes)) (text_with t (cell_of code)) bytes
+taken_text (Err r) bytes t = bytes
 
 -- what each case stands for
-abbrev pub refusal_in : Taken → ℕ
-refusal_in (Fix m) = 0
-refusal_in (Refused r) = r
+abbrev pub refusal_in : Result Recording ℕ → ℕ
+refusal_in (Ok m) = 0
+refusal_in (Err r) = r
 
 -- the first bytes are an accepted text of version 1, in which the cell of the last fix is covered already
 pub record Records (bytes : List ℕ) (m : Recording) : Type 0 where
   pub holds : Holding profile-as.Full bytes m.length
   pub last : is_code m.last ≡ true → text_with (take m.length bytes) (cell_of m.last) ≡ take m.length bytes
 
-abbrev pub recording_after : Taken → Recording → Recording
-recording_after (Fix n) m = n
-recording_after (Refused r) m = m
+abbrev pub recording_after : Result Recording ℕ → Recording → Recording
+recording_after (Ok n) m = n
+recording_after (Err r) m = m
 
 -- ---- a flight: the text, how many fixes are in it, and how many lines were refused, with 13 and with another number
 
@@ -70,9 +66,9 @@ abbrev pub decided : (r : ℕ) (u : List ℕ) → Flown → Flown
 decided zero u f = with_fix u f
 decided (suc r) u f = with_refused (suc r) f
 
-abbrev pub with_code : (room : ℕ) → Coded → Flown → Flown
-with_code room (coded-as.Code code) f = decided (with_refusal f.text (cell_of code) room) (text_with f.text (cell_of code)) f
-with_code room (coded-as.Refused r) f = with_refused r f
+abbrev pub with_code : (room : ℕ) → Result ℕ ℕ → Flown → Flown
+with_code room (Ok code) f = decided (with_refusal f.text (cell_of code) room) (text_with f.text (cell_of code)) f
+with_code room (Err r) f = with_refused r f
 
 -- after one more line
 abbrev pub with_line : Setting → (room : ℕ) → Flown → (line : List ℕ) → Flown
@@ -83,9 +79,9 @@ abbrev pub counted : Flown → ℕ
 counted f = f.fixes + f.full + f.bad
 
 -- how many lines are no fix, or one out of range
-abbrev pub bad_in : Coded → ℕ
-bad_in (coded-as.Code code) = 0
-bad_in (coded-as.Refused r) = 1
+abbrev pub bad_in : Result ℕ ℕ → ℕ
+bad_in (Ok code) = 0
+bad_in (Err r) = 1
 
 abbrev pub bad_lines : Setting → List (List ℕ) → ℕ
 bad_lines s [] = 0
@@ -104,9 +100,9 @@ started s = record { text = text_for s []; fixes = 0; full = 0; bad = 0 }
 abbrev pub too_long : Setting → List Cell → Bool
 too_long s cells = ltb 65536 (length (text_for s cells))
 
-abbrev pub with_cell : Setting → Coded → List Cell → List Cell
-with_cell s (coded-as.Code code) cells = cond (too_long s (cell_of code ∷ cells)) cells (cell_of code ∷ cells)
-with_cell s (coded-as.Refused r) cells = cells
+abbrev pub with_cell : Setting → Result ℕ ℕ → List Cell → List Cell
+with_cell s (Ok code) cells = cond (too_long s (cell_of code ∷ cells)) cells (cell_of code ∷ cells)
+with_cell s (Err r) cells = cells
 
 abbrev pub cells_with : Setting → List Cell → (line : List ℕ) → List Cell
 cells_with s cells line = with_cell s (line_code s line) cells
@@ -120,4 +116,4 @@ pub record FlownFrom (s : Setting) (f : Flown) (qs : List Cell) : Type 0 where
 -- some line is a fix in this cell
 abbrev pub HasFix : Setting → (lines : List (List ℕ)) → Cell → Type 0
 HasFix s [] x = ⊥
-HasFix s (line ∷ lines) x = ((code : ℕ) × (line_code s line ≡ coded-as.Code code) × (cell_of code ≡ x)) ⊎ HasFix s lines x
+HasFix s (line ∷ lines) x = ((code : ℕ) × (line_code s line ≡ Ok code) × (cell_of code ≡ x)) ⊎ HasFix s lines x

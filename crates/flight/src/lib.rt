@@ -1,10 +1,9 @@
 // A line of a flight: the code of its fix, and the text with its cell.
 #![tactic(auto)]
 
-ghost use Rattle.std.specs.Prelude.{◌≡◌, true, [], ◌≤◌, length, take};
+ghost use Rattle.std.specs.Prelude.{◌≡◌, true, [], ◌≤◌, length, take, Ok};
 ghost use Rattle.cell.specs.Cell.{IsArrangement, found};
 ghost use Rattle.code.specs.Code.{is_code, found_code};
-ghost use Rattle.code.specs.declared.Coded.TheVariants.{Code as CodeIs};
 ghost use Rattle.reading.specs.declared.Profile.TheVariants.{Full};
 ghost use Rattle.reading.specs.Written.{written_text};
 ghost use Rattle.adding.specs.InMind.{InMind};
@@ -12,12 +11,8 @@ ghost use Rattle.flight.specs.Setting.{latitude_refusal, setting_refusal};
 ghost use Rattle.flight.specs.Flight.{line_refusal, line_cell, no_fix, line_code};
 ghost use Rattle.flight.specs.Recording.{taken, taken_text, Records, recording_after};
 
-use adding::Added;
 use cell::Arrangement;
-use code::Coded;
-use decimal::FixLine;
-use reading::Profile;
-use writing::Written;
+use reading::{Profile, Refused};
 
 // What the second number of a line is: z, the sine of the authalic latitude; or the sine of the geodetic latitude on an ellipsoid with this squared
 // eccentricity (02 W-203).
@@ -65,18 +60,18 @@ impl Setting {
 }
 
 // The answer to a line that is no fix: the setting's refusal, otherwise 6.
-fn no_fix(setting: Setting) -> Coded
+fn no_fix(setting: Setting) -> Result<u64, u64>
     ensures { result ≡ no_fix setting }
 {
     let refusal = setting.refusal();
     if refusal != 0 {
-        return Coded::Refused(refusal);
+        return Err(refusal);
     }
-    Coded::Refused(6)
+    Err(6)
 }
 
 // The code of the cell in which the fix of these two numbers lies, or the refusal.
-fn coded_fix(setting: Setting, longitude: i64, second: i64) -> Coded
+fn coded_fix(setting: Setting, longitude: i64, second: i64) -> Result<u64, u64>
     ensures { result ≡ found_code setting.arrangement (found (line_refusal setting longitude second) (line_cell setting longitude second)) }
 {
     let arrangement = setting.arrangement;
@@ -91,10 +86,10 @@ fn coded_fix(setting: Setting, longitude: i64, second: i64) -> Coded
 }
 
 // The code of the cell in which a line's fix lies: 5, 2 or 6, and 6 too where the line is no fix.
-pub fn line_code(setting: Setting, line: &[u8]) -> Coded
+pub fn line_code(setting: Setting, line: &[u8]) -> Result<u64, u64>
     ensures { result ≡ line_code setting line.now }
 {
-    let FixLine::Fix(longitude, second) = decimal::fix_in(line) else {
+    let Some((longitude, second)) = decimal::fix_in(line) else {
         return no_fix(setting);
     };
     coded_fix(setting, longitude, second) // tests the setting too
@@ -107,13 +102,6 @@ pub struct Recording {
     pub last: u64,
 }
 
-// The recording with the line's fix, or the line is refused.
-#[derive(Clone, Copy)]
-pub enum Taken {
-    Fix(Recording),
-    Refused(u64),
-}
-
 // The text of no cell, in front of the room. The three numbers keep in mind where the last fix's cell was looked for (`adding::add_near`).
 pub fn begin(arrangement: Arrangement, text: &mut [u8], near: &mut [u64]) -> Recording
     requires { IsArrangement arrangement × (65536 ≤ length text.old) × (length near.old ≡ 3) }
@@ -122,7 +110,7 @@ pub fn begin(arrangement: Arrangement, text: &mut [u8], near: &mut [u64]) -> Rec
     ensures in_mind { InMind (take result.length text.new) near.new }
 {
     let none = [0u64; 1];
-    let Written::Length(length) = writing::write(1, 15, arrangement, &none[..0], text) else {
+    let Ok(length) = writing::write(1, 15, arrangement, &none[..0], text) else {
         return Recording {
             length: 0,
             last: u64::MAX,
@@ -138,19 +126,24 @@ pub fn begin(arrangement: Arrangement, text: &mut [u8], near: &mut [u64]) -> Rec
 }
 
 // Takes the cell of a code into the text: 13 where it would be too long, or 8 for its room. The cell of the last fix is in it already.
-fn take_code(text: &mut [u8], recording: Recording, code: u64, near: &mut [u64]) -> Taken
+fn take_code(
+    text: &mut [u8],
+    recording: Recording,
+    code: u64,
+    near: &mut [u64],
+) -> Result<Recording, u64>
     requires { Records text.old recording × (is_code code ≡ true) × InMind (take recording.length text.old) near.old }
-    ensures value { result ≡ taken (CodeIs code) (length text.old) (take recording.length text.old) }
-    ensures text_after { text.new ≡ taken_text (CodeIs code) text.old (take recording.length text.old) }
+    ensures value { result ≡ taken (Ok code) (length text.old) (take recording.length text.old) }
+    ensures text_after { text.new ≡ taken_text (Ok code) text.old (take recording.length text.old) }
     ensures records { Records text.new (recording_after result recording) }
     ensures in_mind { InMind (take (recording_after result recording).length text.new) near.new }
 {
     if code == recording.last {
-        return Taken::Fix(recording);
+        return Ok(recording);
     }
     match adding::add_near(Profile::Full, text, recording.length, code, near) {
-        Added::Length(length) => Taken::Fix(Recording { length, last: code }),
-        Added::Refused { refusal, place: _ } => Taken::Refused(refusal),
+        Ok(length) => Ok(Recording { length, last: code }),
+        Err(Refused { refusal, place: _ }) => Err(refusal),
     }
 }
 
@@ -162,7 +155,7 @@ pub fn take_line(
     text: &mut [u8],
     recording: Recording,
     near: &mut [u64],
-) -> Taken
+) -> Result<Recording, u64>
     requires { Records text.old recording × InMind (take recording.length text.old) near.old }
     ensures value { result ≡ taken (line_code setting line.now) (length text.old) (take recording.length text.old) }
     ensures text_after { text.new ≡ taken_text (line_code setting line.now) text.old (take recording.length text.old) }
@@ -170,7 +163,7 @@ pub fn take_line(
     ensures in_mind { InMind (take (recording_after result recording).length text.new) near.new }
 {
     match line_code(setting, line) {
-        Coded::Code(code) => take_code(text, recording, code, near),
-        Coded::Refused(refusal) => Taken::Refused(refusal),
+        Ok(code) => take_code(text, recording, code, near),
+        Err(refusal) => Err(refusal),
     }
 }

@@ -1,10 +1,8 @@
 -- What `coverage frame` reads and prints: the face side, and the frame around a text's whole cells. Assumes nothing.
-use Rattle.std.specs.Prelude.{◌≡◌, false, cond, List, [], ◌∷◌, ◌++◌, ℕ, zero, suc, ◌-◌, ltb, pos, Float}
+use Rattle.std.specs.Prelude.{◌≡◌, false, cond, List, [], ◌∷◌, ◌++◌, ℕ, zero, suc, ◌-◌, ltb, pos, Float, None, Option, Some}
 use Rattle.std.specs.Float.{binary64, fin}
 use Rattle.std.specs.Float.Ieee.{of_int, div, to_bits}
 use Rattle.io.specs.Digits.{last_digits}
-use Rattle.decimal.specs.declared.Fraction.{Fraction}
-use Rattle.decimal.specs.declared.Fraction.TheVariants as fraction-as
 use Rattle.decimal.specs.Fraction.{fraction_in}
 use Rattle.plotter.specs.declared.Frame.{Frame}
 use Rattle.plotter.specs.declared.Around.{Around}
@@ -16,9 +14,9 @@ use Rattle.metres.specs.Metres.{side_refusal}
 use Rattle.listing.specs.List.{codes_of, listing_refusal}
 
 -- a fraction as a double: a quotient of two whole numbers below 2^53, rounded once, so the nearest to it; what is no fraction is 0, which is no side
-abbrev pub side_of : Fraction → Float
-side_of (fraction-as.Is number scale) = div binary64 (of_int binary64 (pos number)) (of_int binary64 (pos scale))
-side_of fraction-as.Not = fin false 0 (pos 0)
+abbrev pub side_of : Option (ℕ × ℕ) → Float
+side_of (Some (number, scale)) = div binary64 (of_int binary64 (pos number)) (of_int binary64 (pos scale))
+side_of None = fin false 0 (pos 0)
 
 unfoldable pub side_in : List ℕ → Float
 side_in bs = side_of (fraction_in bs)

@@ -10,17 +10,16 @@ ghost use Rattle.plotter.specs.Plotter.{has_nan};
 ghost use Rattle.report.specs.Put.{Put};
 ghost use Rattle.framing.specs.Framing.{side_in, hexadecimal, edges_line, around_line, Numbers, frame_refusal, frame_line};
 
-use decimal::Fraction;
-use listing::Listed;
 use plotter::{Around, Frame};
+use reading::Refused;
 
 // The side that some bytes write, one quotient of two whole numbers; 0, which is no side, where they write none.
 pub fn side_in(text: &[u8]) -> f64
     ensures { result ≡ side_in text.now }
 {
     match decimal::fraction_in(text) {
-        Fraction::Is(number, scale) => (number as f64) / (scale as f64),
-        Fraction::Not => 0.0,
+        Some((number, scale)) => (number as f64) / (scale as f64),
+        None => 0.0,
     }
 }
 
@@ -91,12 +90,12 @@ pub fn put_frame(text: &[u8], word: &[u8], codes: &mut [u64], out: &mut [u8]) ->
         };
     }
     match listing::list(text, codes) {
-        Listed::Count(count) => LinePut {
+        Ok(count) => LinePut {
             end: put_around(plotter::frame_around(side, &codes[..count as usize]), out),
             refusal: 0,
             place: 0,
         },
-        Listed::Refused { refusal, place } => LinePut {
+        Err(Refused { refusal, place }) => LinePut {
             end: report::put_line(refusal, out),
             refusal,
             place,

@@ -1,4 +1,6 @@
 -- Codes before a place, one at a time, and whether a cell is the ninth of nine siblings. Assumes nothing.
+use Rattle.std.specs.Prelude.{Err, Ok, Result}
+use Rattle.code.specs.declared.Parts.{Parts}
 use mathlib.Core.Path.{◌≡◌, refl, sym, ap, ap₂, ◌∙◌}
 use mathlib.Core.Bool.{Bool, true, false, ◌&&◌}
 use mathlib.Core.List.{List, [], ◌∷◌, ◌++◌}
@@ -12,8 +14,6 @@ use lib.Seq.{length-take-le, get_or-take, take-take, take-suc-set}
 use borrow.Author.Tests.{lt-ltb, le-ltb, eq-eqb, ne_eqb}
 use Rattle.logic.specs.Laws.Bools.{and_none}
 use Rattle.cell.specs.declared.Arrangement.{Arrangement}
-use Rattle.code.specs.declared.Split.{Split}
-use Rattle.code.specs.declared.Split.TheVariants.{Parts, Refused}
 use Rattle.code.specs.Code.{cell_of, cell_coded, cell_split, split, path_of, is_code, code_refusal}
 use Rattle.code.proofs.Laws.Code.{coded-path, code-is-cell, code-passes}
 use Rattle.code.specs.Number.{number_of, code_as}
@@ -107,33 +107,33 @@ module _ (a : Arrangement) (k n : ℕ) (codes : List ℕ) (at : ℕ) where
 
 -- ---- a code taken apart
 
-abbrev face_in : Split → ℕ
-face_in (Parts f k p) = f
-face_in (Refused q) = 0
+abbrev face_in : Result Parts ℕ → ℕ
+face_in (Ok x) = x.face
+face_in (Err q) = 0
 
-abbrev resolution_in : Split → ℕ
-resolution_in (Parts f k p) = k
-resolution_in (Refused q) = 0
+abbrev resolution_in : Result Parts ℕ → ℕ
+resolution_in (Ok x) = x.resolution
+resolution_in (Err q) = 0
 
-abbrev path_is : Split → ℕ
-path_is (Parts f k p) = p
-path_is (Refused q) = 0
+abbrev path_is : Result Parts ℕ → ℕ
+path_is (Ok x) = x.path
+path_is (Err q) = 0
 
-abbrev refused_in : Split → ℕ
-refused_in (Parts f k p) = 0
-refused_in (Refused q) = 1
+abbrev refused_in : Result Parts ℕ → ℕ
+refused_in (Ok x) = 0
+refused_in (Err q) = 1
 
-module _ (code : ℕ) (i : is_code code ≡ true) {r : Split} (e : r ≡ split (code_refusal code) code) where
-  whole : r ≡ Parts (cell_of code).face (cell_of code).resolution (path_of (cell_of code))
+module _ (code : ℕ) (i : is_code code ≡ true) {r : Result Parts ℕ} (e : r ≡ split (code_refusal code) code) where
+  whole : r ≡ Ok (record { face = (cell_of code).face; resolution = (cell_of code).resolution; path = path_of (cell_of code) })
   unfolding cell_of cell_coded cell_split is_code
   whole =
       e ∙ ap (λ (q : ℕ). split q code) (code-passes code i)
-      ∙ ap (λ (p : ℕ). Parts (code / 16 / 16 / 9 ^ 15) (code / 16 % 16) p) (sym (coded-path (code / 16) i))
+      ∙ ap (λ (p : ℕ). Ok (record { face = code / 16 / 16 / 9 ^ 15; resolution = code / 16 % 16; path = p })) (sym (coded-path (code / 16) i))
 
-  pub never : (q : ℕ) → r ≡ Refused q → ⊥
+  pub never : (q : ℕ) → r ≡ Err q → ⊥
   never q t = let z : ◌≡◌ {A = ℕ} 1 0 = sym (ap refused_in t) ∙ ap refused_in whole in omega arith
 
-  module _ {f k p : ℕ} (t : r ≡ Parts f k p) where
+  module _ {f k p : ℕ} (t : r ≡ Ok (record { face = f; resolution = k; path = p })) where
     resolved : k ≡ (cell_of code).resolution
     resolved = sym (ap resolution_in t) ∙ ap resolution_in whole
 

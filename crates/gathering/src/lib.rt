@@ -7,7 +7,6 @@ ghost use Rattle.code.specs.Code.{is_code};
 ghost use Rattle.gathering.specs.Gather.{follows as follows_in, merges as merges_in, gathered_as, gathered};
 
 use cell::Arrangement;
-use code::Split;
 
 // Whether the `left` codes before a place are those of the cells before a number, of one resolution.
 fn follows(
@@ -72,14 +71,10 @@ pub fn gather(arrangement: Arrangement, codes: &mut [u64], count: usize, code: u
     ensures codes_after { take result codes.new ≡ gathered arrangement code (take count codes.old) }
     ensures upper_bound { result ≤ length codes.new }
 {
-    let Split::Parts {
-        face,
-        resolution,
-        path,
-    } = code::parts_of(code)
-    else {
+    let Ok(parts) = code::parts_of(code) else {
         return count; // none, since it is a code
     };
-    let number = face * ternary::nine_power(resolution) + path;
+    let resolution = parts.resolution;
+    let number = parts.face * ternary::nine_power(resolution) + parts.path;
     gather_as(arrangement, codes, count, resolution, number)
 }

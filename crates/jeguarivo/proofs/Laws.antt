@@ -1,12 +1,11 @@
 -- How the entries' answers follow from those of the crates below. Assumes nothing.
+use Rattle.std.specs.Prelude.{Err, Ok, Result}
 use mathlib.Core.Path.{◌≡◌, refl, sym, ap, ap₂, ◌∙◌, subst}
 use Prim.Native.Nat.{ℕ, zero, suc}
 use native.Mathlib.Omega.{arith}
 use Rattle.logic.specs.Refusal.{◌otherwise◌, given}
 use Rattle.logic.specs.Laws.Refusal.{passes, given-value, given-none}
 use Rattle.cell.specs.declared.Cell.{Cell}
-use Rattle.cell.specs.declared.Found.{Found}
-use Rattle.cell.specs.declared.Found.TheVariants as found_as
 use Rattle.cell.specs.declared.Arrangement.{Arrangement}
 use Rattle.cell.specs.Cell.{IsCell, IsArrangement, cell_refusal, found}
 use Rattle.cell.proofs.Laws.Cell.{cell-is}
@@ -56,8 +55,8 @@ cell-next d q = passes _ d.allowed ∙ passes q (cell-is (subst IsCell d.is d.ce
 
 -- ---- what is told of a code's cell: 4, or the value
 
-module _ (code : ℕ) {f : Found} (e : f ≡ found (code_refusal code) (cell_of code)) where
-  module _ {x : Cell} {a : Arrangement} (h : f ≡ found_as.At x) (g : a ≡ arrangement_of code) where
+module _ (code : ℕ) {f : Result Cell ℕ} (e : f ≡ found (code_refusal code) (cell_of code)) where
+  module _ {x : Cell} {a : Arrangement} (h : f ≡ Ok x) (g : a ≡ arrangement_of code) where
     pub placed-stands : IsArrangement a × IsCell x
     placed-stands = (subst IsArrangement (sym g) (code-arranged code), (decoded code e h).cell)
 
@@ -65,7 +64,7 @@ module _ (code : ℕ) {f : Found} (e : f ≡ found (code_refusal code) (cell_of 
     unfolding placed_answer
     placed-value of none v = let d = decoded code e h in value-given (none (code_refusal code)) d.allowed (v ∙ ap₂ of g d.is)
 
-  pub placed-none {ℓ} : {A : Type ℓ} (value : Arrangement → Cell → A) (none : ℕ → A) {q : ℕ} → f ≡ found_as.Refused q → none q ≡ placed_answer code value none
+  pub placed-none {ℓ} : {A : Type ℓ} (value : Arrangement → Cell → A) (none : ℕ → A) {q : ℕ} → f ≡ Err q → none q ≡ placed_answer code value none
   unfolding placed_answer
   placed-none of none {q} h =
       let r = code_refusal code in

@@ -31,13 +31,9 @@ ghost use Rattle.entries.specs.Plotter.{mark_numbers, frame_numbers, point_marke
 ghost use Rattle.entries.specs.Summary.{summary_of, summary_asked};
 ghost use Rattle.entries.specs.Settings.{fresh_history, changed_history, back_history, read_settings};
 
-use adding::Added;
 use asking::Asked;
-use batch::Batched;
-use cell::{Arrangement, Cell, Found};
-use code::Coded;
+use cell::{Arrangement, Cell};
 use comparing::Compared;
-use corner::Cornered;
 use entries::{
     AddAnswer, AskAnswer, CellAnswer, CheckAnswer, CodeAnswer, CompareAnswer, CountAnswer,
     FixAnswer, FrameAnswer, LengthAnswer, ListAnswer, MarkAnswer, NameAnswer, PointAnswer,
@@ -45,27 +41,24 @@ use entries::{
     SummaryAnswer, SummaryAskAnswer, VerticesAnswer, ZAnswer,
 };
 use history::{History, HistoryAnswer, Settings, SettingsAnswer};
-use listing::Listed;
-use name::Named;
-use plotter::{Frame, Framed, Mark};
+use plotter::{Frame, Mark};
 use reader::Checked;
+use reading::Refused;
 use rescue::Rescued;
-use sheet::{Judged, Written as SheetWritten};
-use summary::{Questioned, Summarized};
-use writing::Written;
+use sheet::Judged;
 
 // A code, or its refusal, as numbers.
-fn coded_answer(coded: Coded) -> CodeAnswer
+fn coded_answer(coded: Result<u64, u64>) -> CodeAnswer
     ensures { result ≡ coded_answer coded }
 {
     match coded {
-        Coded::Code(code) => CodeAnswer { refusal: 0, code },
-        Coded::Refused(refusal) => CodeAnswer { refusal, code: 0 },
+        Ok(code) => CodeAnswer { refusal: 0, code },
+        Err(refusal) => CodeAnswer { refusal, code: 0 },
     }
 }
 
 // The code of a cell that was found in an arrangement, or the refusal, as numbers.
-fn found_answer(arrangement: Arrangement, found: Found) -> CodeAnswer
+fn found_answer(arrangement: Arrangement, found: Result<Cell, u64>) -> CodeAnswer
     requires { Placed arrangement found }
     ensures { result ≡ coded_answer (found_code arrangement found) }
 {
@@ -100,7 +93,7 @@ pub extern "C" fn jgv_code_cell(code: u64) -> CellAnswer
     ensures { result ≡ code_cell code }
 {
     match code::cell_of(code) {
-        Found::At(cell) => {
+        Ok(cell) => {
             let arrangement = code::arrangement_of(code);
             CellAnswer {
                 refusal: 0,
@@ -112,7 +105,7 @@ pub extern "C" fn jgv_code_cell(code: u64) -> CellAnswer
                 column: cell.column,
             }
         }
-        Found::Refused(refusal) => CellAnswer {
+        Err(refusal) => CellAnswer {
             refusal,
             n: 0, // of no arrangement
             s: 0, // and no s
@@ -131,8 +124,8 @@ pub extern "C" fn jgv_code_cells(codes: &[u64], numbers: &mut [u64]) -> CountAns
     ensures numbers_after { numbers.new ≡ cells_memory codes.now numbers.old }
 {
     match batch::code_cells(codes, numbers) {
-        Batched::Count(count) => CountAnswer { refusal: 0, count }, // codes
-        Batched::Refused(refusal) => CountAnswer {
+        Ok(count) => CountAnswer { refusal: 0, count }, // codes
+        Err(refusal) => CountAnswer {
             refusal, // of the whole batch of codes
             count: 0, // none of the codes was answered
         },
@@ -146,8 +139,8 @@ pub extern "C" fn jgv_cell_codes(numbers: &[u64], codes: &mut [u64]) -> CountAns
     ensures codes_after { codes.new ≡ codes_memory numbers.now codes.old }
 {
     match batch::cell_codes(numbers, codes) {
-        Batched::Count(count) => CountAnswer { refusal: 0, count }, // cells
-        Batched::Refused(refusal) => CountAnswer {
+        Ok(count) => CountAnswer { refusal: 0, count }, // cells
+        Err(refusal) => CountAnswer {
             refusal, // of the whole batch of cells
             count: 0, // none of the cells was answered
         },
@@ -174,7 +167,7 @@ pub extern "C" fn jgv_code_name(code: u64, name: &mut [u8]) -> NameAnswer
     ensures name_after { name.new ≡ given (code_name_refusal code (length name.old)) (name_in code name.old) name.old }
 {
     match name::code_name(code, name) {
-        Named::Length(length) => {
+        Ok(length) => {
             let arrangement = code::arrangement_of(code);
             NameAnswer {
                 refusal: 0,
@@ -183,7 +176,7 @@ pub extern "C" fn jgv_code_name(code: u64, name: &mut [u8]) -> NameAnswer
                 length,
             }
         }
-        Named::Refused(refusal) => NameAnswer {
+        Err(refusal) => NameAnswer {
             refusal,
             n: 0, // of a name that is refused
             s: 0, // and no s
@@ -208,7 +201,7 @@ fn kept(code: u64, cell: Cell) -> CodeAnswer
 pub extern "C" fn jgv_parent(code: u64) -> CodeAnswer
     ensures { result ≡ parent_code code }
 {
-    let Found::At(cell) = code::cell_of(code) else {
+    let Ok(cell) = code::cell_of(code) else {
         return CodeAnswer {
             refusal: 4, // comes before 12
             code: 0,
@@ -234,7 +227,7 @@ pub extern "C" fn jgv_child(code: u64, digit: u64) -> CodeAnswer
             code: 0,
         };
     }
-    let Found::At(cell) = code::cell_of(code) else {
+    let Ok(cell) = code::cell_of(code) else {
         return CodeAnswer {
             refusal: 4,
             code: 0,
@@ -271,7 +264,7 @@ pub extern "C" fn jgv_size(code: u64) -> SizeAnswer
 pub extern "C" fn jgv_shape(code: u64) -> ShapeAnswer
     ensures { result ≡ cell_shape code }
 {
-    let Found::At(cell) = code::cell_of(code) else {
+    let Ok(cell) = code::cell_of(code) else {
         return ShapeAnswer {
             refusal: 4, // every cell has a shape
             shape: 0,
@@ -288,7 +281,7 @@ pub extern "C" fn jgv_shape(code: u64) -> ShapeAnswer
 pub extern "C" fn jgv_corner_count(code: u64) -> CountAnswer
     ensures { result ≡ corner_count code }
 {
-    let Found::At(cell) = code::cell_of(code) else {
+    let Ok(cell) = code::cell_of(code) else {
         return CountAnswer {
             refusal: 4, // every cell has corners
             count: 0, // of no cell
@@ -307,8 +300,8 @@ pub extern "C" fn jgv_corner_cells(code: u64, codes: &mut [u64]) -> CountAnswer
     ensures codes_after { codes.new ≡ corner_memory code codes.old }
 {
     match corner::list(code, codes) {
-        Cornered::Count(count) => CountAnswer { refusal: 0, count },
-        Cornered::Refused(refusal) => CountAnswer {
+        Ok(count) => CountAnswer { refusal: 0, count }, // corners
+        Err(refusal) => CountAnswer {
             refusal,
             count: 0, // none was listed
         },
@@ -405,7 +398,7 @@ pub extern "C" fn jgv_neighbour(code: u64, direction: u64) -> CodeAnswer
             code: 0,
         };
     }
-    let Found::At(cell) = code::cell_of(code) else {
+    let Ok(cell) = code::cell_of(code) else {
         return CodeAnswer {
             refusal: 4,
             code: 0,
@@ -420,7 +413,7 @@ pub extern "C" fn jgv_square(code: u64) -> SquareAnswer
     ensures { result ≡ cell_square code }
 {
     match code::cell_of(code) {
-        Found::At(cell) => {
+        Ok(cell) => {
             let arrangement = code::arrangement_of(code);
             let square = plane::square_of(arrangement, cell);
             SquareAnswer {
@@ -430,7 +423,7 @@ pub extern "C" fn jgv_square(code: u64) -> SquareAnswer
                 side: square.side,
             }
         }
-        Found::Refused(refusal) => SquareAnswer {
+        Err(refusal) => SquareAnswer {
             refusal,
             left: 0,
             top: 0,
@@ -445,7 +438,7 @@ pub extern "C" fn jgv_nucleus(code: u64) -> PointAnswer
     ensures { result ≡ cell_nucleus code }
 {
     match code::cell_of(code) {
-        Found::At(cell) => {
+        Ok(cell) => {
             let arrangement = code::arrangement_of(code);
             let point = plane::nucleus_of(arrangement, cell);
             PointAnswer {
@@ -454,7 +447,7 @@ pub extern "C" fn jgv_nucleus(code: u64) -> PointAnswer
                 y: point.y,
             }
         }
-        Found::Refused(refusal) => PointAnswer {
+        Err(refusal) => PointAnswer {
             refusal,
             x: 0,
             y: 0,
@@ -468,14 +461,14 @@ pub extern "C" fn jgv_vertices(code: u64) -> VerticesAnswer
     ensures { result ≡ cell_vertices code }
 {
     match code::cell_of(code) {
-        Found::At(cell) => {
+        Ok(cell) => {
             let arrangement = code::arrangement_of(code);
             let vertices = plane::vertices_of(arrangement, cell);
             let x = vertices.x;
             let y = vertices.y;
             VerticesAnswer { refusal: 0, x, y }
         }
-        Found::Refused(refusal) => VerticesAnswer {
+        Err(refusal) => VerticesAnswer {
             refusal,
             x: [0; 4],
             y: [0; 4],
@@ -489,7 +482,7 @@ pub extern "C" fn jgv_ground_nucleus(code: u64) -> FixAnswer
     ensures { result ≡ ground_fix code }
 {
     match code::cell_of(code) {
-        Found::At(cell) => {
+        Ok(cell) => {
             let arrangement = code::arrangement_of(code);
             let fix = nucleus::ground_nucleus(arrangement, cell);
             FixAnswer {
@@ -498,7 +491,7 @@ pub extern "C" fn jgv_ground_nucleus(code: u64) -> FixAnswer
                 z: fix.z,
             }
         }
-        Found::Refused(refusal) => FixAnswer {
+        Err(refusal) => FixAnswer {
             refusal,
             longitude: 0,
             z: 0,
@@ -512,24 +505,17 @@ pub extern "C" fn jgv_coverage_check(text: &[u8]) -> CheckAnswer
     ensures { result ≡ check_numbers (checked_of text.now) }
 {
     match reader::check(text) {
-        Checked::Text {
-            profile,
-            north,
-            south,
-            cells,
-            size,
-            body: _,
-        } => CheckAnswer {
+        Ok(checked) => CheckAnswer {
             refusal: 0,
             place: 0,
-            version: reading::version_of(profile),
-            depth: reading::depth_of(profile),
-            n: north,
-            s: south,
-            cells,
-            size,
+            version: reading::version_of(checked.profile),
+            depth: reading::depth_of(checked.profile),
+            n: checked.arrangement.north,
+            s: checked.arrangement.south,
+            cells: checked.cells,
+            size: checked.size,
         },
-        Checked::Refused { refusal, place } => CheckAnswer {
+        Err(Refused { refusal, place }) => CheckAnswer {
             refusal,
             place,
             version: 0, // of a text that is refused
@@ -549,12 +535,12 @@ pub extern "C" fn jgv_coverage_list(text: &[u8], codes: &mut [u64]) -> ListAnswe
     ensures codes_after { codes.new ≡ given (listing_refusal text.now (length codes.old)) (codes_in text.now codes.old) codes.old }
 {
     match listing::list(text, codes) {
-        Listed::Count(count) => ListAnswer {
+        Ok(count) => ListAnswer {
             refusal: 0,
             place: 0, // of a list
             count,
         },
-        Listed::Refused { refusal, place } => ListAnswer {
+        Err(Refused { refusal, place }) => ListAnswer {
             refusal,
             place,
             count: 0, // of a list that is refused
@@ -579,8 +565,8 @@ pub extern "C" fn jgv_coverage_write(
 {
     let arrangement = Arrangement { north: n, south: s }; // `write` tests it
     match writing::write(version, depth, arrangement, codes, text) {
-        Written::Length(length) => LengthAnswer { refusal: 0, length },
-        Written::Refused(refusal) => LengthAnswer {
+        Ok(length) => LengthAnswer { refusal: 0, length },
+        Err(refusal) => LengthAnswer {
             refusal,
             length: 0, // of a text that is refused
         },
@@ -593,13 +579,13 @@ pub extern "C" fn jgv_coverage_ask(text: &[u8], code: u64) -> AskAnswer
     ensures { result ≡ ask_numbers (asked (ask_refusal text.now code) text.now code) }
 {
     match asking::ask(text, code) {
-        Asked::Answer { covered, settled } => AskAnswer {
+        Ok(Asked { covered, settled }) => AskAnswer {
             refusal: 0,
             place: 0,
             covered: as_number(covered),
             settled,
         },
-        Asked::Refused { refusal, place } => AskAnswer {
+        Err(Refused { refusal, place }) => AskAnswer {
             refusal,
             place,
             covered: 0, // of a question that is refused
@@ -616,12 +602,12 @@ pub extern "C" fn jgv_coverage_add(text: &mut [u8], length: u64, code: u64) -> A
     ensures text_after { text.new ≡ placed (add_refusal text.old length code) (text_with (take length text.old) (cell_of code)) text.old }
 {
     match adding::add(text, length as usize, code) {
-        Added::Length(length) => AddAnswer {
+        Ok(length) => AddAnswer {
             refusal: 0,
             place: 0, // of a text
             length: length as u64,
         },
-        Added::Refused { refusal, place } => AddAnswer {
+        Err(Refused { refusal, place }) => AddAnswer {
             refusal,
             place,
             length: 0, // of a cell that is refused
@@ -660,18 +646,18 @@ fn mark_answer(mark: Mark) -> MarkAnswer
 }
 
 // Four edges as numbers.
-fn frame_answer(framed: Framed) -> FrameAnswer
+fn frame_answer(framed: Result<Frame, u64>) -> FrameAnswer
     ensures { result ≡ frame_numbers framed }
 {
     match framed {
-        Framed::Edges(frame) => FrameAnswer {
+        Ok(frame) => FrameAnswer {
             refusal: 0,
             left: frame.left,
             bottom: frame.bottom,
             right: frame.right,
             top: frame.top,
         },
-        Framed::Refused(refusal) => FrameAnswer {
+        Err(refusal) => FrameAnswer {
             refusal,
             left: 0.0, // of no frame
             bottom: 0.0, // and no bottom
@@ -783,21 +769,17 @@ pub extern "C" fn jgv_coverage_compare(
     ensures boths_after { lists firsts.new seconds.new boths.new ≡ given (compare_refusal first.now second.now (lists firsts.old seconds.old boths.old)) (with_codes (shared_codes first.now second.now) (lists firsts.old seconds.old boths.old)) (lists firsts.old seconds.old boths.old) }
 {
     match comparing::compare(first, second, firsts, seconds, boths) {
-        Compared::Listings {
-            first,
-            second,
-            both,
-        } => CompareAnswer {
+        Ok(compared) => CompareAnswer {
             refusal: 0,
             place: 0, // of two texts
-            first_cells: first.count,
-            second_cells: second.count,
-            both_cells: both.count,
-            first_size: first.size,
-            second_size: second.size,
-            both_size: both.size,
+            first_cells: compared.first.count,
+            second_cells: compared.second.count,
+            both_cells: compared.both.count,
+            first_size: compared.first.size,
+            second_size: compared.second.size,
+            both_size: compared.both.size,
         },
-        Compared::Refused { refusal, place } => CompareAnswer {
+        Err(Refused { refusal, place }) => CompareAnswer {
             refusal,
             place,
             first_cells: 0,
@@ -844,12 +826,12 @@ pub extern "C" fn jgv_sheet_write(text: &[u8], sheet: &mut [u8]) -> SheetLengthA
     ensures sheet_after { sheet.new ≡ given (sheet_refusal text.now (length sheet.old)) (sheet_in text.now sheet.old) sheet.old }
 {
     match sheet::write(text, sheet) {
-        SheetWritten::Length(length) => SheetLengthAnswer {
+        Ok(length) => SheetLengthAnswer {
             refusal: 0,
             place: 0, // of a sheet
             length,
         },
-        SheetWritten::Refused { refusal, place } => SheetLengthAnswer {
+        Err(Refused { refusal, place }) => SheetLengthAnswer {
             refusal,
             place,
             length: 0, // of a sheet that is refused
@@ -870,13 +852,13 @@ pub extern "C" fn jgv_coverage_rescue(
     ensures changed_after { changed.new ≡ given (rescue_refusal text.now (length proper.old) (length changed.old)) (in_front (flat (changes_of text.now)) changed.old) changed.old }
 {
     match rescue::rescue(text, proper, changed) {
-        Rescued::Done { length, changes } => RescueAnswer {
+        Ok(Rescued { length, changes }) => RescueAnswer {
             refusal: 0,
             place: 0, // of a rescue
             length,
             changes,
         },
-        Rescued::Refused { refusal, place } => RescueAnswer {
+        Err(Refused { refusal, place }) => RescueAnswer {
             refusal,
             place,
             length: 0, // of a rescue that is refused
@@ -892,14 +874,14 @@ pub extern "C" fn jgv_summary(text: &[u8]) -> SummaryAnswer
 {
     let mut counters = [0u64; 486];
     match summary::summarize(text, &mut counters) {
-        Summarized::Kept { north, south } => SummaryAnswer {
+        Ok(Arrangement { north, south }) => SummaryAnswer {
             refusal: 0,
             place: 0, // of a summary
             n: north,
             s: south,
             counters,
         },
-        Summarized::Refused { refusal, place } => SummaryAnswer {
+        Err(Refused { refusal, place }) => SummaryAnswer {
             refusal,
             place,
             n: 0, // of a text that is not summed up
@@ -922,11 +904,11 @@ pub extern "C" fn jgv_summary_ask(
 {
     let kept = Arrangement { north: n, south: s }; // `question` tests it
     match summary::question(kept, counters, code) {
-        Questioned::Answer(covered) => SummaryAskAnswer {
+        Ok(covered) => SummaryAskAnswer {
             refusal: 0,
             covered: as_number(covered),
         },
-        Questioned::Refused(refusal) => SummaryAskAnswer {
+        Err(refusal) => SummaryAskAnswer {
             refusal,
             covered: 0, // by counters that are not looked at
         },

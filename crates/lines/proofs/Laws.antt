@@ -1,31 +1,16 @@
--- Bytes stored one by one behind those kept, and the next line feed of a part. Assumes nothing.
+-- Bytes stored behind those kept, as many as there is room for, and the next line feed of a part. Assumes nothing.
 use mathlib.Core.Path.{◌≡◌, refl, sym, ap, ap₂, ◌∙◌}
 use mathlib.Core.Logic.{◌⊎◌, ⊎_elim}
 use mathlib.Core.Bool.{Bool, true, false}
-use mathlib.Core.List.{List, [], ◌∷◌, ◌++◌, append_assoc}
+use mathlib.Core.List.{List, [], ◌∷◌, ◌++◌}
 use Prim.Native.Nat.{ℕ, zero, suc, ◌+◌, ◌-◌, ◌≤◌, ◌<◌}
-use native.Mathlib.Numerals.{add-one}
 use native.Mathlib.Omega.{arith}
 use lib.Dec.{eqb}
-use lib.ListN.{length, take, drop, get_or, set, length-drop}
-use lib.Seq.{take_all, take-take, take-suc, take-suc-set, take-append-add, get_or-drop, drop-drop}
+use lib.ListN.{length, take, drop, get_or, length-drop}
+use lib.Seq.{take_all, take-take, take-append-add, drop-drop}
 use borrow.Author.Tests.{eqb-true, eqb-false}
 use Rattle.lines.specs.Find.{index_of, index_after}
 use Rattle.lines.specs.Lines.{Unended}
-
--- one byte more
-pub store-more :
-    (front room part : List ℕ) (kept at i : ℕ) → take (kept + i) room ≡ front ++ take i (drop at part) → kept + i < length room → at + i < length part →
-    take (kept + (i + 1)) (set room (kept + i) (get_or part (at + i) 0)) ≡ front ++ take (i + 1) (drop at part)
-store-more front room part kept at i e h k =
-    let b : ℕ = get_or part (at + i) 0 in
-    let n : kept + (i + 1) ≡ suc (kept + i) = omega arith in
-    let d : length (drop at part) ≡ length part - at = length-drop at part in
-    let more : take (suc i) (drop at part) ≡ take i (drop at part) ++ (b ∷ []) =
-    take-suc (drop at part) i 0 (omega arith) ∙ ap (λ (x : ℕ). take i (drop at part) ++ (x ∷ [])) (get_or-drop at part i 0) in
-    ap (λ (j : ℕ). take j (set room (kept + i) b)) n ∙ take-suc-set room (kept + i) b h ∙ ap (λ (l : List ℕ). l ++ (b ∷ [])) e
-    ∙ append_assoc front (take i (drop at part)) (b ∷ []) ∙ ap (λ (l : List ℕ). front ++ l) (sym more)
-    ∙ ap (λ (j : ℕ). front ++ take j (drop at part)) (sym (add-one i))
 
 length-take-most : (n : ℕ) (xs : List ℕ) → length (take n xs) ≤ n
 length-take-most zero xs = omega arith

@@ -26,11 +26,7 @@ fn put(part: &[u8], at: usize, end: usize, room: &mut [u8], kept: usize) -> usiz
     ensures upper_bound { (result ≤ length room.old) × (length room.new ≡ length room.old) }
 {
     let count = least(end - at, room.len() - kept);
-    let mut i: usize = 0;
-    while i < count {
-        room[kept + i] = part[at + i];
-        i = i + 1;
-    }
+    room[kept..kept + count].copy_from_slice(&part[at..at + count]);
     kept + count
 }
 
@@ -40,14 +36,12 @@ fn find(part: &[u8], at: usize, byte: u8) -> usize
     ensures place { result ≡ at + index_of byte (drop at part.now) }
     ensures upper_bound { result ≤ length part.now }
 {
-    let mut i = at;
-    while i < part.len() {
+    for i in at..part.len() {
         if part[i] == byte {
             return i;
         }
-        i = i + 1;
     }
-    i
+    part.len()
 }
 
 // The rest of the line at hand, from `at` on in a part; `kept` bytes of it came before and stand in the room.

@@ -8,14 +8,8 @@ ghost use Rattle.listing.specs.List.{codes_of, codes_in, listing_refusal, listed
 
 use cell::Arrangement;
 use reader::Checked;
+use reading::Refused;
 use walk::Spot;
-
-// How many codes were listed; or the refusal, with the place for 9.
-#[derive(Clone, Copy)]
-pub enum Listed {
-    Count(u64),
-    Refused { refusal: u64, place: u64 },
-}
 
 // "the codes of the whole cells in rising order", in the heading's arrangement, to the front of `codes`. The text's body starts at `body`.
 // A letter or digit and its `(` are gone over in one turn.
@@ -30,6 +24,7 @@ fn put_codes(text: &[u8], arrangement: Arrangement, body: usize, codes: &mut [u6
     };
     let mut count: usize = 0;
     let mut i: usize = body;
+    // by hand: a turn takes one byte or two
     while i < text.len() {
         spot = spot.after(text[i]);
         let whole = walk::whole_at(text, i);
@@ -47,29 +42,19 @@ fn put_codes(text: &[u8], arrangement: Arrangement, body: usize, codes: &mut [u6
 }
 
 // The codes of any bytes' whole cells: 13, 10, 9 where they are no text, 8 where the room is shorter than the list.
-pub fn list(text: &[u8], codes: &mut [u64]) -> Listed
+pub fn list(text: &[u8], codes: &mut [u64]) -> Result<u64, Refused>
     ensures value { result ≡ listed (listing_refusal text.now (length codes.old)) text.now }
     ensures codes_after { codes.new ≡ given (listing_refusal text.now (length codes.old)) (codes_in text.now codes.old) codes.old }
 {
-    match reader::check(text) {
-        Checked::Refused { refusal, place } => Listed::Refused { refusal, place },
-        Checked::Text {
-            profile: _,
-            north,
-            south,
-            cells,
-            size: _,
-            body,
-        } => {
-            if (codes.len() as u64) < cells {
-                return Listed::Refused {
-                    refusal: 8,
-                    place: 0,
-                };
-            }
-            let arrangement = Arrangement { north, south };
-            put_codes(text, arrangement, body, codes);
-            Listed::Count(cells)
-        }
+    let checked = reader::check(text)?;
+    let cells = checked.cells;
+    if (codes.len() as u64) < cells {
+        return Err(Refused {
+            refusal: 8,
+            place: 0,
+        });
     }
+    let arrangement = checked.arrangement;
+    put_codes(text, arrangement, checked.body, codes);
+    Ok(cells)
 }

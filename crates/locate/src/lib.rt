@@ -17,7 +17,7 @@ ghost use Rattle.locate.specs.Internal.Place.{arranged};
 ghost use Rattle.locate.specs.Internal.Parts.{place_at, east_part};
 
 use cell::{Arrangement, Cell};
-use code::{Coded, FACE_SIZE};
+use code::FACE_SIZE;
 use root::Axis;
 use ternary::FINEST_ROWS;
 
@@ -390,12 +390,17 @@ pub fn fix_refusal(arrangement: Arrangement, resolution: u64, longitude: i64, z:
 }
 
 // The code of the cell of that resolution in which a fix lies, or the refusal.
-pub fn coded_fix(arrangement: Arrangement, resolution: u64, longitude: i64, z: i64) -> Coded
+pub fn coded_fix(
+    arrangement: Arrangement,
+    resolution: u64,
+    longitude: i64,
+    z: i64,
+) -> Result<u64, u64>
     ensures { result ≡ found_code arrangement (found (fix_refusal arrangement resolution longitude z) (fix_cell arrangement resolution longitude z)) }
 {
     let refusal = fix_refusal(arrangement, resolution, longitude, z);
     if refusal != 0 {
-        return Coded::Refused(refusal);
+        return Err(refusal);
     }
-    Coded::Code(fix_code(arrangement, resolution, longitude, z))
+    Ok(fix_code(arrangement, resolution, longitude, z))
 }

@@ -5,3 +5,4 @@ pub mod Order
 pub mod Refusal
 pub mod Stores
 pub mod Table
+pub mod Answer

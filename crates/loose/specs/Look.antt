@@ -1,12 +1,11 @@
 -- What a looser text is refused for (02, W-206): "Refusals: 9 for bodies outside the looser form, its place read from that form"; 13 and 10 as in
 -- reading. Laws/Look shows when each is given. Assumes nothing.
-use Rattle.std.specs.Prelude.{Bool, false, ◌&&◌, not, cond, List, ℕ, zero, suc, ◌-◌, leb, ltb, eqb, length, drop, get_or}
+use Rattle.std.specs.Prelude.{Bool, false, ◌&&◌, not, cond, List, ℕ, zero, suc, ◌-◌, leb, ltb, eqb, length, drop, get_or, Err, Ok, Result}
+use Rattle.reading.specs.declared.Refused.{Refused}
 use Rattle.logic.specs.Refusal.{refuse, ◌otherwise◌}
 use Rattle.cell.specs.declared.Arrangement.{Arrangement}
 use Rattle.loose.specs.LooseText.{LooseAs}
 use Rattle.loose.specs.LooseScan.{lead_one, scan, depth, loose_nodes, loose_place}
-use Rattle.loose.specs.declared.Looked.{Looked}
-use Rattle.loose.specs.declared.Looked.TheVariants.{Loose, Refused}
 
 -- n and s of its heading
 abbrev pub loose_north : List ℕ → ℕ
@@ -39,6 +38,6 @@ abbrev pub place_with : ℕ → List ℕ → ℕ
 place_with r t = cond (eqb r 9) (loose_place t) 0
 
 -- a looser text and its arrangement; or the refusal, with the place
-unfoldable pub looked : ℕ → List ℕ → Looked
-looked zero t = Loose (loose_arrangement t)
-looked (suc r) t = Refused (suc r) (place_with (suc r) t)
+unfoldable pub looked : ℕ → List ℕ → Result Arrangement Refused
+looked zero t = Ok (loose_arrangement t)
+looked (suc r) t = Err (record { refusal = suc r; place = place_with (suc r) t })

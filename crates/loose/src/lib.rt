@@ -1,12 +1,12 @@
 // The looser text of a hand-edited body: whether bytes are one, and the place where they are not.
 #![tactic(auto)]
 
-ghost use Rattle.std.specs.Prelude.{◌≡◌, false, ◌+◌, ◌≤◌, ◌<◌, length, drop};
+ghost use Rattle.std.specs.Prelude.{◌≡◌, false, ◌+◌, ◌≤◌, ◌<◌, length, drop, Err};
 ghost use Rattle.loose.specs.LooseScan.{lead_one, is_name, scan, depth};
 ghost use Rattle.loose.specs.Look.{loose_refusal, looked};
-ghost use Rattle.loose.specs.declared.Looked.TheVariants.{Refused as RefusedWith};
 
 use cell::Arrangement;
+use reading::Refused;
 
 // The place where the scan of a body stops, and how many lists are open there.
 #[derive(Clone, Copy)]
@@ -38,40 +38,36 @@ fn stop_of(text: &[u8], from: usize) -> Stop
 {
     let mut lists: u64 = 0;
     let mut named = false;
-    let mut i = from;
-    let place = 'scan: loop {
-        if i >= text.len() {
-            break 'scan i;
-        }
+    for i in from..text.len() {
         let b = text[i];
         if b == b'(' {
             if !named {
-                break 'scan i;
+                return Stop { place: i, lists };
             }
             if lists >= 15 {
-                break 'scan i;
+                return Stop { place: i, lists };
             }
             lists = lists + 1;
             named = false;
-            i = i + 1;
-            continue 'scan;
+            continue;
         }
         if b == b')' {
             if lists == 0 {
-                break 'scan i;
+                return Stop { place: i, lists };
             }
             lists = lists - 1;
             named = false;
-            i = i + 1;
-            continue 'scan;
+            continue;
         }
         if !is_name(lists, b) {
-            break 'scan i;
+            return Stop { place: i, lists };
         }
         named = true;
-        i = i + 1;
-    };
-    Stop { place, lists }
+    }
+    Stop {
+        place: text.len(),
+        lists,
+    }
 }
 
 // The least and the greatest byte at each place of the heading of version 1.
@@ -86,21 +82,14 @@ fn heading(text: &[u8]) -> usize
     reading::lead_in(text, &LEAST, &GREATEST)
 }
 
-// A looser text and its arrangement; or the refusal, with the place for 9.
-#[derive(Clone, Copy)]
-pub enum Looked {
-    Loose(Arrangement),
-    Refused { refusal: u64, place: u64 },
-}
-
-fn refused(refusal: u64, place: u64) -> Looked
-    ensures { result ≡ RefusedWith refusal place }
+fn refused(refusal: u64, place: u64) -> Result<Arrangement, Refused>
+    ensures { result ≡ Err (record { refusal = refusal; place = place }) }
 {
-    Looked::Refused { refusal, place }
+    Err(Refused { refusal, place })
 }
 
 // The answer where only `right` bytes of the heading are right: 10 "five bytes or more, mark right, version not 1", else 9.
-fn look_heading(text: &[u8], right: usize) -> Looked
+fn look_heading(text: &[u8], right: usize) -> Result<Arrangement, Refused>
     requires { (length text.now ≤ 65536) × (right ≡ lead_one text.now) × (right < 7) }
     ensures { result ≡ looked (loose_refusal text.now) text.now }
 {
@@ -117,7 +106,7 @@ fn look_heading(text: &[u8], right: usize) -> Looked
 }
 
 // The answer where the heading is right.
-fn look_body(text: &[u8]) -> Looked
+fn look_body(text: &[u8]) -> Result<Arrangement, Refused>
     requires { (length text.now ≤ 65536) × (7 ≤ lead_one text.now) }
     ensures { result ≡ looked (loose_refusal text.now) text.now }
 {
@@ -132,11 +121,11 @@ fn look_body(text: &[u8]) -> Looked
     }
     let north = (text[5] - b'0') as u64;
     let south = (text[6] - b'0') as u64;
-    Looked::Loose(Arrangement { north, south })
+    Ok(Arrangement { north, south })
 }
 
 // Whether bytes are a looser text: 13, 10 or 9 where they are not.
-pub fn look(text: &[u8]) -> Looked
+pub fn look(text: &[u8]) -> Result<Arrangement, Refused>
     ensures { result ≡ looked (loose_refusal text.now) text.now }
 {
     if text.len() > reading::LONGEST {

@@ -1,4 +1,5 @@
 -- Reading a name's digits from the left, and writing them from the right. Assumes nothing.
+use Rattle.std.specs.Prelude.{Err, Ok}
 use mathlib.Core.Path.{◌≡◌, refl, sym, ap, ap₂, ◌∙◌}
 use mathlib.Core.Bool.{Bool, true, false, ◌&&◌, not}
 use Prim.Native.Nat.{ℕ, zero, suc, ◌+◌, ◌-◌, ◌*◌, ◌/◌, ◌%◌, ◌^◌, ◌≤◌, ◌<◌}
@@ -13,11 +14,9 @@ use borrow.Author.Tests.{lt-leb, le-leb, lt-ltb, le-ltb}
 use Rattle.logic.specs.Refusal.{refuse, given}
 use Rattle.logic.specs.Laws.Refusal.{stops, passes}
 use Rattle.ternary.specs.Digits.{value, digits}
-use Rattle.code.specs.declared.Coded.TheVariants.{Code, Refused}
 use Rattle.code.specs.Code.{coded, code_refusal, cell_of}
 use Rattle.name.specs.Name.{is_digit, all_digits, digit_bytes, first_letter, name_of, named, code_name_refusal}
 use Rattle.name.specs.Laws.Name.{length-name}
-use Rattle.name.specs.declared.Named.TheVariants as Named-as
 
 -- ---- reading
 
@@ -67,13 +66,13 @@ module _ (s : List ℕ) (i : ℕ) (h : i < length s) where
   read-on p = sym (ap (read p) here)
 
 -- the answers of a reader
-pub no_digit : (t : Bool) (x : ℕ) → t ≡ false → Refused 3 ≡ coded (refuse (not t) 3) x
+pub no_digit : (t : Bool) (x : ℕ) → t ≡ false → Err 3 ≡ coded (refuse (not t) 3) x
 unfolding coded
 no_digit t x e = sym (ap (λ (b : Bool). coded (refuse (not b) 3) x) e)
 
-pub all_digits_lem : (t : Bool) {x y : ℕ} → t ≡ true → x ≡ y → Code x ≡ coded (refuse (not t) 3) y
+pub all_digits_lem : (t : Bool) {x y : ℕ} → t ≡ true → x ≡ y → Ok x ≡ coded (refuse (not t) 3) y
 unfolding coded
-all_digits_lem t {y = y} e h = ap Code h ∙ sym (ap (λ (b : Bool). coded (refuse (not b) 3) y) e)
+all_digits_lem t {y = y} e h = ap Ok h ∙ sym (ap (λ (b : Bool). coded (refuse (not b) 3) y) e)
 
 -- ---- writing
 
@@ -139,23 +138,23 @@ module _ (code : ℕ) (room : ℕ) where
       passes _ e ∙ ap (λ (t : Bool). refuse t 8) (le-ltb room (length (name_of (cell_of code))) (omega arith))
 
 -- a refusal leaves the lent bytes as they were
-pub nothing_written : {q : ℕ} (r n : ℕ) (x s : List ℕ) → q ≡ suc r → (Named-as.Refused (suc r) ≡ named q n) × (s ≡ given q x s)
+pub nothing_written : {q : ℕ} (r n : ℕ) (x s : List ℕ) → q ≡ suc r → (Err (suc r) ≡ named q n) × (s ≡ given q x s)
 unfolding named given
 nothing_written r n x s e = (sym (ap (λ (y : ℕ). named y n) e), sym (ap (λ (y : ℕ). given y x s) e))
 
-pub name-written : {q n m : ℕ} {t x : List ℕ} (s : List ℕ) → q ≡ 0 → n ≡ m → t ≡ x → (Named-as.Length n ≡ named q m) × (t ≡ given q x s)
+pub name-written : {q n m : ℕ} {t x : List ℕ} (s : List ℕ) → q ≡ 0 → n ≡ m → t ≡ x → (Ok n ≡ named q m) × (t ≡ given q x s)
 unfolding named given
-name-written {m = m} {x = x} s e h k = (ap Named-as.Length h ∙ sym (ap (λ (y : ℕ). named y m) e), k ∙ sym (ap (λ (y : ℕ). given y x s) e))
+name-written {m = m} {x = x} s e h k = (ap Ok h ∙ sym (ap (λ (y : ℕ). named y m) e), k ∙ sym (ap (λ (y : ℕ). given y x s) e))
 
 -- ---- the answers of `name_code`
 
 -- what the reader of the digits said
-pub read-bad : (t : Bool) (v x : ℕ) → Refused x ≡ coded (refuse (not t) 3) v → t ≡ false
+pub read-bad : (t : Bool) (v x : ℕ) → Err x ≡ coded (refuse (not t) 3) v → t ≡ false
 unfolding coded
 read-bad true v x e = let k : ◌≡◌ {A = ℕ} 0 1 = cc in absurd (omega arith)
 read-bad false v x e = refl
 
-pub read-good : (t : Bool) (v x : ℕ) → Code x ≡ coded (refuse (not t) 3) v → (t ≡ true) × (x ≡ v)
+pub read-good : (t : Bool) (v x : ℕ) → Ok x ≡ coded (refuse (not t) 3) v → (t ≡ true) × (x ≡ v)
 unfolding coded
 read-good true v x e = (refl, cc)
 read-good false v x e = let k : ◌≡◌ {A = ℕ} 0 1 = cc in absurd (omega arith)

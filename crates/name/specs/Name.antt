@@ -1,12 +1,10 @@
 -- The name of a cell (01 "Faces, rows, names, codes"). Bytes 78 to 83 are the letters N to S, 48 to 56 the digits 0 to 8. Assumes nothing.
-use Rattle.std.specs.Prelude.{◌≡◌, Bool, true, false, ◌&&◌, not, ℕ, zero, suc, ◌+◌, ◌-◌, ◌≤◌, List, [], ◌∷◌, ◌++◌, map, leb, ltb, length, drop, get_or}
+use Rattle.std.specs.Prelude.{◌≡◌, Bool, true, false, ◌&&◌, not, ℕ, zero, suc, ◌+◌, ◌-◌, ◌≤◌, List, [], ◌∷◌, ◌++◌, map, leb, ltb, length, drop, get_or, Err, Ok, Result}
 use Rattle.logic.specs.Refusal.{refuse, ◌otherwise◌}
 use Rattle.ternary.specs.Digits.{value}
 use Rattle.cell.specs.declared.Cell.{Cell}
 use Rattle.cell.specs.declared.Arrangement.{Arrangement}
 use Rattle.code.specs.Code.{digits_of, code_at, cell_of, code_refusal}
-use Rattle.name.specs.declared.Named.{Named}
-use Rattle.name.specs.declared.Named.TheVariants.{Length, Refused}
 
 abbrev pub digit_bytes : List ℕ → List ℕ
 digit_bytes ds = map (λ d. 48 + d) ds
@@ -55,18 +53,18 @@ name_in code bytes = name_of (cell_of code) ++ drop (length (name_of (cell_of co
 
 -- ---- the answer: a length, or the number of the refusal
 
-unfoldable pub named : ℕ → ℕ → Named
-named zero n = Length n
-named (suc r) n = Refused (suc r)
+unfoldable pub named : ℕ → ℕ → Result ℕ ℕ
+named zero n = Ok n
+named (suc r) n = Err (suc r)
 
 -- what each case stands for
-abbrev pub refusal_in : Named → ℕ
-refusal_in (Length n) = 0
-refusal_in (Refused r) = r
+abbrev pub refusal_in : Result ℕ ℕ → ℕ
+refusal_in (Ok n) = 0
+refusal_in (Err r) = r
 
-abbrev pub length_in : Named → ℕ
-length_in (Length n) = n
-length_in (Refused r) = 0
+abbrev pub length_in : Result ℕ ℕ → ℕ
+length_in (Ok n) = n
+length_in (Err r) = 0
 
 -- the form of a name: at most 16 bytes, a letter N to S, and digits 0 to 8
 pub record NameForm (bs : List ℕ) : Type 0 where

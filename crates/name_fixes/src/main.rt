@@ -6,15 +6,8 @@
 ghost use Rattle.std.specs.Prelude.{◌≤◌, length};
 ghost use Rattle.name_fixes.specs.Answers.{Answered, AllAnswered, LastWaits};
 
-use console::{Arguments, LineRead, Room};
+use console::LineRead;
 use flight::Setting;
-
-// How many bytes wait in front to be printed, or printing failed.
-#[derive(Clone, Copy)]
-enum Waiting {
-    Count(usize),
-    Failed,
-}
 
 // One line: its answer waits behind what waited before, or behind nothing where all of that was printed to make room.
 fn answer_line(
@@ -23,14 +16,14 @@ fn answer_line(
     line: &[u8],
     out: &mut [u8],
     waiting: usize,
-) -> Waiting
+) -> Option<usize>
     requires { (waiting ≤ length out.old) × (21 ≤ length out.old) }
     ensures { Answered setting line.now waiting out.old out.new result }
 {
-    let Room::From(start) = console::make_room(rt, out, waiting, 21) else {
-        return Waiting::Failed;
+    let Some(start) = console::make_room(rt, out, waiting, 21) else {
+        return None;
     };
-    Waiting::Count(report::put_answer(setting, line, out, start))
+    Some(report::put_answer(setting, line, out, start))
 }
 
 // All lines of the input. Where reading fails, the lines that ended before are answered. No input has so many lines.
@@ -40,7 +33,7 @@ fn answer_all(
     bytes: &mut [u8],
     room: &mut [u8],
     out: &mut [u8],
-) -> Waiting
+) -> Option<usize>
     requires { (43 ≤ length room.old) × (21 ≤ length out.old) }
     ensures all_answered { AllAnswered setting out.new result }
     ensures last_waits { LastWaits out.old out.new result }
@@ -48,17 +41,15 @@ fn answer_all(
     let mut from: usize = 0;
     let mut end: usize = 0;
     let mut waiting: usize = 0;
-    let mut turns = u64::MAX;
-    while turns > 0 {
+    for _ in 0..u64::MAX {
         match console::next_line(rt, b"name_fixes", bytes, from, end, room) {
             LineRead::Line {
                 length,
                 from: next,
                 end: stop,
             } => {
-                let Waiting::Count(count) = answer_line(rt, setting, &room[..length], out, waiting)
-                else {
-                    return Waiting::Failed;
+                let Some(count) = answer_line(rt, setting, &room[..length], out, waiting) else {
+                    return None;
                 };
                 waiting = count;
                 from = next;
@@ -67,17 +58,16 @@ fn answer_all(
             LineRead::Last { length } => {
                 return answer_line(rt, setting, &room[..length], out, waiting);
             }
-            LineRead::End => return Waiting::Count(waiting),
-            LineRead::Failed => return Waiting::Count(waiting),
+            LineRead::End => return Some(waiting),
+            LineRead::Failed => return Some(waiting),
         }
-        turns = turns - 1;
     }
-    Waiting::Count(waiting)
+    Some(waiting)
 }
 
 fn main(rt: HostRuntime) {
     let rt = &rt;
-    let Arguments::Good(setting) = console::given_setting(rt, b"name_fixes") else {
+    let Some(setting) = console::given_setting(rt, b"name_fixes") else {
         console::say(
             rt,
             b"usage: name_fixes n s resolution [eccentricity] < fixes > names\n       name_fixes settings FILE [REVISION] < fixes > names\n",
@@ -95,7 +85,7 @@ fn main(rt: HostRuntime) {
     let mut bytes = [0u8; 65536];
     let mut room = [0u8; 64];
     let mut out = [0u8; 65536];
-    let Waiting::Count(waiting) = answer_all(rt, setting, &mut bytes, &mut room, &mut out) else {
+    let Some(waiting) = answer_all(rt, setting, &mut bytes, &mut room, &mut out) else {
         return;
     };
     console::print_first(rt, &out, waiting);

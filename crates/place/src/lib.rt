@@ -87,39 +87,33 @@ pub fn place(text: &[u8], from: usize, level: Level, depth: u64) -> usize
     let mut whole = [0u8; 16];
     let mut k: usize = 0;
     let mut named = false;
-    let mut i: usize = from;
-    'scan: loop {
-        if i == text.len() {
-            break 'scan i;
-        }
+    for i in from..text.len() {
         let b = text[i];
         if b == b'(' {
             if !may_open(level, depth, k, lo[k], named) {
-                break 'scan i;
+                return i;
             }
             whole[k] = whole[k] - 1;
             k += 1;
             lo[k] = 0;
             whole[k] = 0;
             named = false;
-            i += 1;
-            continue 'scan;
+            continue;
         }
         if b == b')' {
             if !may_shut(k, lo[k], whole[k]) {
-                break 'scan i;
+                return i;
             }
             k -= 1;
             named = false;
-            i += 1;
-            continue 'scan;
+            continue;
         }
         if !may_stand(level, depth, k, lo[k], whole[k], b) {
-            break 'scan i;
+            return i;
         }
         lo[k] = number_of(level, k, b) + 1;
         whole[k] = whole[k] + 1;
         named = true;
-        i += 1;
     }
+    text.len()
 }

@@ -7,7 +7,7 @@ ghost use Rattle.cell.specs.Cell.{IsCell, IsArrangement, found};
 ghost use Rattle.plane.specs.Plane.{face_side, side_of, face_left, cell_at, square_of, nucleus_of, vertices_of, point_refusal, point_cell};
 ghost use Rattle.plane.specs.Internal.Depth.{depth_below, face_depth, left_in, depth_in, row_at, found_on_cap, found_on_belt, found_at};
 
-use cell::{Arrangement, Cell, Found};
+use cell::{Arrangement, Cell};
 
 // M, the side of a face.
 const FACE: u64 = 28_697_814;
@@ -190,39 +190,44 @@ fn cell_at(face: u64, resolution: u64, right: u64, down: u64) -> Cell
 }
 
 // The cell of N or S, whose left edge is `left`, or 7. The outer edges are not owned.
-fn cell_on_cap(face: u64, resolution: u64, left: u64, right: u64, down: u64) -> Found
+fn cell_on_cap(face: u64, resolution: u64, left: u64, right: u64, down: u64) -> Result<Cell, u64>
     requires resolution_bound { resolution ≤ 15 }
     requires left_bound { left ≤ 3 * face_side }
     ensures { result ≡ found_on_cap face resolution left right down }
 {
     if right <= left {
-        return Found::Refused(7);
+        return Err(7);
     }
     if right >= left + FACE {
-        return Found::Refused(7);
+        return Err(7);
     }
     if down < 1 {
-        return Found::Refused(7);
+        return Err(7);
     }
     if down >= FACE {
-        return Found::Refused(7);
+        return Err(7);
     }
-    Found::At(cell_at(face, resolution, right - left, down))
+    Ok(cell_at(face, resolution, right - left, down))
 }
 
 // The cell of O to R, or 7.
-fn cell_on_belt(resolution: u64, right: u64, down: u64) -> Found
+fn cell_on_belt(resolution: u64, right: u64, down: u64) -> Result<Cell, u64>
     requires { resolution ≤ 15 }
     ensures { result ≡ found_on_belt resolution right down }
 {
     if right >= 4 * FACE {
-        return Found::Refused(7);
+        return Err(7);
     }
-    Found::At(cell_at(1 + right / FACE, resolution, right % FACE, down))
+    Ok(cell_at(1 + right / FACE, resolution, right % FACE, down))
 }
 
 // The cell of a point so far right and so deep, or 7.
-fn cell_at_depth(arrangement: Arrangement, resolution: u64, right: u64, depth: u64) -> Found
+fn cell_at_depth(
+    arrangement: Arrangement,
+    resolution: u64,
+    right: u64,
+    depth: u64,
+) -> Result<Cell, u64>
     requires arrangement { IsArrangement arrangement }
     requires resolution_bound { resolution ≤ 15 }
     ensures { result ≡ found_at arrangement resolution right depth }
@@ -243,18 +248,18 @@ fn cell_at_depth(arrangement: Arrangement, resolution: u64, right: u64, depth: u
 }
 
 // The cell of that resolution that owns a point, or the refusal.
-pub fn point_cell(arrangement: Arrangement, resolution: u64, x: i64, y: i64) -> Found
+pub fn point_cell(arrangement: Arrangement, resolution: u64, x: i64, y: i64) -> Result<Cell, u64>
     ensures { result ≡ found (point_refusal arrangement resolution x y) (point_cell arrangement resolution x y) }
 {
     let refusal = arrangement.refusal();
     if refusal != 0 {
-        return Found::Refused(refusal);
+        return Err(refusal);
     }
     if resolution > 15 {
-        return Found::Refused(2);
+        return Err(2);
     }
     if signed::is_negative(x) {
-        return Found::Refused(7);
+        return Err(7);
     }
     cell_at_depth(
         arrangement,

@@ -1,4 +1,5 @@
 -- A planar number that the machine reads back from its bits, and refusals of marks and frames. Assumes nothing.
+use Rattle.std.specs.Prelude.{Err, Ok}
 use mathlib.Core.Path.{◌≡◌, refl, sym, ap, ◌∙◌, subst}
 use mathlib.Core.Bool.{Bool, true, false, not}
 use Prim.Native.Nat.{ℕ, zero, suc, ◌*◌, ◌^◌, ◌≤◌, ◌<◌}
@@ -20,7 +21,6 @@ use Rattle.metres.specs.Metres.{is_side, side_refusal}
 use Rattle.plotter.specs.declared.Frame.{Frame}
 use Rattle.plotter.specs.declared.Mark.{Mark}
 use Rattle.plotter.specs.declared.Mark.TheVariants.{Nothing}
-use Rattle.plotter.specs.declared.Framed.TheVariants.{Edges, Refused}
 use Rattle.plotter.specs.Plotter.{mark, framed}
 
 few : (x : ℤ) → nat_abs x ≤ 4 * 28697814 → mag x < 2 ^ 63
@@ -44,18 +44,18 @@ side-passes side r e = passes r (ap (λ (b : Bool). refuse (not b) 19) e)
 
 -- ---- what each case stands for
 
-pub framed-edges : {r : ℕ} {f g : Frame} → r ≡ 0 → f ≡ g → Edges f ≡ framed r g
-framed-edges {r} {f} {g} e h = ap Edges h ∙ sym (ap (λ (q : ℕ). framed q g) e)
+pub framed-edges : {r : ℕ} {f g : Frame} → r ≡ 0 → f ≡ g → Ok f ≡ framed r g
+framed-edges {r} {f} {g} e h = ap Ok h ∙ sym (ap (λ (q : ℕ). framed q g) e)
 
-pub framed-refused : (q r : ℕ) (g : Frame) → q ≡ r → (r ≡ 0 → ⊥) → Refused q ≡ framed r g
+pub framed-refused : (q r : ℕ) (g : Frame) → q ≡ r → (r ≡ 0 → ⊥) → Err q ≡ framed r g
 framed-refused q zero g e n = absurd (n refl)
-framed-refused q (suc r) g e n = ap Refused e
+framed-refused q (suc r) g e n = ap Err e
 
-pub edges-framed : (r : ℕ) {f : Frame} (g : Frame) → Edges f ≡ framed r g → (r ≡ 0) × (f ≡ g)
+pub edges-framed : (r : ℕ) {f : Frame} (g : Frame) → Ok f ≡ framed r g → (r ≡ 0) × (f ≡ g)
 edges-framed zero g e = (refl, cc)
 edges-framed (suc r) g e = let k : ◌≡◌ {A = ℕ} 0 1 = cc in absurd (omega arith)
 
-pub refused-framed : (r : ℕ) {q : ℕ} (g : Frame) → Refused q ≡ framed r g → (q ≡ r) × (r ≡ 0 → ⊥)
+pub refused-framed : (r : ℕ) {q : ℕ} (g : Frame) → Err q ≡ framed r g → (q ≡ r) × (r ≡ 0 → ⊥)
 refused-framed zero g e = let k : ◌≡◌ {A = ℕ} 0 1 = cc in absurd (omega arith)
 refused-framed (suc r) g e = (cc, λ z. omega arith)
 

@@ -1,4 +1,5 @@
 -- A frame that grows by one code after the other, and the frame around the cells of codes. Assumes nothing.
+use Rattle.std.specs.Prelude.{Err, Ok}
 use mathlib.Core.Path.{◌≡◌, refl, sym, ap}
 use mathlib.Core.Bool.{Bool, true, false, not}
 use mathlib.Core.List.{List, [], ◌∷◌}
@@ -11,7 +12,6 @@ use lib.Ieee.{Float}
 use Rattle.logic.specs.Refusal.{refuse}
 use Rattle.metres.specs.Metres.{is_side, side_refusal}
 use Rattle.plotter.specs.declared.Frame.{Frame}
-use Rattle.plotter.specs.declared.Framed.TheVariants.{Edges, Refused}
 use Rattle.plotter.specs.declared.Around.TheVariants as around-as
 use Rattle.plotter.specs.Plotter.{first_frame, grown_frame, grown_by, as_around, no_cells, frame_around}
 
@@ -24,11 +24,11 @@ behind-first codes = take_all (length codes - 1) (drop 1 codes) (omega (arith, l
 
 -- by the next code, and then by the rest
 pub grown-at : (side : Float) (f : Frame) (codes : List ℕ) (i : ℕ) → i < length codes →
-    grown_by side (Edges f) (drop i codes) ≡ grown_by side (grown_frame side f (get_or codes i 0)) (drop (i + 1) codes)
-grown-at side f codes i h = ap (grown_by side (Edges f)) (drop_code codes i h)
+    grown_by side (Ok f) (drop i codes) ≡ grown_by side (grown_frame side f (get_or codes i 0)) (drop (i + 1) codes)
+grown-at side f codes i h = ap (grown_by side (Ok f)) (drop_code codes i h)
 
 -- a refusal stays
-pub refused-stays : (side : Float) (r : ℕ) (codes : List ℕ) → grown_by side (Refused r) codes ≡ Refused r
+pub refused-stays : (side : Float) (r : ℕ) (codes : List ℕ) → grown_by side (Err r) codes ≡ Err r
 refused-stays side r [] = refl
 refused-stays side r (code ∷ codes) = refused-stays side r codes
 

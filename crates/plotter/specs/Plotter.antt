@@ -1,5 +1,5 @@
 -- Marks and frames for the plotter (02, W-214): what is answered of a planar point and of a code, and how a frame grows. Assumes nothing.
-use Rattle.std.specs.Prelude.{◌≡◌, Bool, true, ◌||◌, cond, List, [], ◌∷◌, ℕ, zero, suc, ℤ, Float}
+use Rattle.std.specs.Prelude.{◌≡◌, Bool, true, ◌||◌, cond, List, [], ◌∷◌, ℕ, zero, suc, ℤ, Float, Err, Ok, Result}
 use Rattle.std.specs.Float.Ieee.{lt, le, is_nan}
 use Rattle.logic.specs.Lists.{Any}
 use Rattle.logic.specs.Refusal.{refuse, ◌otherwise◌}
@@ -11,8 +11,6 @@ use Rattle.metres.specs.Metres.{side_refusal, metres_of}
 use Rattle.plotter.specs.declared.Frame.{Frame}
 use Rattle.plotter.specs.declared.Mark.{Mark}
 use Rattle.plotter.specs.declared.Mark.TheVariants.{Point, Box, Nothing}
-use Rattle.plotter.specs.declared.Framed.{Framed}
-use Rattle.plotter.specs.declared.Framed.TheVariants.{Edges, Refused}
 use Rattle.plotter.specs.declared.Around.{Around}
 use Rattle.plotter.specs.declared.Around.TheVariants as around-as
 
@@ -55,12 +53,12 @@ mark_of_code side code = mark (box_refusal side code) (box_mark (box_in side cod
 
 -- ---- frames
 
-abbrev pub framed : (refusal : ℕ) → Frame → Framed
-framed zero f = Edges f
-framed (suc r) f = Refused (suc r)
+abbrev pub framed : (refusal : ℕ) → Frame → Result Frame ℕ
+framed zero f = Ok f
+framed (suc r) f = Err (suc r)
 
 -- "The first frame is a cell's box."
-unfoldable pub first_frame : Float → (code : ℕ) → Framed
+unfoldable pub first_frame : Float → (code : ℕ) → Result Frame ℕ
 unfolding box_refusal box_of
 first_frame side code = framed (box_refusal side code) (box_in side code)
 
@@ -84,7 +82,7 @@ unfoldable pub grow_refusal : Float → Frame → (code : ℕ) → ℕ
 unfolding has_nan
 grow_refusal side f code = side_refusal side otherwise refuse (has_nan f) 19 otherwise code_refusal code
 
-unfoldable pub grown_frame : Float → Frame → (code : ℕ) → Framed
+unfoldable pub grown_frame : Float → Frame → (code : ℕ) → Result Frame ℕ
 unfolding grow_refusal grown box_of
 grown_frame side f code = framed (grow_refusal side f code) (grown f (box_in side code))
 
@@ -95,17 +93,17 @@ frame_over f (g ∷ gs) = frame_over (grown f g) gs
 
 -- ---- the frame around the cells of codes: the first one's, grown by each further one; none where there is no code
 
-abbrev pub further : Float → Framed → (code : ℕ) → Framed
-further side (Edges f) code = grown_frame side f code
-further side (Refused r) code = Refused r
+abbrev pub further : Float → Result Frame ℕ → (code : ℕ) → Result Frame ℕ
+further side (Ok f) code = grown_frame side f code
+further side (Err r) code = Err r
 
-abbrev pub grown_by : Float → Framed → List ℕ → Framed
+abbrev pub grown_by : Float → Result Frame ℕ → List ℕ → Result Frame ℕ
 grown_by side f [] = f
 grown_by side f (code ∷ codes) = grown_by side (further side f code) codes
 
-abbrev pub as_around : Framed → Around
-as_around (Edges f) = around-as.Edges f
-as_around (Refused r) = around-as.Refused r
+abbrev pub as_around : Result Frame ℕ → Around
+as_around (Ok f) = around-as.Edges f
+as_around (Err r) = around-as.Refused r
 
 abbrev pub no_cells : (refusal : ℕ) → Around
 no_cells zero = around-as.Nothing

@@ -1,13 +1,12 @@
 // Marks and frames for the plotter, in metres.
 #![tactic(auto)]
 
-ghost use Rattle.std.specs.Prelude.{◌≡◌, true};
+ghost use Rattle.std.specs.Prelude.{◌≡◌, true, Ok};
 ghost use Rattle.std.specs.Float.Ieee.{is_nan};
 ghost use Rattle.cell.specs.Cell.{IsCell, IsArrangement};
-ghost use Rattle.plotter.specs.declared.Framed.TheVariants.{Edges};
 ghost use Rattle.plotter.specs.Plotter.{mark_of_point, box_of, mark_of_code, first_frame, lower, higher, grown, has_nan, grown_frame, grown_by, as_around, frame_around};
 
-use cell::{Arrangement, Cell, Found};
+use cell::{Arrangement, Cell};
 
 // "either a point in metres, a box with its four edges, or nothing with the refusal": x and y; left, bottom, right and top.
 #[derive(Clone, Copy)]
@@ -27,13 +26,6 @@ pub struct Frame {
     pub top: f64,
 }
 
-// A frame, or the refusal.
-#[derive(Clone, Copy)]
-pub enum Framed {
-    Edges(Frame),
-    Refused(u64),
-}
-
 // The frame around some cells: none where there are no cells.
 #[derive(Clone, Copy)]
 pub enum Around {
@@ -50,8 +42,8 @@ pub fn mark_point(side: f64, arrangement: Arrangement, x: i64, y: i64) -> Mark
         return Mark::Nothing(19); // before 5 and 7
     }
     match plane::point_cell(arrangement, 0, x, y) {
-        Found::At(_) => Mark::Point(metres::metres_of(x, side), metres::metres_of(y, side)),
-        Found::Refused(refusal) => Mark::Nothing(refusal),
+        Ok(_) => Mark::Point(metres::metres_of(x, side), metres::metres_of(y, side)),
+        Err(refusal) => Mark::Nothing(refusal),
     }
 }
 
@@ -73,15 +65,15 @@ fn box_of(side: f64, arrangement: Arrangement, cell: Cell) -> Frame
 }
 
 // The box of a code's cell: 19 of the side, then 4.
-pub fn frame_first(side: f64, code: u64) -> Framed
+pub fn frame_first(side: f64, code: u64) -> Result<Frame, u64>
     ensures { result ≡ first_frame side code }
 {
     if !metres::is_side(side) {
-        return Framed::Refused(19); // before 4
+        return Err(19); // before 4
     }
     match code::cell_of(code) {
-        Found::At(cell) => Framed::Edges(box_of(side, code::arrangement_of(code), cell)),
-        Found::Refused(refusal) => Framed::Refused(refusal), // 4
+        Ok(cell) => Ok(box_of(side, code::arrangement_of(code), cell)),
+        Err(refusal) => Err(refusal), // 4
     }
 }
 
@@ -90,8 +82,8 @@ pub fn mark_code(side: f64, code: u64) -> Mark
     ensures { result ≡ mark_of_code side code }
 {
     match frame_first(side, code) {
-        Framed::Edges(frame) => Mark::Box(frame.left, frame.bottom, frame.right, frame.top),
-        Framed::Refused(refusal) => Mark::Nothing(refusal),
+        Ok(frame) => Mark::Box(frame.left, frame.bottom, frame.right, frame.top),
+        Err(refusal) => Mark::Nothing(refusal),
     }
 }
 
@@ -144,34 +136,30 @@ impl Frame {
 }
 
 // A frame and the box of a further code's cell: 19 of the side or the frame, then 4.
-pub fn frame_grow(side: f64, frame: Frame, code: u64) -> Framed
+pub fn frame_grow(side: f64, frame: Frame, code: u64) -> Result<Frame, u64>
     ensures { result ≡ grown_frame side frame code }
 {
     if !metres::is_side(side) {
-        return Framed::Refused(19); // of the side
+        return Err(19); // of the side
     }
     if frame.has_nan() {
-        return Framed::Refused(19); // an edge that is not a number
+        return Err(19); // an edge that is not a number
     }
     match frame_first(side, code) {
-        Framed::Edges(other) => Framed::Edges(frame.grown(other)),
-        Framed::Refused(refusal) => Framed::Refused(refusal),
+        Ok(other) => Ok(frame.grown(other)),
+        Err(refusal) => Err(refusal),
     }
 }
 
 // A frame that grows by each of these codes.
 fn grow_by(side: f64, first: Frame, codes: &[u64]) -> Around
-    ensures { result ≡ as_around (grown_by side (Edges first) codes.now) }
+    ensures { result ≡ as_around (grown_by side (Ok first) codes.now) }
 {
     let mut frame = first;
-    let mut i: usize = 0;
-    while i < codes.len() {
-        match frame_grow(side, frame, codes[i]) {
-            Framed::Edges(next) => {
-                frame = next;
-                i = i + 1;
-            }
-            Framed::Refused(refusal) => return Around::Refused(refusal),
+    for code in codes {
+        match frame_grow(side, frame, *code) {
+            Ok(next) => frame = next,
+            Err(refusal) => return Around::Refused(refusal),
         }
     }
     Around::Edges(frame)
@@ -188,7 +176,7 @@ pub fn frame_around(side: f64, codes: &[u64]) -> Around
         return Around::Refused(19); // of the side, though there is no cell
     }
     match frame_first(side, codes[0]) {
-        Framed::Edges(first) => grow_by(side, first, &codes[1..]),
-        Framed::Refused(refusal) => Around::Refused(refusal),
+        Ok(first) => grow_by(side, first, &codes[1..]),
+        Err(refusal) => Around::Refused(refusal),
     }
 }

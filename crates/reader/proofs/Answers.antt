@@ -1,4 +1,6 @@
 -- What checking answers, from what the heading and the list reader hand back. Assumes nothing.
+use Rattle.std.specs.Prelude.{Err, None, Ok, Option, Some}
+use Rattle.reader.specs.declared.NodesRead.{NodesRead}
 use mathlib.Core.Path.{◌≡◌, refl, sym, ap, ap₂, subst, ◌∙◌}
 use mathlib.Core.List.{List, [], ◌∷◌}
 use mathlib.Core.Bool.{Bool, true, false, cond}
@@ -21,71 +23,69 @@ use Rattle.reading.proofs.Laws.Heading.{heading-least, lead-length, lead-bounds,
 use Rattle.reading.proofs.Laws.Fits.{depth-most}
 use Rattle.reading.specs.Report.{count, size_along}
 use Rattle.reading.specs.TextReading.{was_read, is_text, no_text, as_text, to_end, read_by, read_text}
-use Rattle.reader.specs.declared.Checked.TheVariants.{Text, Refused}
-use Rattle.reader.specs.declared.NodesRead.{NodesRead}
-use Rattle.reader.specs.declared.NodesRead.TheVariants.{Bad, Read}
 use Rattle.reader.specs.Check.{other_version, answer, checked_of}
 use Rattle.reader.specs.Laws.Check.{refusal-13, refusal-10, refusal-9, version-short, version-early, version-late, version-other, counted-answer}
 use Rattle.reader.specs.Internal.NodesRead.{of_nodes, ReadsNodes}
+use Rattle.logic.specs.Laws.Answer.{some-is}
 
 module _ (t : List ℕ) where
-  pub long-answer : 65536 < length t → Refused 13 0 ≡ checked_of t
+  pub long-answer : 65536 < length t → Err (record { refusal = 13; place = 0 }) ≡ checked_of t
   unfolding checked_of
   long-answer h = sym (ap (λ (r : ℕ). answer r t) (refusal-13 t h))
 
   module _ (h : length t ≤ 65536) where
-    version-answer : other_version t ≡ false → read_text t ≡ no_text → Refused 9 (place_of t) ≡ checked_of t
+    version-answer : other_version t ≡ false → read_text t ≡ no_text → Err (record { refusal = 9; place = place_of t }) ≡ checked_of t
     unfolding checked_of is_text
     version-answer e f = sym (ap (λ (r : ℕ). answer r t) (refusal-9 t h e (ap was_read f)))
 
     -- ---- the heading is not right
 
     module _ {right : ℕ} (e : right ≡ lead least greatest t) (s : right < heading_length (profile_in t)) where
-      head-place : other_version t ≡ false → Refused 9 right ≡ checked_of t
+      head-place : other_version t ≡ false → Err (record { refusal = 9; place = right }) ≡ checked_of t
       unfolding read_text read_by place_of place_by
       head-place v =
           let b : ltb (lead least greatest t) (heading_length (profile_in t)) ≡ true = lt-ltb (lead least greatest t) (heading_length (profile_in t)) (omega arith) in
           let f : read_text t ≡ no_text = rw b in
           let p : place_of t ≡ right = rw b (sym e) in
-          ap (λ (x : ℕ). Refused 9 x) (sym p) ∙ version-answer v f
+          ap (λ (x : ℕ). Err (record { refusal = 9; place = x })) (sym p) ∙ version-answer v f
 
-      pub head-cut : length t < 5 → Refused 9 right ≡ checked_of t
+      pub head-cut : length t < 5 → Err (record { refusal = 9; place = right }) ≡ checked_of t
       head-cut k = head-place (version-short t k)
 
-      pub head-mark : right < 3 → Refused 9 right ≡ checked_of t
+      pub head-mark : right < 3 → Err (record { refusal = 9; place = right }) ≡ checked_of t
       head-mark k = head-place (version-early t (omega arith))
 
-      pub head-turns : 5 ≤ right → Refused 9 right ≡ checked_of t
+      pub head-turns : 5 ≤ right → Err (record { refusal = 9; place = right }) ≡ checked_of t
       head-turns k = head-place (version-late t (omega arith))
 
-      pub head-version : 5 ≤ length t → 3 ≤ right → right < 5 → Refused 10 0 ≡ checked_of t
+      pub head-version : 5 ≤ length t → 3 ≤ right → right < 5 → Err (record { refusal = 10; place = 0 }) ≡ checked_of t
       unfolding checked_of
       head-version k l m = sym (ap (λ (r : ℕ). answer r t) (refusal-10 t h (version-other t k (omega arith) (omega arith))))
 
 -- ---- what the list reader hands back of the body
 
 module _ (o : Profile) (n s m z : ℕ) where
-  end-bad : (p : Parse) → Bad ≡ of_nodes m z p → to_end o n s p ≡ no_text
+  end-bad : (p : Parse) → None ≡ of_nodes m z p → to_end o n s p ≡ no_text
   unfolding to_end
   end-bad bad e = refl
   end-bad (got ns rest) e = let q : ◌≡◌ {A = ℕ} 0 1 = cc in absurd (omega arith)
 
   module _ (next cells sum w : ℕ) where
-    end_more : (p : Parse) → Read next cells sum w ≡ of_nodes m z p → next < m → to_end o n s p ≡ no_text
+    end_more : (p : Parse) → Some (record { next = next; cells = cells; sum = sum; wholes = w }) ≡ of_nodes m z p → next < m → to_end o n s p ≡ no_text
     unfolding to_end
     end_more bad e h = refl
-    end_more (got ns []) e h = let q : next ≡ m - 0 = cc in absurd (omega arith)
+    end_more (got ns []) e h = let q = ap (λ (x : NodesRead). x.next) (some-is e) in absurd (omega arith)
     end_more (got ns (b ∷ rest)) e h = refl
 
-    end-all : (p : Parse) → Read next cells sum w ≡ of_nodes m z p → m ≤ next → 0 < m →
+    end-all : (p : Parse) → Some (record { next = next; cells = cells; sum = sum; wholes = w }) ≡ of_nodes m z p → m ≤ next → 0 < m →
         (ns : Nodes) × (to_end o n s p ≡ as_text o n s ns) × (cells ≡ count ns) × (sum ≡ size_along z ns)
     unfolding to_end
     end-all bad e h k = let q : ◌≡◌ {A = ℕ} 0 1 = cc in absurd (omega arith)
     end-all (got ns []) e h k =
-        let e₁ : cells ≡ count ns = cc in
-        let e₂ : sum ≡ size_along z ns = cc in
+        let e₁ = ap (λ (x : NodesRead). x.cells) (some-is e) in
+        let e₂ = ap (λ (x : NodesRead). x.sum) (some-is e) in
         (ns, refl, e₁, e₂)
-    end-all (got ns (b ∷ rest)) e h k = let q : next ≡ m - suc (length rest) = cc in absurd (omega arith)
+    end-all (got ns (b ∷ rest)) e h k = let q = ap (λ (x : NodesRead). x.next) (some-is e) in absurd (omega arith)
 
 -- ---- the heading is right
 
@@ -116,39 +116,39 @@ module _ (t : List ℕ) (h : length t ≤ 65536) {o : Profile} (i : o ≡ profil
   abbrev wrong : ℕ
   wrong = heading_length o + scan (level_of o) (depth_of o) start (drop (heading_length o) t)
 
-  body-place : read_text t ≡ no_text → Refused 9 wrong ≡ checked_of t
+  body-place : read_text t ≡ no_text → Err (record { refusal = 9; place = wrong }) ≡ checked_of t
   unfolding place_of place_by
   body-place f =
       let p : place_of t ≡ wrong = ap (λ (q : Profile). place_by q t) (sym i) ∙ rw (le-ltb (lead least greatest t) (heading_length o) own) in
-      ap (λ (x : ℕ). Refused 9 x) (sym p) ∙ version-answer t h (version-late t (omega (arith, own, heading-least o))) f
+      ap (λ (x : ℕ). Err (record { refusal = 9; place = x })) (sym p) ∙ version-answer t h (version-late t (omega (arith, own, heading-least o))) f
 
-  module _ {r : NodesRead} (q : ReadsNodes t (heading_length o) 0 (level_of o) (depth_of o) (9 ^ 15) r) where
-    body-bad : r ≡ Bad → Refused 9 wrong ≡ checked_of t
+  module _ {r : Option NodesRead} (q : ReadsNodes t (heading_length o) 0 (level_of o) (depth_of o) (9 ^ 15) r) where
+    body-bad : r ≡ None → Err (record { refusal = 9; place = wrong }) ≡ checked_of t
     body-bad e =
         body-place (body-read ∙ end-bad o (get_or t 5 0 - 48) (get_or t 6 0 - 48) (length t) (9 ^ 15) body (sym e ∙ q.is (suc (length t)) (omega arith)))
 
-    module _ {next cells sum w : ℕ} (e : r ≡ Read next cells sum w) where
-      body_more : next < length t → Refused 9 wrong ≡ checked_of t
+    module _ {next cells sum w : ℕ} (e : r ≡ Some (record { next = next; cells = cells; sum = sum; wholes = w })) where
+      body_more : next < length t → Err (record { refusal = 9; place = wrong }) ≡ checked_of t
       body_more l =
           body-place
           (body-read
           ∙ end_more o (get_or t 5 0 - 48) (get_or t 6 0 - 48) (length t) (9 ^ 15) next cells sum w body (sym e ∙ q.is (suc (length t)) (omega arith)) l)
 
-      body-all : length t ≤ next → Text o (get_or t 5 0 - 48) (get_or t 6 0 - 48) cells sum (heading_length o) ≡ checked_of t
+      body-all : length t ≤ next → Ok (record { profile = o; arrangement = record { north = get_or t 5 0 - 48; south = get_or t 6 0 - 48 }; cells = cells; size = sum; body = heading_length o }) ≡ checked_of t
       body-all l =
           let a =
           end-all o (get_or t 5 0 - 48) (get_or t 6 0 - 48) (length t) (9 ^ 15) next cells sum w body (sym e ∙ q.is (suc (length t)) (omega arith)) l
           (omega (arith, head-within.1)) in
           let r = accepted-read (body-read ∙ a.1) in
-          ap₂ (λ (x y : ℕ). Text o (get_or t 5 0 - 48) (get_or t 6 0 - 48) x y (heading_length o)) a.2 a.3
-          ∙ ap (Text o (get_or t 5 0 - 48) (get_or t 6 0 - 48) (count a.0) (size_along (9 ^ 15) a.0)) (ap heading_length (sym (read-profile r)))
+          ap₂ (λ (x y : ℕ). Ok (record { profile = o; arrangement = record { north = get_or t 5 0 - 48; south = get_or t 6 0 - 48 }; cells = x; size = y; body = heading_length o })) a.2 a.3
+          ∙ ap (λ (b : ℕ). Ok (record { profile = o; arrangement = record { north = get_or t 5 0 - 48; south = get_or t 6 0 - 48 }; cells = count a.0; size = size_along (9 ^ 15) a.0; body = b })) (ap heading_length (sym (read-profile r)))
           ∙ counted-answer t h r
 
 -- ---- so it is with the level, the depth and the start that the profile tells
 
 module _
     (t : List ℕ) (h : length t ≤ 65536) {o : Profile} (i : o ≡ profile_in t) (k : heading_length (profile_in t) ≤ lead least greatest t)
-    {l : Level} {d b : ℕ} (el : l ≡ level_of o) (ed : d ≡ depth_of o) (eb : b ≡ heading_length o) {r : NodesRead} (q : ReadsNodes t b 0 l d (9 ^ 15) r)
+    {l : Level} {d b : ℕ} (el : l ≡ level_of o) (ed : d ≡ depth_of o) (eb : b ≡ heading_length o) {r : Option NodesRead} (q : ReadsNodes t b 0 l d (9 ^ 15) r)
   where
     told : ReadsNodes t (heading_length o) 0 (level_of o) (depth_of o) (9 ^ 15) r
     told =
@@ -160,15 +160,15 @@ module _
         e ∙ ap (λ (x : Level). b + scan x d start (drop b t)) el ∙ ap (λ (x : ℕ). b + scan (level_of o) x start (drop b t)) ed
         ∙ ap (λ (x : ℕ). x + scan (level_of o) (depth_of o) start (drop x t)) eb
 
-    pub told-bad : {place : ℕ} → r ≡ Bad → place ≡ b + scan l d start (drop b t) → Refused 9 place ≡ checked_of t
-    told-bad e f = ap (λ (x : ℕ). Refused 9 x) (place-told f) ∙ body-bad t h i k told e
+    pub told-bad : {place : ℕ} → r ≡ None → place ≡ b + scan l d start (drop b t) → Err (record { refusal = 9; place = place }) ≡ checked_of t
+    told-bad e f = ap (λ (x : ℕ). Err (record { refusal = 9; place = x })) (place-told f) ∙ body-bad t h i k told e
 
     pub told_more :
-        {next cells sum w place : ℕ} → r ≡ Read next cells sum w → next < length t → place ≡ b + scan l d start (drop b t) → Refused 9 place ≡ checked_of t
-    told_more e m f = ap (λ (x : ℕ). Refused 9 x) (place-told f) ∙ body_more t h i k told e m
+        {next cells sum w place : ℕ} → r ≡ Some (record { next = next; cells = cells; sum = sum; wholes = w }) → next < length t → place ≡ b + scan l d start (drop b t) → Err (record { refusal = 9; place = place }) ≡ checked_of t
+    told_more e m f = ap (λ (x : ℕ). Err (record { refusal = 9; place = x })) (place-told f) ∙ body_more t h i k told e m
 
-    pub told-all : {next cells sum w : ℕ} → r ≡ Read next cells sum w → length t ≤ next → Text o (get_or t 5 0 - 48) (get_or t 6 0 - 48) cells sum b ≡ checked_of t
-    told-all {cells = cells} {sum} e m = ap (Text o (get_or t 5 0 - 48) (get_or t 6 0 - 48) cells sum) eb ∙ body-all t h i k told e m
+    pub told-all : {next cells sum w : ℕ} → r ≡ Some (record { next = next; cells = cells; sum = sum; wholes = w }) → length t ≤ next → Ok (record { profile = o; arrangement = record { north = get_or t 5 0 - 48; south = get_or t 6 0 - 48 }; cells = cells; size = sum; body = b }) ≡ checked_of t
+    told-all {cells = cells} {sum} e m = ap (λ (b : ℕ). Ok (record { profile = o; arrangement = record { north = get_or t 5 0 - 48; south = get_or t 6 0 - 48 }; cells = cells; size = sum; body = b })) eb ∙ body-all t h i k told e m
 
 -- ---- the profile in the heading
 

@@ -1,12 +1,12 @@
 -- What checking a text answers (01 "The coverage text", "Refusal numbers"; 02, W-208). Assumes nothing.
-use Rattle.std.specs.Prelude.{◌≡◌, ◌⊎◌, Bool, ◌&&◌, not, cond, List, ◌∷◌, ℕ, zero, suc, leb, ltb, eqb, length}
+use Rattle.std.specs.Prelude.{◌≡◌, ◌⊎◌, Bool, ◌&&◌, not, cond, List, ◌∷◌, ℕ, zero, suc, leb, ltb, eqb, length, Err, Ok, Result}
+use Rattle.reading.specs.declared.Refused.{Refused}
+use Rattle.reader.specs.declared.Checked.{Checked}
 use Rattle.logic.specs.Refusal.{refuse, ◌otherwise◌}
 use Rattle.reading.specs.Ground.{whole_cells, size_sum}
 use Rattle.reading.specs.Place.{place_of}
 use Rattle.reading.specs.Heading.{least, greatest, lead}
 use Rattle.reading.specs.TextReading.{nodes_of, profile_of, north_of, south_of, is_text, body_start}
-use Rattle.reader.specs.declared.Checked.{Checked}
-use Rattle.reader.specs.declared.Checked.TheVariants.{Text, Refused}
 
 -- 10: "five bytes or more, mark right", version "neither 1 nor 2"
 abbrev pub WrongVersion : List ℕ → Type 0
@@ -26,10 +26,10 @@ abbrev pub place_with : ℕ → List ℕ → ℕ
 place_with r t = cond (eqb r 9) (place_of t) 0
 
 -- the profile, the arrangement, "the number of whole cells in the reading and the sum of their sizes", where the body starts; or the refusal and the place
-abbrev pub answer : ℕ → List ℕ → Checked
-answer zero t = Text (profile_of t) (north_of t) (south_of t) (length (whole_cells (nodes_of t))) (size_sum (whole_cells (nodes_of t))) (body_start t)
-answer (suc r) t = Refused (suc r) (place_with (suc r) t)
+abbrev pub answer : ℕ → List ℕ → Result Checked Refused
+answer zero t = Ok (record { profile = profile_of t; arrangement = record { north = north_of t; south = south_of t }; cells = length (whole_cells (nodes_of t)); size = size_sum (whole_cells (nodes_of t)); body = body_start t })
+answer (suc r) t = Err (record { refusal = suc r; place = place_with (suc r) t })
 
-unfoldable pub checked_of : List ℕ → Checked
+unfoldable pub checked_of : List ℕ → Result Checked Refused
 unfolding text_refusal
 checked_of t = answer (text_refusal t) t

@@ -1,75 +1,68 @@
 // Checking a coverage text: node reader and list reader call each other.
 #![tactic(auto)]
 
-ghost use Rattle.std.specs.Prelude.{◌≡◌, ◌*◌, ◌^◌, ◌≤◌, ◌<◌, eqb, length, get_or};
+ghost use Rattle.std.specs.Prelude.{◌≡◌, ◌*◌, ◌^◌, ◌≤◌, ◌<◌, eqb, length, get_or, Err};
 ghost use Rattle.reading.specs.Text.{heading_length};
 ghost use Rattle.reading.specs.Heading.{least, greatest, lead, profile_in};
 ghost use Rattle.reader.specs.Check.{checked_of};
 ghost use Rattle.reader.specs.Internal.NodesRead.{ReadsNode, ReadsNodes};
-ghost use Rattle.reader.specs.declared.Checked.TheVariants.{Refused as RefusedWith};
 
-use reading::{Level, Profile};
+use cell::Arrangement;
+use reading::{Level, Profile, Refused};
 
-// What checking answers: the heading's version and depth, n and s, the number of whole cells and the sum of their sizes, and where the body starts; or the refusal, with
-// the place for 9.
+// What a text says: its heading, how many whole cells it has, the sum of their sizes, and where its body starts.
 #[derive(Clone, Copy)]
-pub enum Checked {
-    Text {
-        profile: Profile,
-        north: u64,
-        south: u64,
-        cells: u64,
-        size: u64,
-        body: usize,
-    },
-    Refused {
-        refusal: u64,
-        place: u64,
-    },
+pub struct Checked {
+    pub profile: Profile,
+    pub arrangement: Arrangement,
+    pub cells: u64,
+    pub size: u64,
+    pub body: usize,
 }
 
 // What reading nodes hands back: the place of the next byte, the number of whole cells, the sum of their sizes, and how many of the nodes stand whole.
 #[derive(Clone, Copy)]
-pub enum NodesRead {
-    Bad,
-    Read(usize, u64, u64, u64),
+pub struct NodesRead {
+    pub next: usize,
+    pub cells: u64,
+    pub sum: u64,
+    pub wholes: u64,
 }
 
 // The node reader, at the `(` behind a node's letter or digit: the list that the node holds. The node's own size is `size`, and `room` digits may lie
 // below it.
 #[cycle(node_nodes)]
-fn node(text: &[u8], at: usize, room: u64, size: u64) -> NodesRead
+fn node(text: &[u8], at: usize, room: u64, size: u64) -> Option<NodesRead>
     requires { (at < length text.now) × (get_or text.now at 0 ≡ 40) }
     ensures { ReadsNode text.now at room size result }
 {
     if room == 0 {
-        return NodesRead::Bad;
+        return None;
     }
     let start = at + 1;
-    let NodesRead::Read(next, cells, sum, wholes) = nodes(
-        text,
-        start,
-        Level::Digits,
-        room - 1,
-        size / 9,
-    ) else {
-        return NodesRead::Bad;
-    };
+    let list = nodes(text, start, Level::Digits, room - 1, size / 9)?;
+    let next = list.next;
     if next == start {
-        return NodesRead::Bad;
+        return None;
     }
     if next == text.len() {
-        return NodesRead::Bad;
+        return None;
     }
+    let wholes = list.wholes;
     if wholes == 9 {
-        return NodesRead::Bad;
+        return None;
     }
-    NodesRead::Read(next + 1, cells, sum, 0)
+    Some(NodesRead {
+        next: next + 1,
+        cells: list.cells,
+        sum: list.sum,
+        wholes: 0,
+    })
 }
 
 // The list reader: nodes whose numbers rise, up to a `)` or the end. A node is whole where no `(` follows.
 #[cycle(node_nodes)]
-fn nodes(text: &[u8], start: usize, level: Level, room: u64, size: u64) -> NodesRead
+fn nodes(text: &[u8], start: usize, level: Level, room: u64, size: u64) -> Option<NodesRead>
     requires { (start ≤ length text.now) × (9 * size < 2 ^ 64) }
     ensures { ReadsNodes text.now start 0 level room size result }
 {
@@ -87,10 +80,10 @@ fn nodes(text: &[u8], start: usize, level: Level, room: u64, size: u64) -> Nodes
             break;
         }
         if b < low {
-            return NodesRead::Bad;
+            return None;
         }
         if above <= b {
-            return NodesRead::Bad;
+            return None;
         }
         low = b + 1;
         at += 1;
@@ -99,14 +92,17 @@ fn nodes(text: &[u8], start: usize, level: Level, room: u64, size: u64) -> Nodes
             continue;
         }
         let under = reading::room_below(level, b - base, room);
-        let NodesRead::Read(next, more, rest, _) = node(text, at, under, size) else {
-            return NodesRead::Bad;
-        };
-        at = next;
-        cells += more;
-        sum += rest;
+        let held = node(text, at, under, size)?;
+        at = held.next;
+        cells += held.cells;
+        sum += held.sum;
     }
-    NodesRead::Read(at, cells + wholes, sum + wholes * size, wholes)
+    Some(NodesRead {
+        next: at,
+        cells: cells + wholes,
+        sum: sum + wholes * size,
+        wholes,
+    })
 }
 
 // The least and the greatest byte at each place of the heading.
@@ -145,14 +141,14 @@ fn profile_in(text: &[u8]) -> Profile
     Profile::Handheld((letter - b'a') as u64)
 }
 
-fn refused(refusal: u64, place: u64) -> Checked
-    ensures { result ≡ RefusedWith refusal place }
+fn refused(refusal: u64, place: u64) -> Result<Checked, Refused>
+    ensures { result ≡ Err (record { refusal = refusal; place = place }) }
 {
-    Checked::Refused { refusal, place }
+    Err(Refused { refusal, place })
 }
 
 // The answer where only `right` bytes of the heading are right: 10 "five bytes or more, mark right", version "neither 1 nor 2", else 9.
-fn check_heading(text: &[u8], right: usize) -> Checked
+fn check_heading(text: &[u8], right: usize) -> Result<Checked, Refused>
     requires { (length text.now ≤ 65536) × (right ≡ lead least greatest text.now) × (right < heading_length (profile_in text.now)) }
     ensures { result ≡ checked_of text.now }
 {
@@ -169,34 +165,33 @@ fn check_heading(text: &[u8], right: usize) -> Checked
 }
 
 // The answer where the heading is right.
-fn check_body(text: &[u8], profile: Profile) -> Checked
+fn check_body(text: &[u8], profile: Profile) -> Result<Checked, Refused>
     requires { (length text.now ≤ 65536) × (profile ≡ profile_in text.now) × (heading_length (profile_in text.now) ≤ lead least greatest text.now) }
     ensures { result ≡ checked_of text.now }
 {
     let level = reading::level_of(profile);
     let depth = reading::depth_of(profile);
     let body = reading::heading_length(profile);
-    let NodesRead::Read(next, cells, size, _) = nodes(text, body, level, depth, code::FACE_SIZE)
-    else {
+    let Some(read) = nodes(text, body, level, depth, code::FACE_SIZE) else {
         return refused(9, place::place(text, body, level, depth) as u64);
     };
+    let next = read.next;
     if next < text.len() {
         return refused(9, place::place(text, body, level, depth) as u64);
     }
     let north = (text[5] - b'0') as u64;
     let south = (text[6] - b'0') as u64;
-    Checked::Text {
+    Ok(Checked {
         profile,
-        north,
-        south,
-        cells,
-        size,
+        arrangement: Arrangement { north, south },
+        cells: read.cells,
+        size: read.sum,
         body,
-    }
+    })
 }
 
 // Checking: the reader of coverage texts.
-pub fn check(text: &[u8]) -> Checked
+pub fn check(text: &[u8]) -> Result<Checked, Refused>
     ensures { result ≡ checked_of text.now }
 {
     if text.len() > reading::LONGEST {

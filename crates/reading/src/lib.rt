@@ -9,6 +9,13 @@ ghost use Rattle.reading.specs.Text.{version_of, level_of, depth_of, heading_len
 // "text longer than 65,536 bytes, read or to be written"
 pub const LONGEST: usize = 65_536;
 
+// Why a text is refused: the number of the refusal, and with 9 the place where the grammar ends.
+#[derive(Clone, Copy)]
+pub struct Refused {
+    pub refusal: u64,
+    pub place: u64,
+}
+
 // What nodes side by side are: faces of which each may hold a list, faces of which N and S stand only whole, or digits.
 #[derive(Clone, Copy)]
 pub enum Level {
@@ -110,8 +117,7 @@ pub fn lead_in(text: &[u8], least: &[u8], greatest: &[u8]) -> usize
     requires { length least.now ≡ length greatest.now }
     ensures { result ≡ lead least.now greatest.now text.now }
 {
-    let mut i: usize = 0;
-    while i < least.len() {
+    for i in 0..least.len() {
         if i == text.len() {
             return i;
         }
@@ -121,9 +127,8 @@ pub fn lead_in(text: &[u8], least: &[u8], greatest: &[u8]) -> usize
         if greatest[i] < text[i] {
             return i;
         }
-        i += 1;
     }
-    i
+    least.len()
 }
 
 // Whether a `(` stands at a place.

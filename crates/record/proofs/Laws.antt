@@ -1,4 +1,5 @@
 -- One line more is recorded. Assumes nothing.
+use Rattle.std.specs.Prelude.{Err, Ok, Option, Result, Some}
 use mathlib.Core.Path.{◌≡◌, refl, sym, ap, ap₂, ◌∙◌, subst}
 use mathlib.Core.Logic.{◌⊎◌, inl, inr, ⊎_elim}
 use mathlib.Core.Bool.{Bool, true, false, cond}
@@ -13,12 +14,9 @@ use borrow.Author.Tests.{eqb-true, le-ltb, lt-ltb}
 use Rattle.logic.specs.Laws.Bools.{clash}
 use Rattle.lines.specs.Fold.{OfBytes, OfEnded}
 use Rattle.lines.specs.Laws.Fold.{then-line, then-last}
-use Rattle.code.specs.declared.Coded.{Coded}
 use Rattle.code.proofs.Laws.Code.{code-is-cell}
 use Rattle.flight.specs.declared.Recording.{Recording}
 use Rattle.flight.specs.declared.Setting.{Setting}
-use Rattle.flight.specs.declared.Taken.{Taken}
-use Rattle.flight.specs.declared.Taken.TheVariants.{Fix, Refused}
 use Rattle.flight.specs.Flight.{line_code}
 use Rattle.flight.specs.Setting.{setting_refusal}
 use Rattle.flight.specs.Recording.{taken, taken_text, Records, Flown, with_code, with_line}
@@ -27,8 +25,6 @@ use Rattle.flight.proofs.Laws.Recording.{flown_as, taken-flown, refused-bytes, s
 use Rattle.flight.proofs.Laws.Cut.{cut_line}
 use Rattle.console.specs.declared.LineRead.TheVariants.{Line, Last}
 use Rattle.console.specs.Input.{Given}
-use Rattle.console.specs.declared.Arguments.{Arguments}
-use Rattle.console.specs.declared.Arguments.TheVariants.{Good}
 use Rattle.console.specs.Arguments.{Usable}
 use Rattle.record.specs.declared.Flight.{Flight}
 use Rattle.record.specs.declared.File.{File}
@@ -44,26 +40,26 @@ module _ (s : Setting) (line bytes later : List ℕ) (f r : Flight) where
   abbrev Recorded : Type 0
   Recorded = flown_of later r ≡ with_line s (length bytes) (flown_of bytes f) line
 
-  pub fix-recorded : (m : Recording) → Fix m ≡ taken (line_code s line) (length bytes) t → later ≡ taken_text (line_code s line) bytes t → fix_added f m r → Recorded
+  pub fix-recorded : (m : Recording) → Ok m ≡ taken (line_code s line) (length bytes) t → later ≡ taken_text (line_code s line) bytes t → fix_added f m r → Recorded
   fix-recorded m e g d =
       let n : r.fixes ≡ suc f.fixes = omega (arith, d.1) in
       (λ i. record { text = take (d.0 i).length later; fixes = n i; full = d.2 i; bad = d.3 i })
-      ∙ ap₂ (λ (x : Taken) (l : List ℕ). flown_as x l (flown_of bytes f)) e g
+      ∙ ap₂ (λ (x : Result Recording ℕ) (l : List ℕ). flown_as x l (flown_of bytes f)) e g
       ∙ taken-flown (line_code s line) bytes (flown_of bytes f)
 
-  pub refused-recorded : (q : ℕ) → Refused q ≡ taken (line_code s line) (length bytes) t → later ≡ taken_text (line_code s line) bytes t → refused_added f q r → Recorded
+  pub refused-recorded : (q : ℕ) → Err q ≡ taken (line_code s line) (length bytes) t → later ≡ taken_text (line_code s line) bytes t → refused_added f q r → Recorded
   refused-recorded q e g d =
       let same : later ≡ bytes = g ∙ refused-bytes (line_code s line) bytes t e in
       let full : r.full ≡ cond (eqb q 13) (suc f.full) f.full = d.2 ∙ ap (λ (n : ℕ). cond (eqb q 13) n f.full) (add-one f.full) in
       let bad : r.bad ≡ cond (eqb q 13) f.bad (suc f.bad) = d.3 ∙ ap (λ (n : ℕ). cond (eqb q 13) f.bad n) (add-one f.bad) in
       (λ i. record { text = take (d.0 i).length (same i); fixes = d.1 i; full = full i; bad = bad i })
-      ∙ ap₂ (λ (x : Taken) (l : List ℕ). flown_as x l (flown_of bytes f)) e g
+      ∙ ap₂ (λ (x : Result Recording ℕ) (l : List ℕ). flown_as x l (flown_of bytes f)) e g
       ∙ taken-flown (line_code s line) bytes (flown_of bytes f)
 
   -- ---- no change goes unnoted
 
   pub fix-noted :
-      (m : Recording) → Records bytes f.recording → Fix m ≡ taken (line_code s line) (length bytes) t → later ≡ taken_text (line_code s line) bytes t → fix_added f m r →
+      (m : Recording) → Records bytes f.recording → Ok m ≡ taken (line_code s line) (length bytes) t → later ≡ taken_text (line_code s line) bytes t → fix_added f m r →
       Noted bytes f later r
   fix-noted m h e g d z = go (eqb m.length f.recording.length) refl
     where
@@ -76,7 +72,7 @@ module _ (s : Setting) (line bytes later : List ℕ) (f r : Flight) where
       )
       go false q = clash (sym (d.4 ∙ ap (λ (x : Bool). cond x f.changed true) q) ∙ z)
 
-  pub refused-noted : (q : ℕ) → Refused q ≡ taken (line_code s line) (length bytes) t → later ≡ taken_text (line_code s line) bytes t → refused_added f q r → Noted bytes f later r
+  pub refused-noted : (q : ℕ) → Err q ≡ taken (line_code s line) (length bytes) t → later ≡ taken_text (line_code s line) bytes t → refused_added f q r → Noted bytes f later r
   refused-noted q e g d z = (sym d.4 ∙ z, ap₂ take (ap (λ (x : Recording). x.length) d.0) (g ∙ refused-bytes (line_code s line) bytes t e))
 
 -- ---- a line of the input
@@ -85,7 +81,7 @@ module _ (s : Setting) (room : List ℕ) (big : 43 ≤ length room) (size n : �
     (e : next ≡ with_line s size f (take n room)) where
   -- a line that was cut to its room
   cut : (x : List ℕ) → take n room ≡ take (length room) x → with_line s size f x ≡ next
-  cut x g = sym (e ∙ ap (λ (c : Coded). with_code size c f) (ap (line_code s) g ∙ cut_line s (length room) x big))
+  cut x g = sym (e ∙ ap (λ (c : Result ℕ ℕ). with_code size c f) (ap (line_code s) g ∙ cut_line s (length room) x big))
 
   -- a line that ended
   pub line-recorded : (left bytes : List ℕ) (from end : ℕ) → Given left bytes room (Line n from end) → OfEnded (with_line s size) first next
@@ -134,5 +130,5 @@ path-given path n h e = subst (FileFits path) e h
 pub path-short : (path : List ℕ) {r : File} (n : ℕ) → FileFits path r → r ≡ Path n → length path ≡ 4080 → length (take n path) ≤ 4096
 path-short path n h e l = omega (arith, length-take-le n path (path-given path n h e), path-given path n h e)
 
-pub setting-used : {r : Arguments} (s : Setting) → Usable r → r ≡ Good s → setting_refusal s ≡ 0
+pub setting-used : {r : Option Setting} (s : Setting) → Usable r → r ≡ Some s → setting_refusal s ≡ 0
 setting-used s h e = subst Usable e h

@@ -1,8 +1,6 @@
 -- What `record` has of a flight, as the fold over its lines has it. Assumes nothing.
-use Rattle.std.specs.Prelude.{◌≡◌, ◌⊎◌, Bool, true, false, cond, List, ℕ, ◌+◌, ◌%◌, ◌≤◌, eqb, ltb, length, take, get_or, set}
+use Rattle.std.specs.Prelude.{◌≡◌, ◌⊎◌, Bool, true, false, cond, List, ℕ, ◌+◌, ◌%◌, ◌≤◌, eqb, ltb, length, take, get_or, set, Err, Ok, Result}
 use Rattle.flight.specs.declared.Recording.{Recording}
-use Rattle.flight.specs.declared.Taken.{Taken}
-use Rattle.flight.specs.declared.Taken.TheVariants as taken_as
 use Rattle.flight.specs.Recording.{Flown}
 use Rattle.record.specs.declared.Flight.{Flight}
 use Rattle.record.specs.declared.File.{File}
@@ -48,9 +46,9 @@ waits_with number refusal waits =
     cond (ltb (taken + 2) (length waits)) (set (set (set waits (taken + 1) number) (taken + 2) refusal) 0 (taken + 2)) waits
 
 -- what waits after a line: one that is refused waits with its own number and refusal, a fix leaves all as it was
-abbrev pub waits_after : (number : ℕ) → Taken → (waits : List ℕ) → List ℕ
-waits_after number (taken_as.Fix m) waits = waits
-waits_after number (taken_as.Refused r) waits = waits_with number r waits
+abbrev pub waits_after : (number : ℕ) → Result Recording ℕ → (waits : List ℕ) → List ℕ
+waits_after number (Ok m) waits = waits
+waits_after number (Err r) waits = waits_with number r waits
 
 -- the path stands in front of its room
 abbrev pub FileFits : (path : List ℕ) → File → Type 0

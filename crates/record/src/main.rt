@@ -11,8 +11,8 @@ ghost use Rattle.flight.specs.Flight.{line_code};
 ghost use Rattle.flight.specs.Recording.{taken, Records, with_line, started};
 ghost use Rattle.record.specs.Recorded.{changed_by, fix_added, refused_added, Noted, waits_with, waits_after, flown_of, line_count, kept, Checkpointed, FileFits};
 
-use console::{Arguments, LineRead};
-use flight::{Recording, Setting, Taken};
+use console::LineRead;
+use flight::{Recording, Setting};
 use std::fs;
 use std::io::IsTerminal;
 use std::os::unix::fs::FileTypeExt;
@@ -141,8 +141,8 @@ fn record_line(
     ensures waits_after { waits.new ≡ waits_after number (taken (line_code setting line.now) (length text.old) (take flight.recording.length text.old)) waits.old }
 {
     match flight::take_line(setting, line, text, flight.recording, near) {
-        Taken::Fix(recording) => with_fix(flight, recording),
-        Taken::Refused(refusal) => {
+        Ok(recording) => with_fix(flight, recording),
+        Err(refusal) => {
             say_refused(rt, number, refusal, waits);
             with_refused(flight, refusal)
         }
@@ -278,6 +278,7 @@ fn room_to_wait(rt: &HostRuntime) -> usize
 // The refused lines that waited.
 fn say_waiting(rt: &HostRuntime, waits: &[u64]) {
     let mut i: usize = 1;
+    // by hand: a line and its refusal are two numbers
     while i + 1 < waits.len() {
         if waits[0] as usize <= i {
             return;
@@ -393,7 +394,7 @@ fn main(rt: HostRuntime) {
     let rt = &rt;
     let count = console::argument_count(rt);
     let words = words_before(rt, count);
-    let Arguments::Good(setting) = console::setting_in(rt, b"record", words) else {
+    let Some(setting) = console::setting_in(rt, b"record", words) else {
         say_usage(rt);
         return;
     };

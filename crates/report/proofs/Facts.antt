@@ -1,4 +1,5 @@
 -- A cell's name, where it has room; bytes put into a part of the lent memory; names one after the other. Assumes nothing.
+use Rattle.std.specs.Prelude.{Err, Ok, Result}
 use mathlib.Core.Path.{◌≡◌, refl, sym, ap, ◌∙◌, subst}
 use mathlib.Core.Bool.{Bool}
 use mathlib.Core.List.{List, [], ◌∷◌, ◌++◌, append-nil}
@@ -11,12 +12,8 @@ use lib.Dec.{ltb}
 use borrow.Author.Tests.{le-ltb}
 use Rattle.logic.specs.Refusal.{refuse, ◌otherwise◌, given}
 use Rattle.logic.specs.Laws.Refusal.{stops, passes, given-value}
-use Rattle.code.specs.declared.Coded.{Coded}
-use Rattle.code.specs.declared.Coded.TheVariants as coded-as
 use Rattle.code.specs.Code.{cell_of, code_refusal}
 use Rattle.code.proofs.Laws.Code.{code-passes}
-use Rattle.name.specs.declared.Named.{Named}
-use Rattle.name.specs.declared.Named.TheVariants.{Length, Refused}
 use Rattle.name.specs.Name.{name_of, name_in, code_name_refusal, named, length_in}
 use Rattle.decimal.specs.Decimal.{printed}
 use Rattle.flight.specs.declared.Setting.{Setting}
@@ -38,12 +35,12 @@ name-refusal code room h = go (code_refusal code) refl
     go zero e = passes _ refl ∙ ap (λ (b : Bool). refuse b 8) (le-ltb room (length (name_of (cell_of code))) (omega (arith, name-short code e)))
     go (suc q) e = stops (suc q) _ (λ z. omega arith)
 
-as-length : (q : ℕ) (name : List ℕ) (n : ℕ) → named q (length name) ≡ Length n → n ≡ length (given q name [])
+as-length : (q : ℕ) (name : List ℕ) (n : ℕ) → named q (length name) ≡ Ok n → n ≡ length (given q name [])
 unfolding named given
 as-length zero name n e = sym (ap length_in e)
 as-length (suc q) name n e = let z : ◌≡◌ {A = ℕ} 0 1 = cc in absurd (omega arith)
 
-as_none : (q : ℕ) (name : List ℕ) (r : ℕ) → named q (length name) ≡ Refused r → ◌≡◌ {A = ℕ} 0 (length (given q name []))
+as_none : (q : ℕ) (name : List ℕ) (r : ℕ) → named q (length name) ≡ Err r → ◌≡◌ {A = ℕ} 0 (length (given q name []))
 unfolding named given
 as_none zero name r e = let z : ◌≡◌ {A = ℕ} 0 1 = cc in absurd (omega arith)
 as_none (suc q) name r e = refl
@@ -54,14 +51,14 @@ as_bytes zero name out = refl
 as_bytes (suc q) name out = refl
 
 module _ (code : ℕ) (room : List ℕ) (h : 16 ≤ length room) where
-  as-refusal : {x : Named} → x ≡ named (code_name_refusal code (length room)) (length (name_of (cell_of code))) → x ≡ named (code_refusal code) (length (name_of (cell_of code)))
+  as-refusal : {x : Result ℕ ℕ} → x ≡ named (code_name_refusal code (length room)) (length (name_of (cell_of code))) → x ≡ named (code_refusal code) (length (name_of (cell_of code)))
   as-refusal e = e ∙ ap (λ (q : ℕ). named q (length (name_of (cell_of code)))) (name-refusal code (length room) h)
 
-  pub named-length : {x : Named} {n : ℕ} → x ≡ Length n → x ≡ named (code_name_refusal code (length room)) (length (name_of (cell_of code))) → n ≡ length (name_bytes code)
+  pub named-length : {x : Result ℕ ℕ} {n : ℕ} → x ≡ Ok n → x ≡ named (code_name_refusal code (length room)) (length (name_of (cell_of code))) → n ≡ length (name_bytes code)
   unfolding name_bytes
   named-length {x} {n} e f = as-length (code_refusal code) (name_of (cell_of code)) n (sym (as-refusal f) ∙ e)
 
-  pub named_none : {x : Named} {r : ℕ} → x ≡ Refused r → x ≡ named (code_name_refusal code (length room)) (length (name_of (cell_of code))) → ◌≡◌ {A = ℕ} 0 (length (name_bytes code))
+  pub named_none : {x : Result ℕ ℕ} {r : ℕ} → x ≡ Err r → x ≡ named (code_name_refusal code (length room)) (length (name_of (cell_of code))) → ◌≡◌ {A = ℕ} 0 (length (name_bytes code))
   unfolding name_bytes
   named_none {x} {r} e f = as_none (code_refusal code) (name_of (cell_of code)) r (sym (as-refusal f) ∙ e)
 
@@ -71,14 +68,14 @@ module _ (code : ℕ) (room : List ℕ) (h : 16 ≤ length room) where
 
 -- ---- the answer to a line, by its code
 
-pub answer-name : (s : Setting) (line : List ℕ) (code : ℕ) → line_code s line ≡ coded-as.Code code → name_line code ≡ answer_line s line
+pub answer-name : (s : Setting) (line : List ℕ) (code : ℕ) → line_code s line ≡ Ok code → name_line code ≡ answer_line s line
 unfolding answer_of name_bytes
 answer-name s line code e =
     ap (λ (x : List ℕ). x ++ (10 ∷ [])) (given-value _ _ (code-passes code (line-is-code s line code e)) ∙ ap answer_of (sym e))
 
-pub answer-number : (s : Setting) (line : List ℕ) (r : ℕ) → line_code s line ≡ coded-as.Refused r → printed r ++ (10 ∷ []) ≡ answer_line s line
+pub answer-number : (s : Setting) (line : List ℕ) (r : ℕ) → line_code s line ≡ Err r → printed r ++ (10 ∷ []) ≡ answer_line s line
 unfolding answer_of
-answer-number s line r e = ap (λ (a : Coded). answer_of a ++ (10 ∷ [])) (sym e)
+answer-number s line r e = ap (λ (a : Result ℕ ℕ). answer_of a ++ (10 ∷ [])) (sym e)
 
 -- ---- names
 

@@ -11,11 +11,10 @@ ghost use Rattle.report.specs.Lines.{number_line, four_numbers, check_line, aske
 ghost use Rattle.report.specs.History.{settings_line, revision_line, kept_number, history_lines};
 
 use asking::Asked;
-use code::Coded;
 use flight::Setting;
 use history::{History, Settings};
-use name::Named;
 use reader::Checked;
+use reading::Refused;
 
 // Puts a number in decimal and a byte after it from `at` on: where they end.
 pub fn put_number(x: u64, byte: u8, out: &mut [u8], at: usize) -> usize
@@ -45,8 +44,8 @@ fn put_name(code: u64, room: &mut [u8]) -> usize
     ensures room_after { room.new ≡ name_bytes code ++ drop (length (name_bytes code)) room.old }
 {
     match name::code_name(code, room) {
-        Named::Length(length) => length as usize,
-        Named::Refused(_) => 0, // no cell's: a name has room
+        Ok(length) => length as usize,
+        Err(_) => 0, // no cell's: a name has room
     }
 }
 
@@ -68,8 +67,8 @@ pub fn put_answer(setting: Setting, line: &[u8], out: &mut [u8], at: usize) -> u
     ensures upper_bound { result ≤ at + 21 }
 {
     match flight::line_code(setting, line) {
-        Coded::Code(code) => put_name_and(code, b'\n', out, at),
-        Coded::Refused(refusal) => put_number(refusal, b'\n', out, at),
+        Ok(code) => put_name_and(code, b'\n', out, at),
+        Err(refusal) => put_number(refusal, b'\n', out, at),
     }
 }
 
@@ -96,39 +95,39 @@ pub struct Names {
 pub fn put_names(codes: &[u64], out: &mut [u8]) -> Names
     ensures { NamesPut codes.now out.old out.new result }
 {
-    let mut count: usize = 0;
     let mut end: usize = 0;
-    while count < codes.len() {
+    for count in 0..codes.len() {
         if out.len() - end < 17 {
             return Names { count, end };
         }
         end = put_name_and(codes[count], b'\n', out, end);
-        count = count + 1;
     }
+    let count = codes.len();
     Names { count, end }
 }
 
 // Puts what checking answers in one line, `refusal place version depth n s cells size`: where it ends.
-pub fn put_check(checked: Checked, out: &mut [u8]) -> usize
+pub fn put_check(checked: Result<Checked, Refused>, out: &mut [u8]) -> usize
     requires { 168 ≤ length out.old }
     ensures put { Put 0 (check_line checked) out.old out.new result }
     ensures upper_bound { result ≤ 168 }
 {
     match checked {
-        Checked::Text {
-            profile,
-            north,
-            south,
-            cells,
-            size,
-            ..
-        } => {
-            let version = reading::version_of(profile);
-            let depth = reading::depth_of(profile);
+        Ok(checked) => {
+            let version = reading::version_of(checked.profile);
+            let depth = reading::depth_of(checked.profile);
             let middle = put_four(0, 0, version, depth, b' ', out, 0);
-            put_four(north, south, cells, size, b'\n', out, middle)
+            put_four(
+                checked.arrangement.north,
+                checked.arrangement.south,
+                checked.cells,
+                checked.size,
+                b'\n',
+                out,
+                middle,
+            )
         }
-        Checked::Refused { refusal, place } => {
+        Err(Refused { refusal, place }) => {
             let middle = put_four(refusal, place, 0, 0, b' ', out, 0);
             put_four(0, 0, 0, 0, b'\n', out, middle)
         }
@@ -136,22 +135,20 @@ pub fn put_check(checked: Checked, out: &mut [u8]) -> usize
 }
 
 // Puts what asking answers in one line, `yes`, `no` or the refusal number: where it ends.
-pub fn put_asked(asked: Asked, out: &mut [u8]) -> usize
+pub fn put_asked(asked: Result<Asked, Refused>, out: &mut [u8]) -> usize
     requires { 21 ≤ length out.old }
     ensures put { Put 0 (asked_line asked) out.old out.new result }
     ensures upper_bound { result ≤ 21 }
 {
     match asked {
-        Asked::Answer {
-            covered,
-            settled: _,
-        } => {
+        Ok(asked) => {
+            let covered = asked.covered;
             if covered {
                 return copying::copy(b"yes\n", out);
             }
             copying::copy(b"no\n", out)
         }
-        Asked::Refused { refusal, place: _ } => put_line(refusal, out),
+        Err(Refused { refusal, place: _ }) => put_line(refusal, out),
     }
 }
 
@@ -234,10 +231,8 @@ pub fn put_history(history: History, out: &mut [u8]) -> usize
     ensures upper_bound { result ≤ 3360 }
 {
     let newest = history.newest;
-    let mut left = kept_number(newest);
     let mut end: usize = 0;
-    while left > 0 {
-        left = left - 1;
+    for left in (0..kept_number(newest)).rev() {
         end = put_revision(history, newest - left, out, end);
     }
     end

@@ -2,7 +2,7 @@
 // and writing only read the marks.
 #![tactic(auto)]
 
-ghost use Rattle.std.specs.Prelude.{◌≡◌, true, false, cond, [], ◌++◌, ◌+◌, ◌-◌, ◌*◌, ◌/◌, ◌%◌, ◌≤◌, ◌<◌, eqb, length, take, drop};
+ghost use Rattle.std.specs.Prelude.{◌≡◌, true, false, cond, [], ◌++◌, ◌+◌, ◌-◌, ◌*◌, ◌/◌, ◌%◌, ◌≤◌, ◌<◌, eqb, length, take, drop, Err};
 ghost use Rattle.logic.specs.Rise.{Rise};
 ghost use Rattle.track.specs.Track.{number_below};
 ghost use Rattle.walk.specs.Walk.{origin, Walks};
@@ -21,12 +21,10 @@ ghost use Rattle.proper.specs.Wholes.{loose_codes};
 ghost use Rattle.rescue.specs.Rescue.{flat, changes_of, RescueIs};
 ghost use Rattle.rescue.specs.Internal.Give.{Gives};
 ghost use Rattle.rescue.specs.Internal.Same.{Same, GivesSame};
-ghost use Rattle.rescue.specs.declared.Rescued.TheVariants.{Refused as RefusedWith};
 
 use cell::Arrangement;
-use loose::Looked;
 use reader::Checked;
-use reading::Profile;
+use reading::{Profile, Refused};
 use walk::Spot;
 
 // How many of the rising keys are below a code, looked for from the hint on.
@@ -368,21 +366,21 @@ fn find(
     );
 }
 
-// The length of the proper text, and how many changes there are; or the refusal, with the place for 9.
+// How long the rescued text is, and how many changes were listed.
 #[derive(Clone, Copy)]
-pub enum Rescued {
-    Done { length: u64, changes: u64 },
-    Refused { refusal: u64, place: u64 },
+pub struct Rescued {
+    pub length: u64,
+    pub changes: u64,
 }
 
-fn refused(refusal: u64, place: u64) -> Rescued
-    ensures { result ≡ RefusedWith refusal place }
+fn refused(refusal: u64, place: u64) -> Result<Rescued, Refused>
+    ensures { result ≡ Err (record { refusal = refusal; place = place }) }
 {
-    Rescued::Refused { refusal, place }
+    Err(Refused { refusal, place })
 }
 
 // A proper text and what was changed, given: both rooms are tested before anything is written.
-fn give(made: &[u8], marks: &[u8], out: &mut [u8], list: &mut [u64]) -> Rescued
+fn give(made: &[u8], marks: &[u8], out: &mut [u8], list: &mut [u64]) -> Result<Rescued, Refused>
     requires { length marks.now ≤ 65536 }
     ensures { Gives made.now marks.now out.old out.new list.old list.new result }
 {
@@ -395,10 +393,10 @@ fn give(made: &[u8], marks: &[u8], out: &mut [u8], list: &mut [u64]) -> Rescued
     }
     copy(made, out);
     write(marks, list);
-    Rescued::Done {
+    Ok(Rescued {
         length: made.len() as u64,
         changes,
-    }
+    })
 }
 
 // Whether the reader accepts a looser text: then it is its own proper text.
@@ -407,23 +405,23 @@ fn is_proper(text: &[u8]) -> bool
     ensures { result ≡ true → Same text.now }
 {
     match reader::check(text) {
-        Checked::Refused { .. } => false,
-        Checked::Text { .. } => true,
+        Err(Refused { .. }) => false,
+        Ok(Checked { .. }) => true,
     }
 }
 
 // A proper text given as it stands.
-fn give_same(text: &[u8], out: &mut [u8]) -> Rescued
+fn give_same(text: &[u8], out: &mut [u8]) -> Result<Rescued, Refused>
     ensures { GivesSame text.now out.old out.new result }
 {
     if out.len() < text.len() {
         return refused(8, 0);
     }
     copy(text, out);
-    Rescued::Done {
+    Ok(Rescued {
         length: text.len() as u64,
         changes: 0,
-    }
+    })
 }
 
 // The rescue of a looser text in lent memory, each part of it as long as the text at least.
@@ -438,7 +436,7 @@ fn rescue_in(
     stood: &mut [u8],
     out: &mut [u8],
     list: &mut [u64],
-) -> Rescued
+) -> Result<Rescued, Refused>
     requires text_value { (loose_refusal text.now ≡ 0) × (arrangement ≡ loose_arrangement text.now) }
     requires text_in_bounds { (length text.now ≤ length codes.old) × (length codes.old ≤ length spare.old) × (length text.now ≤ length made.old) }
     requires text_in_bounds_2 { (length text.now ≤ length marks.old) × (length text.now ≤ length named.old) × (length text.now ≤ length stood.old) }
@@ -463,7 +461,12 @@ fn rescue_in(
 }
 
 // The rescue of a looser text of at most 4,096 bytes. The memory of a call is cleared each time, so short texts have little of it.
-fn rescue_short(text: &[u8], arrangement: Arrangement, out: &mut [u8], list: &mut [u64]) -> Rescued
+fn rescue_short(
+    text: &[u8],
+    arrangement: Arrangement,
+    out: &mut [u8],
+    list: &mut [u64],
+) -> Result<Rescued, Refused>
     requires { (loose_refusal text.now ≡ 0) × (arrangement ≡ loose_arrangement text.now) × (length text.now ≤ 4096) }
     ensures { RescueIs text.now out.old out.new list.old list.new result }
 {
@@ -488,7 +491,12 @@ fn rescue_short(text: &[u8], arrangement: Arrangement, out: &mut [u8], list: &mu
 }
 
 // The rescue of any looser text.
-fn rescue_long(text: &[u8], arrangement: Arrangement, out: &mut [u8], list: &mut [u64]) -> Rescued
+fn rescue_long(
+    text: &[u8],
+    arrangement: Arrangement,
+    out: &mut [u8],
+    list: &mut [u64],
+) -> Result<Rescued, Refused>
     requires { (loose_refusal text.now ≡ 0) × (arrangement ≡ loose_arrangement text.now) }
     ensures { RescueIs text.now out.old out.new list.old list.new result }
 {
@@ -513,7 +521,12 @@ fn rescue_long(text: &[u8], arrangement: Arrangement, out: &mut [u8], list: &mut
 }
 
 // The rescue of a looser text.
-fn rescue_loose(text: &[u8], arrangement: Arrangement, out: &mut [u8], list: &mut [u64]) -> Rescued
+fn rescue_loose(
+    text: &[u8],
+    arrangement: Arrangement,
+    out: &mut [u8],
+    list: &mut [u64],
+) -> Result<Rescued, Refused>
     requires { (loose_refusal text.now ≡ 0) × (arrangement ≡ loose_arrangement text.now) }
     ensures { RescueIs text.now out.old out.new list.old list.new result }
 {
@@ -528,11 +541,11 @@ fn rescue_loose(text: &[u8], arrangement: Arrangement, out: &mut [u8], list: &mu
 
 // The rescue of any bytes: the proper text into `out`, and what was changed, place and kind one behind the other, into `list`; 13, 10, 9 or 8 where
 // there is none.
-pub fn rescue(text: &[u8], out: &mut [u8], list: &mut [u64]) -> Rescued
+pub fn rescue(text: &[u8], out: &mut [u8], list: &mut [u64]) -> Result<Rescued, Refused>
     ensures { RescueIs text.now out.old out.new list.old list.new result }
 {
     match loose::look(text) {
-        Looked::Refused { refusal, place } => refused(refusal, place),
-        Looked::Loose(arrangement) => rescue_loose(text, arrangement, out, list),
+        Err(Refused { refusal, place }) => refused(refusal, place),
+        Ok(arrangement) => rescue_loose(text, arrangement, out, list),
     }
 }

@@ -11,7 +11,6 @@ ghost use Rattle.settings.specs.Asked.{settings_given, asked_fresh, asked_change
 ghost use Rattle.settings.specs.Answered.{answered, changed_from, read_line};
 
 use console::Loaded;
-use decimal::Whole;
 use history::{History, HistoryAnswer, Settings};
 use std::io::ErrorKind;
 
@@ -29,13 +28,6 @@ enum Asked {
     Changed(Change),
     Read(u64),
     List,
-    Wrong,
-}
-
-// Four words as settings.
-#[derive(Clone, Copy)]
-enum SettingsGiven {
-    Good(Settings),
     Wrong,
 }
 
@@ -62,22 +54,19 @@ fn usage(rt: &HostRuntime) {
 }
 
 // The settings that four words say.
-fn settings_given(n: Whole, s: Whole, resolution: Whole, eccentricity: Whole) -> SettingsGiven
+fn settings_given(
+    n: Option<u64>,
+    s: Option<u64>,
+    resolution: Option<u64>,
+    eccentricity: Option<u64>,
+) -> Option<Settings>
     ensures { result ≡ settings_given n s resolution eccentricity }
 {
-    let Whole::Is(n) = n else {
-        return SettingsGiven::Wrong;
-    };
-    let Whole::Is(s) = s else {
-        return SettingsGiven::Wrong;
-    };
-    let Whole::Is(resolution) = resolution else {
-        return SettingsGiven::Wrong;
-    };
-    let Whole::Is(eccentricity) = eccentricity else {
-        return SettingsGiven::Wrong;
-    };
-    SettingsGiven::Good(Settings {
+    let n = n?;
+    let s = s?;
+    let resolution = resolution?;
+    let eccentricity = eccentricity?;
+    Some(Settings {
         n, // as given
         s,
         resolution,
@@ -85,50 +74,50 @@ fn settings_given(n: Whole, s: Whole, resolution: Whole, eccentricity: Whole) ->
     })
 }
 
-fn asked_fresh(given: SettingsGiven) -> Asked
+fn asked_fresh(given: Option<Settings>) -> Asked
     ensures { result ≡ asked_fresh given }
 {
     match given {
-        SettingsGiven::Good(settings) => Asked::Changed(Change::Fresh(settings)),
-        SettingsGiven::Wrong => Asked::Wrong, // nothing fresh
+        Some(settings) => Asked::Changed(Change::Fresh(settings)),
+        None => Asked::Wrong, // nothing fresh
     }
 }
 
-fn asked_change(from: Whole, given: SettingsGiven) -> Asked
+fn asked_change(from: Option<u64>, given: Option<Settings>) -> Asked
     ensures { result ≡ asked_change from given }
 {
-    let Whole::Is(from) = from else {
+    let Some(from) = from else {
         return Asked::Wrong;
     };
     match given {
-        SettingsGiven::Good(settings) => Asked::Changed(Change::To { from, settings }),
-        SettingsGiven::Wrong => Asked::Wrong, // nothing new
+        Some(settings) => Asked::Changed(Change::To { from, settings }),
+        None => Asked::Wrong, // nothing new
     }
 }
 
-fn asked_back(from: Whole, wanted: Whole) -> Asked
+fn asked_back(from: Option<u64>, wanted: Option<u64>) -> Asked
     ensures { result ≡ asked_back from wanted }
 {
-    let Whole::Is(from) = from else {
+    let Some(from) = from else {
         return Asked::Wrong;
     };
     match wanted {
-        Whole::Is(wanted) => Asked::Changed(Change::Back { from, wanted }),
-        Whole::Not => Asked::Wrong,
+        Some(wanted) => Asked::Changed(Change::Back { from, wanted }),
+        None => Asked::Wrong,
     }
 }
 
-fn asked_read(revision: Whole) -> Asked
+fn asked_read(revision: Option<u64>) -> Asked
     ensures { result ≡ asked_read revision }
 {
     match revision {
-        Whole::Is(revision) => Asked::Read(revision),
-        Whole::Not => Asked::Wrong,
+        Some(revision) => Asked::Read(revision),
+        None => Asked::Wrong,
     }
 }
 
 // The settings that the words from this number on say.
-fn settings_from(rt: &HostRuntime, i: usize) -> SettingsGiven
+fn settings_from(rt: &HostRuntime, i: usize) -> Option<Settings>
     requires { i ≤ 8 }
 {
     settings_given(

@@ -1,4 +1,5 @@
 -- The answers of `check` and `write`: a refusal leaves the lent bytes as they were. Assumes nothing.
+use Rattle.std.specs.Prelude.{Err, Ok}
 use mathlib.Core.Path.{◌≡◌, refl, sym, ap, ◌∙◌}
 use mathlib.Core.Bool.{Bool, true, false, ◌||◌, cond}
 use mathlib.Core.List.{List}
@@ -18,7 +19,6 @@ use Rattle.sheet.specs.declared.Record.{Record}
 use Rattle.sheet.specs.declared.Standing.{Standing}
 use Rattle.sheet.specs.declared.Judged.{Judged}
 use Rattle.sheet.specs.declared.Judged.TheVariants as judged-as
-use Rattle.sheet.specs.declared.Written.TheVariants as written_as
 use Rattle.sheet.specs.Sheet.{records_of, joined, sheet_of, sheet_refusal, sheet_in, written}
 use Rattle.sheet.specs.Verdict.{verdict, judged, judged_of}
 use Rattle.sheet.specs.Parts.{StandsAt, start_at, told_of, ours_in, GoesOver, next_records, PartPut}
@@ -103,11 +103,11 @@ pub unread : {t : List ℕ} {r p : ℕ} (room : ℕ) → TextRefused t r p → s
 unfolding sheet_refusal
 unread room u = stops _ _ (λ z. u.some (sym u.refusal ∙ z)) ∙ u.refusal
 
-pub nothing_written : {q r p : ℕ} (t x b : List ℕ) → q ≡ r → (r ≡ 0 → ⊥) → p ≡ place_with r t → (written_as.Refused r p ≡ written q t) × (b ≡ given q x b)
+pub nothing_written : {q r p : ℕ} (t x b : List ℕ) → q ≡ r → (r ≡ 0 → ⊥) → p ≡ place_with r t → (Err (record { refusal = r; place = p }) ≡ written q t) × (b ≡ given q x b)
 unfolding written given
 nothing_written {r = zero} t x b e h k = absurd (h refl)
-nothing_written {r = suc r} t x b e h k = (ap (written_as.Refused (suc r)) k ∙ sym (ap (λ (y : ℕ). written y t) e), sym (ap (λ (y : ℕ). given y x b) e))
+nothing_written {r = suc r} t x b e h k = (ap (λ (p : ℕ). Err (record { refusal = suc r; place = p })) k ∙ sym (ap (λ (y : ℕ). written y t) e), sym (ap (λ (y : ℕ). given y x b) e))
 
-pub all-written : {q c : ℕ} {y x : List ℕ} (t b : List ℕ) → q ≡ 0 → c ≡ length (sheet_of t) → y ≡ x → (written_as.Length c ≡ written q t) × (y ≡ given q x b)
+pub all-written : {q c : ℕ} {y x : List ℕ} (t b : List ℕ) → q ≡ 0 → c ≡ length (sheet_of t) → y ≡ x → (Ok c ≡ written q t) × (y ≡ given q x b)
 unfolding written given
-all-written {x = x} t b e h k = (ap written_as.Length h ∙ sym (ap (λ (a : ℕ). written a t) e), k ∙ sym (ap (λ (a : ℕ). given a x b) e))
+all-written {x = x} t b e h k = (ap Ok h ∙ sym (ap (λ (a : ℕ). written a t) e), k ∙ sym (ap (λ (a : ℕ). given a x b) e))

@@ -1,4 +1,5 @@
 -- A sheet beside the walk over the text: records compared, and records put. Assumes nothing.
+use Rattle.std.specs.Prelude.{None, Option, Some}
 use mathlib.Core.Path.{◌≡◌, refl, sym, ap, ap₂, ◌∙◌, subst}
 use mathlib.Core.Bool.{Bool, true, false}
 use mathlib.Core.List.{List, [], ◌∷◌, ◌++◌}
@@ -16,8 +17,6 @@ use Rattle.reading.specs.TextReading.{nodes_of, text_arrangement}
 use Rattle.walk.specs.declared.Spot.{Spot}
 use Rattle.listing.proofs.Laws.List.{spot_code}
 use Rattle.sheet.specs.declared.Record.{Record}
-use Rattle.sheet.specs.declared.Next.{Next}
-use Rattle.sheet.specs.declared.Next.TheVariants.{Whole, End}
 use Rattle.sheet.specs.declared.Standing.{Standing}
 use Rattle.sheet.specs.Sheet.{record_of, records_of, bytes_of, joined}
 use Rattle.sheet.specs.Verdict.{starts}
@@ -30,10 +29,10 @@ use Rattle.sheet.proofs.Laws.Stands.{code_there, record_there, Comes, comes, non
 -- ---- the next whole cell
 
 module _ {t : List ℕ} {k i : ℕ} {s : Spot} (x : Stands t k i s) where
-  pub came : {n : Next} {s' : Spot} {j : ℕ} → NextIs t i s n → n ≡ Whole s' j → Comes t k j s'
+  pub came : {n : Option (Spot × ℕ)} {s' : Spot} {j : ℕ} → NextIs t i s n → n ≡ Some (s', j) → Comes t k j s'
   came e h = let p = subst (NextIs t i s) h e in comes x p.0 p.1
 
-  pub ended : {n : Next} → NextIs t i s n → n ≡ End → length (whole_cells (nodes_of t)) ≤ k
+  pub ended : {n : Option (Spot × ℕ)} → NextIs t i s n → n ≡ None → length (whole_cells (nodes_of t)) ≤ k
   ended e h = none-comes x (subst (NextIs t i s) h e)
 
 pub some_left : {t : List ℕ} {k j : ℕ} {s : Spot} → Comes t k j s → false ≡ leb (length (records_of t)) k

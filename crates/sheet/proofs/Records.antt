@@ -1,10 +1,9 @@
 -- The record of a code: its cell was found, and its neighbours are cells. Assumes nothing.
+use Rattle.std.specs.Prelude.{Err, Ok, Result}
 use mathlib.Core.Path.{◌≡◌, sym, ◌∙◌, subst}
 use mathlib.Core.Bool.{true}
 use Prim.Native.Nat.{ℕ}
 use Rattle.cell.specs.declared.Cell.{Cell}
-use Rattle.cell.specs.declared.Found.{Found}
-use Rattle.cell.specs.declared.Found.TheVariants.{At, Refused}
 use Rattle.cell.specs.Cell.{IsCell, found}
 use Rattle.cell.proofs.Laws.Found.{found_at, found-refused}
 use Rattle.cell.specs.Neighbour.{neighbour_of}
@@ -15,13 +14,13 @@ use Rattle.sheet.specs.declared.Record.{Record}
 use Rattle.sheet.specs.Sheet.{record_of}
 
 module _ (code : ℕ) (v : is_code code ≡ true) where
-  pub of_code : {f : Found} {x : Cell} → f ≡ found (code_refusal code) (cell_of code) → f ≡ At x → x ≡ cell_of code
+  pub of_code : {f : Result Cell ℕ} {x : Cell} → f ≡ found (code_refusal code) (cell_of code) → f ≡ Ok x → x ≡ cell_of code
   of_code {x = x} e h = (found_at (code_refusal code) (cell_of code) x (sym h ∙ e)).1
 
-  pub is-of-code : {f : Found} {x : Cell} → f ≡ found (code_refusal code) (cell_of code) → f ≡ At x → IsCell x
+  pub is-of-code : {f : Result Cell ℕ} {x : Cell} → f ≡ found (code_refusal code) (cell_of code) → f ≡ Ok x → IsCell x
   is-of-code e h = subst IsCell (sym (of_code e h)) (code-is-cell code v)
 
-  pub not-no-code : {f : Found} {q : ℕ} → f ≡ found (code_refusal code) (cell_of code) → f ≡ Refused q → ⊥
+  pub not-no-code : {f : Result Cell ℕ} {q : ℕ} → f ≡ found (code_refusal code) (cell_of code) → f ≡ Err q → ⊥
   not-no-code {q = q} e h = (found-refused (code_refusal code) (cell_of code) q (sym h ∙ e)).1 (code-passes code v)
 
   -- the record that is made of a code and its cell's neighbours

@@ -1,6 +1,7 @@
 -- A partner's neighbour sheet (02, W-211): the sheet of our rules, when a sheet is right, which record a no names, and what writing answers. Assumes
 -- nothing.
-use Rattle.std.specs.Prelude.{◌≡◌, List, [], ◌∷◌, ◌++◌, map, ℕ, zero, suc, ◌*◌, ◌/◌, ◌%◌, ◌^◌, ◌<◌, ltb, length, take, drop}
+use Rattle.std.specs.Prelude.{◌≡◌, List, [], ◌∷◌, ◌++◌, map, ℕ, zero, suc, ◌*◌, ◌/◌, ◌%◌, ◌^◌, ◌<◌, ltb, length, take, drop, Err, Ok, Result}
+use Rattle.reading.specs.declared.Refused.{Refused}
 use Rattle.logic.specs.Lent.{in_front}
 use Rattle.logic.specs.Lists.{All, Mem}
 use Rattle.logic.specs.Refusal.{refuse, ◌otherwise◌}
@@ -14,8 +15,6 @@ use Rattle.reading.specs.TextReading.{nodes_of, text_arrangement}
 use Rattle.reader.specs.Check.{text_refusal, place_with}
 use Rattle.listing.specs.List.{codes_of}
 use Rattle.sheet.specs.declared.Record.{Record}
-use Rattle.sheet.specs.declared.Written.{Written}
-use Rattle.sheet.specs.declared.Written.TheVariants.{Length, Refused}
 
 -- ---- the sheet of our rules
 
@@ -104,6 +103,6 @@ unfoldable pub sheet_in : (t b : List ℕ) → List ℕ
 sheet_in t b = in_front (sheet_of t) b
 
 -- how many bytes were written, or the refusal and the place
-unfoldable pub written : (r : ℕ) (t : List ℕ) → Written
-written zero t = Length (length (sheet_of t))
-written (suc r) t = Refused (suc r) (place_with (suc r) t)
+unfoldable pub written : (r : ℕ) (t : List ℕ) → Result ℕ Refused
+written zero t = Ok (length (sheet_of t))
+written (suc r) t = Err (record { refusal = suc r; place = place_with (suc r) t })

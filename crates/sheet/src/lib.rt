@@ -15,8 +15,9 @@ ghost use Rattle.sheet.specs.Parts.{StandsAt, start_at, told_of, GoesOver, PartP
 ghost use Rattle.sheet.specs.Internal.Compared.{PartCompared};
 ghost use Rattle.sheet.specs.Internal.Next.{NextIs};
 
-use cell::{Arrangement, Cell, Found};
+use cell::{Arrangement, Cell};
 use reader::Checked;
+use reading::Refused;
 use walk::Spot;
 
 // A whole cell's code, and its neighbours' codes in direction order.
@@ -35,20 +36,6 @@ pub enum Judged {
     Right,
     Wrong(u64),
     Refused { refusal: u64, place: u64 },
-}
-
-// How many bytes were written; or the refusal, with the place for 9.
-#[derive(Clone, Copy)]
-pub enum Written {
-    Length(u64),
-    Refused { refusal: u64, place: u64 },
-}
-
-// The next whole cell and the place behind its letter or digit; or there is none.
-#[derive(Clone, Copy)]
-enum Next {
-    Whole(Spot, usize),
-    End,
 }
 
 // Where a sheet stands that comes or goes in parts: how many records lie behind, where the walk over the text is behind their cells, and whether a
@@ -75,7 +62,7 @@ fn record_of(code: u64) -> Record
     ensures { result ≡ record_of (arrangement_of code) (cell_of code) }
 {
     let arrangement = code::arrangement_of(code);
-    let Found::At(cell) = code::cell_of(code) else {
+    let Ok(cell) = code::cell_of(code) else {
         return Record {
             code: 0,
             up: 0,
@@ -94,7 +81,7 @@ fn record_of(code: u64) -> Record
 }
 
 // The next whole cell from a place on.
-fn next_whole(text: &[u8], spot: Spot, at: usize) -> Next
+fn next_whole(text: &[u8], spot: Spot, at: usize) -> Option<(Spot, usize)>
     requires { Walks text.now at spot }
     ensures { NextIs text.now at spot result }
 {
@@ -105,10 +92,10 @@ fn next_whole(text: &[u8], spot: Spot, at: usize) -> Next
         let whole = walk::whole_at(text, i);
         i = i + 1;
         if whole {
-            return Next::Whole(here, i);
+            return Some((here, i));
         }
     }
-    Next::End
+    None
 }
 
 // Whether a number stands at a place of the sheet, low byte first.
@@ -181,7 +168,7 @@ fn compare_part(text: &[u8], arrangement: Arrangement, standing: Standing, part:
     let mut records = standing.records;
     let mut i: usize = 0;
     while i < part.len() {
-        let Next::Whole(here, behind) = next_whole(text, spot, at) else {
+        let Some((here, behind)) = next_whole(text, spot, at) else {
             return Standing {
                 spot,
                 at,
@@ -229,8 +216,8 @@ fn none_left(text: &[u8], standing: Standing) -> bool
 {
     let at = standing.at;
     match next_whole(text, standing.spot, at) {
-        Next::Whole(_, _) => false,
-        Next::End => true,
+        Some((_, _)) => false,
+        None => true,
     }
 }
 
@@ -261,17 +248,10 @@ pub fn check(text: &[u8], sheet: &[u8]) -> Judged
     ensures { result ≡ judged_of text.now sheet.now }
 {
     match reader::check(text) {
-        Checked::Refused { refusal, place } => Judged::Refused { refusal, place },
-        Checked::Text {
-            profile: _,
-            north,
-            south,
-            cells: _,
-            size: _,
-            body,
-        } => {
-            let arrangement = Arrangement { north, south }; // of the sheet
-            judge(text, arrangement, body, sheet)
+        Err(Refused { refusal, place }) => Judged::Refused { refusal, place },
+        Ok(checked) => {
+            let arrangement = checked.arrangement; // of the sheet
+            judge(text, arrangement, checked.body, sheet)
         }
     }
 }
@@ -319,7 +299,7 @@ pub fn put_part(
     let mut records = standing.records;
     let mut i: usize = 0;
     while buffer.len() - i >= 40 {
-        let Next::Whole(here, behind) = next_whole(text, spot, at) else {
+        let Some((here, behind)) = next_whole(text, spot, at) else {
             return Standing {
                 spot,
                 at,
@@ -343,29 +323,19 @@ pub fn put_part(
 }
 
 // Writes the sheet of our rules: 13, 10, 9 where the bytes are no text, 8 where the buffer is shorter than the sheet.
-pub fn write(text: &[u8], buffer: &mut [u8]) -> Written
+pub fn write(text: &[u8], buffer: &mut [u8]) -> Result<u64, Refused>
     ensures value { result ≡ written (sheet_refusal text.now (length buffer.old)) text.now }
     ensures buffer_after { buffer.new ≡ given (sheet_refusal text.now (length buffer.old)) (sheet_in text.now buffer.old) buffer.old }
 {
-    match reader::check(text) {
-        Checked::Refused { refusal, place } => Written::Refused { refusal, place },
-        Checked::Text {
-            profile: _,
-            north,
-            south,
-            cells,
-            size: _,
-            body,
-        } => {
-            if (buffer.len() as u64) / 40 < cells {
-                return Written::Refused {
-                    refusal: 8,
-                    place: 0,
-                };
-            }
-            let arrangement = Arrangement { north, south };
-            put_part(text, arrangement, start(body), buffer);
-            Written::Length(40 * cells)
-        }
+    let checked = reader::check(text)?;
+    let cells = checked.cells;
+    if (buffer.len() as u64) / 40 < cells {
+        return Err(Refused {
+            refusal: 8,
+            place: 0,
+        });
     }
+    let arrangement = checked.arrangement;
+    put_part(text, arrangement, start(checked.body), buffer);
+    Ok(40 * cells)
 }

@@ -10,8 +10,8 @@ ghost use Rattle.sheet.specs.Sheet.{records_of};
 ghost use Rattle.sheet_parts.specs.Printed.{judged_line, PartsWritten, SheetWritten, Judges, JudgesText};
 
 use cell::Arrangement;
-use console::BytesRead;
 use reader::Checked;
+use reading::Refused;
 use sheet::Judged;
 use std::fs::File;
 
@@ -46,6 +46,7 @@ fn put_parts(
 {
     let mut standing = sheet::start(body);
     let mut end: usize = 0;
+    // by hand: a turn goes on by as many records as there is room for
     while standing.records < cells {
         console::print_first(rt, out, end);
         let next = sheet::put_part(text, arrangement, standing, out);
@@ -62,22 +63,15 @@ pub fn put_sheet(rt: &HostRuntime, text: &[u8], out: &mut [u8]) -> SheetPut
     ensures end_in_bounds { result.end ≤ length out.new }
 {
     match reader::check(text) {
-        Checked::Refused { refusal, place } => SheetPut {
+        Err(Refused { refusal, place }) => SheetPut {
             end: 0,
             refusal,
             place,
         },
-        Checked::Text {
-            profile: _,
-            north,
-            south,
-            cells,
-            size: _,
-            body,
-        } => {
-            let arrangement = Arrangement { north, south };
+        Ok(checked) => {
+            let arrangement = checked.arrangement;
             SheetPut {
-                end: put_parts(rt, text, arrangement, body, cells, out),
+                end: put_parts(rt, text, arrangement, checked.body, checked.cells, out),
                 refusal: 0,
                 place: 0,
             }
@@ -100,8 +94,9 @@ fn judge_parts(
     ensures { Judges text.now part.new result }
 {
     let mut standing = sheet::start(body);
+    // by hand: it ends where the sheet does, not after a count
     loop {
-        let BytesRead::Count(count) = console::read_all(rt, b"coverage", path, file, part) else {
+        let Some(count) = console::read_all(rt, b"coverage", path, file, part) else {
             return sheet::told(text, sheet::start(body));
         };
         standing = sheet::go_over(text, arrangement, standing, &part[..count]);
@@ -126,17 +121,10 @@ pub fn judge_file(
     ensures { JudgesText (text_refusal text.now) text.now part.new result }
 {
     match reader::check(text) {
-        Checked::Refused { refusal, place } => Judged::Refused { refusal, place },
-        Checked::Text {
-            profile: _,
-            north,
-            south,
-            cells: _,
-            size: _,
-            body,
-        } => {
-            let arrangement = Arrangement { north, south };
-            judge_parts(rt, text, arrangement, body, file, path, part)
+        Err(Refused { refusal, place }) => Judged::Refused { refusal, place },
+        Ok(checked) => {
+            let arrangement = checked.arrangement;
+            judge_parts(rt, text, arrangement, checked.body, file, path, part)
         }
     }
 }

@@ -1,4 +1,5 @@
 -- The answers of `summarize` and of `question`, in the order of their tests. Assumes nothing.
+use Rattle.std.specs.Prelude.{Err, Ok}
 use mathlib.Core.Path.{◌≡◌, refl, sym, ap, ap₂, ◌∙◌}
 use mathlib.Core.Logic.{⊎_elim}
 use mathlib.Core.Bool.{Bool, true, false, ◌&&◌, not}
@@ -25,27 +26,25 @@ use Rattle.reading.specs.Ground.{whole_cells}
 use Rattle.reading.specs.TextReading.{nodes_of}
 use Rattle.reader.specs.Check.{text_refusal}
 use Rattle.reader.specs.Laws.Answer.{TextChecked, TextRefused}
-use Rattle.summary.specs.declared.Summarized.TheVariants as summarized-as
-use Rattle.summary.specs.declared.Questioned.TheVariants as questioned-as
 use Rattle.summary.specs.Summary.{counters_of, summarized, kept_counters, all_full, is_full, question_refusal, questioned}
 
 -- ---- a text's summary
 
 pub not-summed :
-    {t : List ℕ} {r p : ℕ} (counters : List ℕ) → TextRefused t r p → (summarized-as.Refused r p ≡ summarized (text_refusal t) t) × (counters ≡ kept_counters t counters)
+    {t : List ℕ} {r p : ℕ} (counters : List ℕ) → TextRefused t r p → (Err (record { refusal = r; place = p }) ≡ summarized (text_refusal t) t) × (counters ≡ kept_counters t counters)
 unfolding summarized kept_counters
 not-summed {t = t} {r = zero} {p = p} counters u = absurd (u.some refl)
 not-summed {t = t} {r = suc r} {p = p} counters u = (
-  ap (summarized-as.Refused (suc r)) u.place ∙ sym (ap (λ (q : ℕ). summarized q t) u.refusal),
+  ap (λ (p : ℕ). Err (record { refusal = suc r; place = p })) u.place ∙ sym (ap (λ (q : ℕ). summarized q t) u.refusal),
   sym (given-none (text_refusal t) (counters_of (whole_cells (nodes_of t))) counters (λ z. u.some (sym u.refusal ∙ z))),
 )
 
 pub summed :
     {t later : List ℕ} {p : Profile} {n s c z b : ℕ} (counters : List ℕ) → TextChecked t p n s c z b → later ≡ counters_of (whole_cells (nodes_of t)) →
-    (summarized-as.Kept n s ≡ summarized (text_refusal t) t) × (later ≡ kept_counters t counters)
+    (Ok (record { north = n; south = s }) ≡ summarized (text_refusal t) t) × (later ≡ kept_counters t counters)
 unfolding summarized kept_counters
 summed {t} counters r e = (
-  ap₂ summarized-as.Kept r.north r.south ∙ sym (ap (λ (q : ℕ). summarized q t) r.allowed),
+  ap₂ (λ (a b : ℕ). Ok (record { north = a; south = b })) r.north r.south ∙ sym (ap (λ (q : ℕ). summarized q t) r.allowed),
   e ∙ sym (given-value (counters_of (whole_cells (nodes_of t))) counters r.allowed),
 )
 
@@ -116,16 +115,16 @@ module _ (kept : Arrangement) (code : ℕ) where
 
 pub question-refused :
     {r : ℕ} (kept : Arrangement) (counters : List ℕ) (code : ℕ) → r ≡ question_refusal kept code → (r ≡ 0 → ⊥) →
-    questioned-as.Refused r ≡ questioned (question_refusal kept code) counters code
+    Err r ≡ questioned (question_refusal kept code) counters code
 unfolding questioned
 question-refused {r = zero} kept counters code e h = absurd (h refl)
 question-refused {r = suc r} kept counters code e h = ap (λ (q : ℕ). questioned q counters code) e
 
 pub question-answered :
     {b : Bool} (kept : Arrangement) (counters : List ℕ) (code : ℕ) → 0 ≡ question_refusal kept code → b ≡ is_full counters (cell_of code) →
-    questioned-as.Answer b ≡ questioned (question_refusal kept code) counters code
+    Ok b ≡ questioned (question_refusal kept code) counters code
 unfolding questioned
-question-answered kept counters code e f = ap questioned-as.Answer f ∙ ap (λ (q : ℕ). questioned q counters code) e
+question-answered kept counters code e f = ap Ok f ∙ ap (λ (q : ℕ). questioned q counters code) e
 
 pub asks-code : (kept : Arrangement) (code : ℕ) → question_refusal kept code ≡ 0 → is_code code ≡ true
 unfolding question_refusal

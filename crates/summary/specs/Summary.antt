@@ -1,6 +1,7 @@
 -- A summary kept beside the text (02, W-207): 486 counters and the heading's n and s; and questions answered from them. Laws/Summary shows that they
 -- are answered as the text answers. Assumes nothing.
-use Rattle.std.specs.Prelude.{Bool, true, false, ◌&&◌, ◌||◌, not, List, [], ◌∷◌, ℕ, zero, suc, ◌+◌, ◌*◌, ◌/◌, ◌^◌, eqb, ltb, get_or, replicate}
+use Rattle.std.specs.Prelude.{Bool, true, false, ◌&&◌, ◌||◌, not, List, [], ◌∷◌, ℕ, zero, suc, ◌+◌, ◌*◌, ◌/◌, ◌^◌, eqb, ltb, get_or, replicate, Err, Ok, Result}
+use Rattle.reading.specs.declared.Refused.{Refused}
 use Rattle.logic.specs.Refusal.{refuse, ◌otherwise◌, given}
 use Rattle.counting.specs.Count.{count_of, between, tabulate}
 use Rattle.cell.specs.declared.Cell.{Cell}
@@ -11,10 +12,6 @@ use Rattle.code.specs.Inside.{start_of, end_of}
 use Rattle.reading.specs.Ground.{whole_cells}
 use Rattle.reading.specs.TextReading.{nodes_of, north_of, south_of}
 use Rattle.reader.specs.Check.{text_refusal, place_with}
-use Rattle.summary.specs.declared.Summarized.{Summarized}
-use Rattle.summary.specs.declared.Summarized.TheVariants as summarized-as
-use Rattle.summary.specs.declared.Questioned.{Questioned}
-use Rattle.summary.specs.declared.Questioned.TheVariants as questioned-as
 
 -- the finest cell of this number is covered by these cells: the finest cells are numbered in code order, and a cell has those from its start to its end
 unfoldable pub covered_at : List Cell → ℕ → Bool
@@ -36,9 +33,9 @@ zeros = replicate 486 0
 -- ---- a text's summary
 
 -- "and the heading's n and s"; or the text's refusal, 13, 10 or 9, and the place
-unfoldable pub summarized : (r : ℕ) (t : List ℕ) → Summarized
-summarized zero t = summarized-as.Kept (north_of t) (south_of t)
-summarized (suc r) t = summarized-as.Refused (suc r) (place_with (suc r) t)
+unfoldable pub summarized : (r : ℕ) (t : List ℕ) → Result Arrangement Refused
+summarized zero t = Ok (record { north = north_of t; south = south_of t })
+summarized (suc r) t = Err (record { refusal = suc r; place = place_with (suc r) t })
 
 -- the counters beside it, which are lent: "A refusal changes no lent byte"
 unfoldable pub kept_counters : (t lent : List ℕ) → List ℕ
@@ -65,7 +62,7 @@ question_refusal kept code =
     refuse (not (is_of kept code)) 14
 
 -- yes or no, or the refusal
-unfoldable pub questioned : (r : ℕ) (counters : List ℕ) (code : ℕ) → Questioned
+unfoldable pub questioned : (r : ℕ) (counters : List ℕ) (code : ℕ) → Result Bool ℕ
 unfolding is_full
-questioned zero counters code = questioned-as.Answer (is_full counters (cell_of code))
-questioned (suc r) counters code = questioned-as.Refused (suc r)
+questioned zero counters code = Ok (is_full counters (cell_of code))
+questioned (suc r) counters code = Err (suc r)

@@ -11,24 +11,11 @@ ghost use Rattle.summary.specs.Internal.Raised.{in_counter, raised, amounts, Roo
 
 use cell::Arrangement;
 use reader::Checked;
+use reading::Refused;
 use walk::Spot;
 
 // The size of a cell of resolution 2, 9^13.
 pub const DISTRICT_SIZE: u64 = 2_541_865_828_329;
-
-// The heading's n and s, which are kept with the counters; or the refusal, with the place for 9.
-#[derive(Clone, Copy)]
-pub enum Summarized {
-    Kept { north: u64, south: u64 },
-    Refused { refusal: u64, place: u64 },
-}
-
-// Whether a cell's finest cells are all covered, by the counters; or the refusal.
-#[derive(Clone, Copy)]
-pub enum Questioned {
-    Answer(bool),
-    Refused(u64),
-}
 
 // Adds an amount to `count` counters, from `first` on.
 fn raise(counters: &mut [u64; 486], first: usize, count: usize, amount: u64)
@@ -86,24 +73,13 @@ fn count_cells(text: &[u8], body: usize, counters: &mut [u64; 486])
 }
 
 // The summary of any bytes: 13, 10, 9 where they are no text.
-pub fn summarize(text: &[u8], counters: &mut [u64; 486]) -> Summarized
+pub fn summarize(text: &[u8], counters: &mut [u64; 486]) -> Result<Arrangement, Refused>
     ensures value { result ≡ summarized (text_refusal text.now) text.now }
     ensures counters_after { counters.new ≡ kept_counters text.now counters.old }
 {
-    match reader::check(text) {
-        Checked::Refused { refusal, place } => Summarized::Refused { refusal, place },
-        Checked::Text {
-            profile: _,
-            north,
-            south,
-            cells: _,
-            size: _,
-            body,
-        } => {
-            count_cells(text, body, counters);
-            Summarized::Kept { north, south }
-        }
-    }
+    let checked = reader::check(text)?;
+    count_cells(text, checked.body, counters);
+    Ok(checked.arrangement)
 }
 
 // Whether each of these counters is 9^13.
@@ -142,14 +118,14 @@ fn question_refusal(kept: Arrangement, code: u64) -> u64
 }
 
 // Whether a cell of resolution 0 to 2 is covered, by any n, s and counters that are kept.
-pub fn question(kept: Arrangement, counters: &[u64; 486], code: u64) -> Questioned
+pub fn question(kept: Arrangement, counters: &[u64; 486], code: u64) -> Result<bool, u64>
     ensures { result ≡ questioned (question_refusal kept code) counters.now code }
 {
     let refusal = question_refusal(kept, code);
     if refusal != 0 {
-        return Questioned::Refused(refusal);
+        return Err(refusal);
     }
     let first = (code::start_in(code) / DISTRICT_SIZE) as usize;
     let count = (code::size_in(code) / DISTRICT_SIZE) as usize;
-    Questioned::Answer(all_full(counters, first, count))
+    Ok(all_full(counters, first, count))
 }

@@ -1,4 +1,5 @@
 -- The answers of `add`: a code at its place changes nothing, a new one goes there where there is room. Assumes nothing.
+use Rattle.std.specs.Prelude.{Err, Ok, Result}
 use mathlib.Core.Path.{◌≡◌, refl, sym, ap, ap₂, ◌∙◌, subst}
 use mathlib.Core.Logic.{⊎_elim}
 use mathlib.Core.Bool.{Bool}
@@ -10,8 +11,6 @@ use lib.Seq.{take_at, take-take, take-add, get_or-take, length-take-le, drop_at}
 use borrow.Author.Tests.{lt-ltb, le-ltb}
 use Rattle.logic.specs.Refusal.{refuse, given}
 use Rattle.logic.specs.Rise.{Rise}
-use Rattle.track.specs.declared.Added.{Added}
-use Rattle.track.specs.declared.Added.TheVariants.{Count, Refused}
 use Rattle.logic.specs.Laws.Order.{lt-or}
 use Rattle.track.specs.Track.{Held, inserted, number_below, add_refusal, counted, added, held_after, memory}
 use Rattle.track.specs.Laws.Track.{inserted-rises}
@@ -26,18 +25,18 @@ unfolding add_refusal
 not-refused room held code h = ap (λ (b : Bool). refuse b 8) (le-ltb room (length (inserted code held)) h)
 
 -- nothing is refused
-taken : (codes held : List ℕ) (code n : ℕ) → n ≡ length (inserted code held) → n ≤ length codes → (Count n ≡ added (length codes) held code) ×
+taken : (codes held : List ℕ) (code n : ℕ) → n ≡ length (inserted code held) → n ≤ length codes → (Ok n ≡ added (length codes) held code) ×
     (inserted code held ++ drop n codes ≡ memory codes held code)
 unfolding counted memory given
 taken codes held code n e h =
     let z : add_refusal (length codes) held code ≡ 0 = not-refused (length codes) held code (omega arith) in (
-      ap Count e ∙ sym (ap (λ (r : ℕ). counted r (length (inserted code held))) z),
+      ap Ok e ∙ sym (ap (λ (r : ℕ). counted r (length (inserted code held))) z),
       ap (λ (k : ℕ). inserted code held ++ drop k codes) e ∙ sym
           (ap (λ (r : ℕ). given r (inserted code held ++ drop (length (inserted code held)) codes) codes) z),
     )
 
 -- refused with 8
-full : (codes held : List ℕ) (code : ℕ) → length codes < length (inserted code held) → (Refused 8 ≡ added (length codes) held code) × (codes ≡ memory codes held code)
+full : (codes held : List ℕ) (code : ℕ) → length codes < length (inserted code held) → (Err 8 ≡ added (length codes) held code) × (codes ≡ memory codes held code)
 unfolding counted memory given
 full codes held code h =
     let z : add_refusal (length codes) held code ≡ 8 = refused-8 (length codes) held code h in
@@ -50,11 +49,11 @@ held_after_lem codes count code h =
     (λ l.
     let f = full codes (take count codes) code l in
     subst (λ (x : List ℕ). Held x (held_after (added (length codes) (take count codes) code) count)) f.1
-    (subst (λ (a : Added). Held codes (held_after a count)) f.0 h))
+    (subst (λ (a : Result ℕ ℕ). Held codes (held_after a count)) f.0 h))
     (λ l.
     let t = taken codes (take count codes) code (length (inserted code (take count codes))) refl l in
     subst (λ (x : List ℕ). Held x (held_after (added (length codes) (take count codes) code) count)) t.1
-    (subst (λ (a : Added). Held (inserted code (take count codes) ++ drop (length (inserted code (take count codes))) codes) (held_after a count)) t.0
+    (subst (λ (a : Result ℕ ℕ). Held (inserted code (take count codes) ++ drop (length (inserted code (take count codes))) codes) (held_after a count)) t.0
     (in-front (inserted code (take count codes)) (drop (length (inserted code (take count codes))) codes) (inserted-rises code (take count codes) h.rises))))
     (lt-or (length codes) (length (inserted code (take count codes))))
   where
@@ -62,13 +61,13 @@ held_after_lem codes count code h =
     in-front xs ys r = record { fits = omega (arith, length-append xs ys); rises = subst Rise (sym (take_at xs ys (length xs) refl)) r }
 
 -- so an answer is one of `add`
-pub answered : (codes : List ℕ) (count code : ℕ) (r : Added) (exit : List ℕ) → Held codes count → (r ≡ added (length codes) (take count codes) code) ×
+pub answered : (codes : List ℕ) (count code : ℕ) (r : Result ℕ ℕ) (exit : List ℕ) → Held codes count → (r ≡ added (length codes) (take count codes) code) ×
     (exit ≡ memory codes (take count codes) code) → (r ≡ added (length codes) (take count codes) code) × ((exit ≡ memory codes (take count codes) code) × Held exit (held_after r count))
 answered codes count code r exit h e = (
   e.0,
   (
     e.1,
-    subst (λ (x : List ℕ). Held x (held_after r count)) (sym e.1) (subst (λ (a : Added). Held (memory codes (take count codes) code) (held_after a count)) (sym e.0)
+    subst (λ (x : List ℕ). Held x (held_after r count)) (sym e.1) (subst (λ (a : Result ℕ ℕ). Held (memory codes (take count codes) code) (held_after a count)) (sym e.0)
         (held_after_lem codes count code h)),
   ),
 )
@@ -81,7 +80,7 @@ module _ (codes : List ℕ) (count code place : ℕ) (h : count ≤ length codes
   within = omega (arith, place-within codes count code h)
 
   -- the code is held
-  pub was-held : place < count → get_or codes place 0 ≡ code → (Count count ≡ added (length codes) (take count codes) code) × (codes ≡ memory codes (take count codes) code)
+  pub was-held : place < count → get_or codes place 0 ≡ code → (Ok count ≡ added (length codes) (take count codes) code) × (codes ≡ memory codes (take count codes) code)
   was-held l k =
       let n = long in
       let same : inserted code (take count codes) ≡ take count codes =
@@ -114,7 +113,7 @@ module _ (codes : List ℕ) (count code place : ℕ) (h : count ≤ length codes
 
     -- there is room for it
     pub was-new : (exit : List ℕ) → count < length codes → exit ≡ take place codes ++ (code ∷ (take (count - place) (drop place codes) ++ drop (count + 1) codes)) →
-        (Count (count + 1) ≡ added (length codes) (take count codes) code) × (exit ≡ memory codes (take count codes) code)
+        (Ok (count + 1) ≡ added (length codes) (take count codes) code) × (exit ≡ memory codes (take count codes) code)
     was-new exit r x =
         let t = taken codes (take count codes) code (count + 1) (sym more) (omega arith) in (
           t.0,
@@ -123,5 +122,5 @@ module _ (codes : List ℕ) (count code place : ℕ) (h : count ≤ length codes
         )
 
     -- there is none
-    pub no_room : length codes ≤ count → (Refused 8 ≡ added (length codes) (take count codes) code) × (codes ≡ memory codes (take count codes) code)
+    pub no_room : length codes ≤ count → (Err 8 ≡ added (length codes) (take count codes) code) × (codes ≡ memory codes (take count codes) code)
     no_room r = full codes (take count codes) code (let m = more in omega arith)

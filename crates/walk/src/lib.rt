@@ -97,15 +97,13 @@ fn past_list(text: &[u8], at: usize) -> usize
     ensures { result ≡ at + shut_in 1 (drop at text.now) }
 {
     let mut depth: u64 = 1;
-    let mut i = at;
-    while i < text.len() {
+    for i in at..text.len() {
         depth = open_past(depth, text[i]);
-        i += 1;
         if depth == 0 {
-            return i;
+            return i + 1;
         }
     }
-    i
+    text.len().max(at)
 }
 
 // The place behind the node whose letter or digit stands at `i`.
@@ -114,7 +112,7 @@ pub fn past_node(text: &[u8], i: usize) -> usize
     ensures { result ≡ i + node_in (drop i text.now) }
 {
     if whole_at(text, i) {
-        return i + 1;
+        return i + 1; // no list follows
     }
     past_list(text, i + 2)
 }

@@ -1,4 +1,5 @@
 -- What the parts of writing hand back: the tests of the list, and the answers. Assumes nothing.
+use Rattle.std.specs.Prelude.{Err, Ok, Result}
 use mathlib.Core.Path.{◌≡◌, refl, sym, ap, ap₂, ◌∙◌}
 use mathlib.Core.Bool.{Bool, true, false, ◌&&◌, not}
 use mathlib.Core.Logic.{◌↔◌, ◌⊎◌, inl, inr, ⊎_elim}
@@ -22,8 +23,6 @@ use Rattle.reading.specs.declared.Profile.{Profile}
 use Rattle.reading.specs.declared.Profile.TheVariants.{Full, Handheld}
 use Rattle.reading.specs.Text.{IsProfile, version_of, heading}
 use Rattle.reading.specs.Written.{keeps}
-use Rattle.writing.specs.declared.Written.{Written}
-use Rattle.writing.specs.declared.Written.TheVariants.{Length, Refused}
 use Rattle.writing.specs.Write.{all_codes, all_of, ordered, codes_refusal, asks_for, text_of, fit_refusal, write_refusal, text_in, written}
 use Rattle.writing.specs.Internal.Put.{front}
 use Rattle.writing.specs.Internal.Asked.{asked_refusal}
@@ -235,17 +234,17 @@ depth_small q h = rw q at h
 
 -- ---- the answers
 
-pub refused : (w r n : ℕ) (x text : List ℕ) → w ≡ r → (r ≡ 0 → ⊥) → (Refused r ≡ written w n) × (text ≡ given w x text)
+pub refused : (w r n : ℕ) (x text : List ℕ) → w ≡ r → (r ≡ 0 → ⊥) → (Err r ≡ written w n) × (text ≡ given w x text)
 unfolding written given
 refused w r n x text e h = rw e (go r h)
   where
-    go : (r : ℕ) → (r ≡ 0 → ⊥) → (Refused r ≡ written r n) × (text ≡ given r x text)
+    go : (r : ℕ) → (r ≡ 0 → ⊥) → (Err r ≡ written r n) × (text ≡ given r x text)
     go zero h = absurd (h refl)
     go (suc r) h = (refl, refl)
 
-pub answered : (w m n : ℕ) (x text later : List ℕ) → w ≡ 0 → m ≡ n → later ≡ x → (Length m ≡ written w n) × (later ≡ given w x text)
+pub answered : (w m n : ℕ) (x text later : List ℕ) → w ≡ 0 → m ≡ n → later ≡ x → (Ok m ≡ written w n) × (later ≡ given w x text)
 unfolding written given
-answered w m n x text later e f g = rw e (ap Length f, g)
+answered w m n x text later e f g = rw e (ap Ok f, g)
 
 -- ---- what is written
 
@@ -272,7 +271,7 @@ module _ (version depth : ℕ) (a : Arrangement) (codes text : List ℕ) where
   asked-refused h = asked-first version depth a codes (length text) ∙ stops (asked_refusal version depth a codes) _ h
 
   pub fit-answered :
-      (p : Profile) {r : Written} {later : List ℕ} → asks_for version depth ≡ p → asked_refusal version depth a codes ≡ 0 →
+      (p : Profile) {r : Result ℕ ℕ} {later : List ℕ} → asks_for version depth ≡ p → asked_refusal version depth a codes ≡ 0 →
       (r ≡ written (fit_refusal p a codes (length text)) (length (text_of p a codes))) × (later ≡ given (fit_refusal p a codes (length text)) (text_in p a codes text) text) →
       (r ≡ written whole (length (text_of (asks_for version depth) a codes))) × (later ≡ given whole (text_in (asks_for version depth) a codes text) text)
   fit-answered p e z h = rw (asked-first version depth a codes (length text) ∙ passes _ z, e) h

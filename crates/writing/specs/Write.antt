@@ -1,13 +1,11 @@
 -- What writing answers (01 "The coverage text", "Refusal numbers"; 02, W-208 and W-210). Assumes nothing.
-use Rattle.std.specs.Prelude.{◌≡◌, ◌⊎◌, Bool, true, false, ◌&&◌, ◌||◌, not, cond, List, [], ◌∷◌, ◌++◌, map, ℕ, zero, suc, ◌≤◌, ltb, eqb, length, drop}
+use Rattle.std.specs.Prelude.{◌≡◌, ◌⊎◌, Bool, true, false, ◌&&◌, ◌||◌, not, cond, List, [], ◌∷◌, ◌++◌, map, ℕ, zero, suc, ◌≤◌, ltb, eqb, length, drop, Err, Ok, Result}
 use Rattle.logic.specs.Refusal.{refuse, ◌otherwise◌}
 use Rattle.cell.specs.declared.Cell.{Cell}
 use Rattle.cell.specs.declared.Arrangement.{Arrangement}
 use Rattle.cell.specs.Cell.{arrangement_refusal}
 use Rattle.code.specs.Code.{cell_of, arrangement_of, is_code, is_of}
 use Rattle.code.specs.Inside.{start_of, end_of, lies_within}
-use Rattle.writing.specs.declared.Written.{Written}
-use Rattle.writing.specs.declared.Written.TheVariants.{Length, Refused}
 use Rattle.logic.specs.Lists.{Any}
 use Rattle.reading.specs.Ground.{All, Rising, Apart}
 use Rattle.reading.specs.declared.Profile.{Profile}
@@ -104,6 +102,6 @@ text_in p a codes bytes = text_of p a codes ++ drop (length (text_of p a codes))
 
 -- ---- the answer: a length, or the number of the refusal
 
-unfoldable pub written : ℕ → ℕ → Written
-written zero n = Length n
-written (suc r) n = Refused (suc r)
+unfoldable pub written : ℕ → ℕ → Result ℕ ℕ
+written zero n = Ok n
+written (suc r) n = Err (suc r)

@@ -18,13 +18,6 @@ ghost use Rattle.writing.specs.Internal.Asked.{asked_refusal};
 use cell::Arrangement;
 use reading::Profile;
 
-// The length of a text that was written, or the number of the refusal.
-#[derive(Clone, Copy)]
-pub enum Written {
-    Length(u64),
-    Refused(u64),
-}
-
 // What was measured: the place of the next code, the bytes that the nodes make, how many of them are whole, and the least depth of version 2 that they keep to.
 #[derive(Clone, Copy)]
 struct Measure {
@@ -136,8 +129,7 @@ fn measure_list(codes: &[u64], at: usize, left: u64, start: u64, size: u64) -> M
     let mut bytes: u64 = 0;
     let mut wholes: u64 = 0;
     let mut depth: u64 = 0;
-    let mut more = left;
-    while more > 0 {
+    for _ in 0..left {
         if limit <= first {
             return Measure {
                 next,
@@ -152,7 +144,6 @@ fn measure_list(codes: &[u64], at: usize, left: u64, start: u64, size: u64) -> M
         wholes = wholes + node.wholes;
         depth = greater(depth, node.depth);
         first = start_at(codes, next);
-        more = more - 1;
     }
     Measure {
         next,
@@ -176,16 +167,14 @@ fn whole_until(codes: &[u64], at: usize, start: u64, size: u64) -> usize
     }
     let end = start + size;
     let mut position = start;
-    let mut i = at;
-    while i < codes.len() {
+    for i in at..codes.len() {
         let code = codes[i];
         if position < code::start_in(code) {
             return at;
         }
         position = position + code::size_in(code);
-        i = i + 1;
         if end <= position {
-            return i;
+            return i + 1;
         }
     }
     at
@@ -258,8 +247,7 @@ fn put_list(
     let mut child = start;
     let mut ends = place;
     let mut name = byte;
-    let mut more = left;
-    while more > 0 {
+    for _ in 0..left {
         let end = child + size;
         if first < end {
             let node = put_node(codes, next, child, size, text, ends, name);
@@ -269,7 +257,6 @@ fn put_list(
         }
         child = end;
         name = name + 1;
-        more = more - 1;
     }
     WrittenTo { next, place: ends }
 }
@@ -298,9 +285,7 @@ fn list_refusal(arrangement: Arrangement, codes: &[u64]) -> u64
 {
     let mut refusal: u64 = 0;
     let mut end: u64 = 0;
-    let mut i: usize = 0;
-    while i < codes.len() {
-        let code = codes[i];
+    for &code in codes {
         if !code::is_code(code) {
             return 4;
         }
@@ -308,7 +293,6 @@ fn list_refusal(arrangement: Arrangement, codes: &[u64]) -> u64
         let start = code::start_in(code);
         refusal = judged(refusal, own, end <= start);
         end = start + code::size_in(code);
-        i = i + 1;
     }
     refusal
 }
@@ -422,7 +406,12 @@ pub fn put_text(profile: Profile, arrangement: Arrangement, codes: &[u64], text:
 }
 
 // The text of a good list, into `text`: 15, 13 or 8 where there is none.
-fn write_good(profile: Profile, arrangement: Arrangement, codes: &[u64], text: &mut [u8]) -> Written
+fn write_good(
+    profile: Profile,
+    arrangement: Arrangement,
+    codes: &[u64],
+    text: &mut [u8],
+) -> Result<u64, u64>
     requires { IsProfile profile × IsArrangement arrangement × (codes_refusal arrangement codes.now ≡ 0) }
     ensures value { result ≡ written (fit_refusal profile arrangement codes.now (length text.old)) (length (text_of profile arrangement codes.now)) }
     ensures text_after { text.new ≡ given (fit_refusal profile arrangement codes.now (length text.old)) (text_in profile arrangement codes.now text.old) text.old }
@@ -430,16 +419,16 @@ fn write_good(profile: Profile, arrangement: Arrangement, codes: &[u64], text: &
     let extent = length_of(profile, codes);
     let length = extent.length;
     if breaks(profile, extent.depth) {
-        return Written::Refused(15);
+        return Err(15);
     }
     if length > reading::LONGEST as u64 {
-        return Written::Refused(13);
+        return Err(13);
     }
     if (text.len() as u64) < length {
-        return Written::Refused(8);
+        return Err(8);
     }
     put_text(profile, arrangement, codes, text);
-    Written::Length(length)
+    Ok(length)
 }
 
 // The text of a list of codes, of this version and, in version 2, of this depth, into `text`: 5, 2, 4, 10, 14, 11, 15, 13 or 8 where there is none.
@@ -449,13 +438,13 @@ pub fn write(
     arrangement: Arrangement,
     codes: &[u64],
     text: &mut [u8],
-) -> Written
+) -> Result<u64, u64>
     ensures value { result ≡ written (write_refusal version depth arrangement codes.now (length text.old)) (length (text_of (asks_for version depth) arrangement codes.now)) }
     ensures text_after { text.new ≡ given (write_refusal version depth arrangement codes.now (length text.old)) (text_in (asks_for version depth) arrangement codes.now text.old) text.old }
 {
     let refused = asked_refusal(version, depth, arrangement, codes);
     if refused != 0 {
-        return Written::Refused(refused);
+        return Err(refused);
     }
     if version == 1 {
         return write_good(Profile::Full, arrangement, codes, text);

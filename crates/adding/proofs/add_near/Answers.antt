@@ -20,14 +20,14 @@ use Rattle.adding.proofs.Names.{Spelt, not-nameless, name-spelt, start, add-fits
 use Rattle.adding.proofs.Nears.{text-stands, start-led, start-short, kept_near, kept-with, near-edit, near-gains}
 use native.Mathlib.Omega.{arith}
 use Rattle.adding.proofs.add_near.Goals as goal
-use Rattle.adding.proofs.add_near.Goals.{After-heading_length-body, After-reach-list, After-start_near-from, In-Length, Start}
+use Rattle.adding.proofs.add_near.Goals.{After-heading_length-body, After-reach-list, After-start_near-from, In-Ok, Start}
 
 -- the text, the name and the cell
 abbrev text_at : Start → List ℕ
 text_at s = take s.args.end s.args.text.now
 
-abbrev name-at : In-Length → List ℕ
-name-at c = take c.in-Length.letters c.code_name.new.name
+abbrev name-at : In-Ok → List ℕ
+name-at c = take c.in-Ok.letters c.code_name.new.name
 
 abbrev cell_at : Start → Cell
 cell_at s = cell_of s.args.code
@@ -36,8 +36,8 @@ is-cell : (s : Start) → IsCell (cell_at s)
 is-cell s = code-is-cell s.args.code s.requires.1
 
 -- states that were there before
-abbrev from-letters : In-Length → Start
-from-letters c = (goal.at.In-Length c).Start
+abbrev from-letters : In-Ok → Start
+from-letters c = (goal.at.In-Ok c).Start
 
 abbrev from-body : After-heading_length-body → Start
 from-body c = (goal.at.After-heading_length-body c).Start
@@ -45,15 +45,15 @@ from-body c = (goal.at.After-heading_length-body c).Start
 abbrev from-reach : After-reach-list → After-heading_length-body
 from-reach c = (goal.at.After-reach-list c).After-heading_length-body
 
-abbrev letters-of : After-heading_length-body → In-Length
-letters-of c = (goal.at.After-heading_length-body c).In-Length
+abbrev letters-of : After-heading_length-body → In-Ok
+letters-of c = (goal.at.After-heading_length-body c).In-Ok
 
 -- the name's bytes, where there are so many letters
-spelt : (c : In-Length) → Spelt (from-letters c).args.code c.in-Length.letters c.code_name.new.name
+spelt : (c : In-Ok) → Spelt (from-letters c).args.code c.in-Ok.letters c.code_name.new.name
 spelt c =
     let s = from-letters c in
     let n = c.code_name in
-    name-spelt s.args.code s.requires.1 (replicate 16 0) refl n.ensures.value n.ensures.name_after c.in-Length.is
+    name-spelt s.args.code s.requires.1 (replicate 16 0) refl n.ensures.value n.ensures.name_after c.in-Ok.is
 
 -- where the nodes begin
 begins : (c : After-heading_length-body) → c.heading_length-body.result ≡ body_start (text_at (from-body c))
@@ -119,16 +119,16 @@ returns-in_default c = let s = c in
     absurd (not-nameless s.args.code s.requires.1 (replicate 16 0) refl c.code_name.ensures.value c.in_default.is)
 
 pub slice_bounds-name-end : goal.slice_bounds-name-end
-slice_bounds-name-end c = (spelt (goal.at.slice_bounds-name-end c).In-Length).fits
+slice_bounds-name-end c = (spelt (goal.at.slice_bounds-name-end c).In-Ok).fits
 
 pub slice_bounds-start_near-end : goal.slice_bounds-start_near-end
-slice_bounds-start_near-end c = sym (length-take-le _ _ (spelt (goal.at.slice_bounds-start_near-end c).In-Length).fits)
+slice_bounds-start_near-end c = sym (length-take-le _ _ (spelt (goal.at.slice_bounds-start_near-end c).In-Ok).fits)
 
 pub slice_bounds-name-end-2 : goal.slice_bounds-name-end-2
-slice_bounds-name-end-2 c = (spelt (goal.at.slice_bounds-name-end-2 c).In-Length).fits
+slice_bounds-name-end-2 c = (spelt (goal.at.slice_bounds-name-end-2 c).In-Ok).fits
 
 pub slice_bounds-reach-end-3 : goal.slice_bounds-reach-end-3
-slice_bounds-reach-end-3 c = sym (length-take-le _ _ (spelt (goal.at.slice_bounds-reach-end-3 c).In-Length).fits)
+slice_bounds-reach-end-3 c = sym (length-take-le _ _ (spelt (goal.at.slice_bounds-reach-end-3 c).In-Ok).fits)
 
 pub reach-list-requires : goal.reach-list-requires
 reach-list-requires c =
@@ -142,10 +142,10 @@ reach-list-requires c =
     )
 
 pub slice_bounds-name-end-3 : goal.slice_bounds-name-end-3
-slice_bounds-name-end-3 c = (spelt (goal.at.slice_bounds-name-end-3 c).In-Length).fits
+slice_bounds-name-end-3 c = (spelt (goal.at.slice_bounds-name-end-3 c).In-Ok).fits
 
 pub slice_bounds-edit_near-end-3 : goal.slice_bounds-edit_near-end-3
-slice_bounds-edit_near-end-3 c = sym (length-take-le _ _ (spelt (goal.at.slice_bounds-edit_near-end-3 c).In-Length).fits)
+slice_bounds-edit_near-end-3 c = sym (length-take-le _ _ (spelt (goal.at.slice_bounds-edit_near-end-3 c).In-Ok).fits)
 
 pub edit_near-edit-requires : goal.edit_near-edit-requires
 edit_near-edit-requires c =
@@ -154,7 +154,7 @@ edit_near-edit-requires c =
     (omega (arith, long s, s.requires.0.small), r.reach-list.ensures.short, s.requires.2.long, record { stands = nodes (from-reach r); led = reached (goal.at.edit_near-edit-requires c).After-reach-list })
 
 pub overflow_sub-name : goal.overflow_sub-name
-overflow_sub-name c = omega (arith, (spelt (goal.at.overflow_sub-name c).In-Length).first)
+overflow_sub-name c = omega (arith, (spelt (goal.at.overflow_sub-name c).In-Ok).first)
 
 pub returns-then-breaks : goal.returns-then-breaks
 returns-then-breaks c =
@@ -168,12 +168,12 @@ returns-then-breaks c =
     c.breaks.ensures c.if-breaks.true c.refused-then-breaks.ensures in record { gains = g.0; holding = g.1; in_mind = near-gains s.args.end g.0 (keeps (goal.at.returns-then-breaks c).After-reach-list _ _ e) (keeps-with (goal.at.returns-then-breaks c).After-reach-list _ _ e) }
 
 pub slice_bounds-name-end-4 : goal.slice_bounds-name-end-4
-slice_bounds-name-end-4 c = (spelt (goal.at.slice_bounds-name-end-4 c).In-Length).fits
+slice_bounds-name-end-4 c = (spelt (goal.at.slice_bounds-name-end-4 c).In-Ok).fits
 
 pub slice_bounds-change-end : goal.slice_bounds-change-end
 slice_bounds-change-end c =
     let n = c in
-    sym (length-take-le _ _ (spelt (goal.at.slice_bounds-change-end c).In-Length).fits)
+    sym (length-take-le _ _ (spelt (goal.at.slice_bounds-change-end c).In-Ok).fits)
 
 pub change-requires : goal.change-requires
 change-requires c =

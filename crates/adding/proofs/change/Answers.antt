@@ -1,11 +1,12 @@
 -- `adding::change` meets its contract. Assumes nothing.
+use Rattle.std.specs.Prelude.{Result}
+use Rattle.reading.specs.declared.Refused.{Refused}
 use mathlib.Core.Path.{◌≡◌, refl, sym, subst}
 use mathlib.Core.List.{List}
 use Prim.Native.Nat.{ℕ, ◌≤◌}
 use lib.ListN.{length, take}
 use Rattle.adding.specs.declared.Edit.{Edit}
 use Rattle.adding.specs.declared.Edit.TheVariants.{Cut}
-use Rattle.adding.specs.declared.Added.{Added}
 use Rattle.adding.specs.Internal.Edit.{edited, EditFits}
 use Rattle.adding.specs.Internal.Become.{Becomes}
 use Rattle.adding.proofs.Becoming.{becomes-same, becomes-cut}
@@ -15,7 +16,7 @@ use Rattle.adding.proofs.change.Goals as goal
 cut_fits : {e : Edit} {a b : ℕ} (end count : ℕ) → e ≡ Cut a b → EditFits end count e → (a ≤ b) × (b ≤ end)
 cut_fits end count q h = subst (λ (y : Edit). EditFits end count y) q h
 
-of-case : (name t bytes : List ℕ) {after : List ℕ} {r : Added} {e f : Edit} → e ≡ f → Becomes (edited name t f) bytes after r → Becomes (edited name t e) bytes after r
+of-case : (name t bytes : List ℕ) {after : List ℕ} {r : Result ℕ Refused} {e f : Edit} → e ≡ f → Becomes (edited name t f) bytes after r → Becomes (edited name t e) bytes after r
 of-case name t bytes {after} {r} q h = subst (λ (y : Edit). Becomes (edited name t y) bytes after r) (sym q) h
 
 pub returns-in-Covered : goal.returns-in-Covered

@@ -1,7 +1,7 @@
 -- "Show that another accepted text with the same heading, the same bytes through the last one counted and the same report gives the same answer"
 -- (02, W-213). Codes rise as the letters and digits stand, so the count stops at the first one above the asked code, and from there on no cell holds
 -- the asked one. Assumes nothing.
-use Rattle.std.specs.Prelude.{◌≡◌, Bool, ◌&&◌, not, cond, length, take, leb, ltb, eqb}
+use Rattle.std.specs.Prelude.{◌≡◌, Bool, ◌&&◌, not, cond, length, take, leb, ltb, eqb, Ok}
 use Rattle.std.proofs.Math.Path.{refl, sym, ap, ap₂, subst}
 use Rattle.std.proofs.Common.{◌∙◌, ⊎_elim, arith, leb-true, leb-false, lt-ltb, le-ltb, ltb-false}
 use Rattle.std.proofs.Math.Bool.{true, false, ◌||◌}
@@ -33,7 +33,6 @@ use Rattle.walk.specs.Walk.{origin, spot_of, after, opens, whole_at, walk}
 use Rattle.walk.specs.LetterWalk.{letters_from, Filled}
 use Rattle.walk.specs.Laws.Walk.{walk-text}
 use Rattle.walk.specs.Laws.LetterWalk.{letters-text, filled-text, count-from}
-use Rattle.asking.specs.declared.Asked.TheVariants.{Answer}
 use Rattle.asking.specs.Ask.{AllCovered, any_within, asked}
 use Rattle.asking.proofs.Laws.Ask.{text-asked}
 use Rattle.asking.specs.Settle.{not_above, settled_by, settled, counted}
@@ -333,4 +332,4 @@ module _ (t u : List ℕ) (code : ℕ) (e : is_text t ≡ true) (f : is_text u �
   -- "gives the same answer", the report included
   pub same_answer : asked 0 u code ≡ asked 0 t code
   unfolding asked
-  same_answer = ap₂ Answer same-covered s
+  same_answer = ap₂ (λ (a : Bool) (b : ℕ). Ok (record { covered = a; settled = b })) same-covered s

@@ -1,26 +1,22 @@
 -- What a batch leaves: as many numbers as it says, each cell in its place. Assumes nothing.
-use Rattle.std.specs.Prelude.{◌≡◌, refl, true, List, [], ◌∷◌, ◌++◌, ℕ, zero, suc, ◌+◌, ◌*◌, ◌≤◌, ◌<◌, length, get_or, take, drop}
+use Rattle.std.specs.Prelude.{◌≡◌, refl, true, List, [], ◌∷◌, ◌++◌, ℕ, zero, suc, ◌+◌, ◌*◌, ◌≤◌, ◌<◌, length, get_or, take, drop, Err, Ok, Result}
 use Rattle.std.proofs.Common.{sym, ap, ◌∙◌, append_assoc, arith, length-append, take_at, drop_at, drop-drop, get_or-drop}
 use Rattle.std.proofs.Math.Path.{ap₂}
 use Rattle.logic.specs.Refusal.{◌otherwise◌}
 use Rattle.logic.specs.Laws.Refusal.{passes}
 use Rattle.cell.specs.declared.Cell.{Cell}
 use Rattle.cell.specs.declared.Arrangement.{Arrangement}
-use Rattle.cell.specs.declared.Found.{Found}
-use Rattle.cell.specs.declared.Found.TheVariants as found_as
 use Rattle.cell.specs.Cell.{cell_refusal, arrangement_refusal, found}
 use Rattle.cell.proofs.Laws.Cell.{cell-is, arrangement-is}
-use Rattle.code.specs.declared.Coded.{Coded}
-use Rattle.code.specs.declared.Coded.TheVariants.{Code}
 use Rattle.code.specs.Code.{code_of, cell_of, arrangement_of, is_code, code_refusal, coded}
 use Rattle.code.proofs.Laws.Code.{code-passes, code-is-cell, code-arranged, code-cell}
 use Rattle.batch.specs.Batch.{seven_good, seven_in, seven_of, cells_of, arrangement_at, cell_at, coded_at, two_in, first_codes, cells_in, codes_of}
 
 -- ---- codes to cells
 
-length-seven : (a : Arrangement) (f : Found) → length (seven_in a f) ≡ 7
-length-seven a (found_as.At c) = refl
-length-seven a (found_as.Refused r) = refl
+length-seven : (a : Arrangement) (f : Result Cell ℕ) → length (seven_in a f) ≡ 7
+length-seven a (Ok c) = refl
+length-seven a (Err r) = refl
 
 pub seven-long : (code : ℕ) → length (seven_of code) ≡ 7
 unfolding seven_of
@@ -83,7 +79,7 @@ unfolding codes_of
 code-stands ns rest i h = first-stands (cells_in ns) ns rest i h
 
 -- six numbers read from a place are those in front of what begins there
-abbrev code_for : Arrangement → Cell → Coded
+abbrev code_for : Arrangement → Cell → Result ℕ ℕ
 code_for a c = coded (arrangement_refusal a otherwise cell_refusal c) (code_of a c)
 
 module _ (ns : List ℕ) (i : ℕ) where
@@ -110,7 +106,7 @@ module _ (ns : List ℕ) (i : ℕ) where
 -- ---- out and back
 
 -- the six numbers behind the refusal give the code again
-pub out-and-back : (code : ℕ) → is_code code ≡ true → coded_at (drop 1 (seven_of code)) ≡ Code code
+pub out-and-back : (code : ℕ) → is_code code ≡ true → coded_at (drop 1 (seven_of code)) ≡ Ok code
 unfolding seven_of coded_at found coded
 out-and-back code t =
     let a = arrangement_of code in

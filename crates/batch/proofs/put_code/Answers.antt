@@ -6,18 +6,18 @@ use lib.Seq.{sets}
 use Rattle.batch.proofs.Batches.{seven-good, seven-bad}
 use Rattle.batch.proofs.put_code.Goals as goal
 
-pub returns-in-At : goal.returns-in-At
-returns-in-At c =
+pub returns-in-Ok : goal.returns-in-Ok
+returns-in-Ok c =
     let n = c in
     let g = n in
     let e = g in
     let a = e.args in
     c.put_cell.ensures
-    ∙ ap (λ (x : List ℕ). sets a.numbers.now a.at x) (seven-good a.code e.cell_by.ensures g.in-At.is n.arrangement_of.ensures)
+    ∙ ap (λ (x : List ℕ). sets a.numbers.now a.at x) (seven-good a.code e.cell_by.ensures g.in-Ok.is n.arrangement_of.ensures)
 
-pub returns-in-Refused : goal.returns-in-Refused
-returns-in-Refused c =
+pub returns-in-Err : goal.returns-in-Err
+returns-in-Err c =
     let g = c in
     let e = g in
     let a = e.args in
-    c.put_cell-in-Refused.ensures ∙ ap (λ (x : List ℕ). sets a.numbers.now a.at x) (seven-bad a.code e.cell_by.ensures g.in-Refused.is)
+    c.put_cell-in-Err.ensures ∙ ap (λ (x : List ℕ). sets a.numbers.now a.at x) (seven-bad a.code e.cell_by.ensures g.in-Err.is)

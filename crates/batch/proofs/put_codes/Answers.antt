@@ -1,4 +1,6 @@
 -- `batch::put_codes` meets its contract: before each cell the codes put, and those still to be put, are the whole. Assumes nothing.
+use mathlib.Core.Path.{◌≡◌}
+use Prim.Native.Nat.{◌+◌, ◌*◌}
 use Rattle.batch.proofs.Batches.{codes-start, codes-on, codes-end}
 use native.Mathlib.Omega.{arith}
 use Rattle.batch.proofs.put_codes.Goals as goal
@@ -8,8 +10,10 @@ loop-i-init c = codes-start c.requires.1
 
 pub loop-i-preserved : goal.loop-i-preserved
 loop-i-preserved c =
-    let t = c in
-    codes-on t.loop-i.invariant t.loop-i-test.true c.put_at.ensures
+    let l = c.loop-i in
+    let e : 6 * l.i + 6 ≡ 6 * (l.i + 1) = omega arith in
+    let f : 2 * l.i + 2 ≡ 2 * (l.i + 1) = omega arith in
+    rw (e, f) at (codes-on l.invariant (omega arith) c.put_at.ensures)
 
 pub returns : goal.returns
 returns c = codes-end c.loop-i.invariant (omega arith)

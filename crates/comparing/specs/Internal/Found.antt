@@ -1,7 +1,9 @@
 -- What the functions of this crate promise of where they stand in the two texts, and of the cells that they find. A tree is known only to the proof: so
 -- they speak of any portions whose bytes stand there. Assumes nothing.
-use Rattle.std.specs.Prelude.{◌≡◌, true, false, cond, List, [], ◌∷◌, ◌++◌, map, ℕ, ◌+◌, ◌-◌, ◌*◌, ◌^◌, ◌≤◌, ◌<◌, eqb, ltb, length, drop}
+use Rattle.std.specs.Prelude.{◌≡◌, true, false, cond, List, [], ◌∷◌, ◌++◌, map, ℕ, ◌+◌, ◌-◌, ◌*◌, ◌^◌, ◌≤◌, ◌<◌, eqb, ltb, length, drop, Ok, Result}
 use Rattle.std.proofs.lemmas.List.Edits.{sets}
+use Rattle.reading.specs.declared.Refused.{Refused}
+use Rattle.comparing.specs.declared.Compared.{Compared}
 use Rattle.cell.specs.declared.Arrangement.{Arrangement}
 use Rattle.reading.specs.declared.Level.{Level}
 use Rattle.reading.specs.declared.Level.TheVariants.{Digits}
@@ -16,8 +18,6 @@ use Rattle.listing.proofs.Laws.List.{spot_code}
 use Rattle.comparing.specs.declared.Child.{Child}
 use Rattle.comparing.specs.declared.Cursor.{Cursor}
 use Rattle.comparing.specs.declared.Read.{Read}
-use Rattle.comparing.specs.declared.Compared.{Compared}
-use Rattle.comparing.specs.declared.Compared.TheVariants.{Listings}
 use Rattle.comparing.specs.Shared.{Portion, none, all, some, portion_number, of_child, past_child, divided, wanted, side_shared, below_shared}
 use Rattle.comparing.specs.Compare.{ThreeLists, shared_codes, in_both}
 use Rattle.comparing.specs.Internal.Portions.{GoodPortion, GoodInside}
@@ -140,7 +140,11 @@ pub record TextsFound (t u : List ℕ) (lent later : ThreeLists) (r : Cursor) : 
   pub boths : later.boths ≡ sets lent.boths 0 (shared_codes t u).boths
 
 -- what is answered of the counts, where the two texts have these sums of sizes
-abbrev pub tied_up : Cursor → (first second : ℕ) → Compared
+abbrev pub tied_up : Cursor → (first second : ℕ) → Result Compared Refused
 tied_up c first second =
-    Listings (record { count = c.firsts; size = first - c.size }) (record { count = c.seconds; size = second - c.size })
-    (record { count = c.boths; size = c.size })
+    Ok
+    (record {
+      first = record { count = c.firsts; size = first - c.size };
+      second = record { count = c.seconds; size = second - c.size };
+      both = record { count = c.boths; size = c.size };
+    })

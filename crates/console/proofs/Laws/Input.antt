@@ -1,14 +1,12 @@
 -- What an answer of `console::next_line` gives, case by case. Assumes nothing.
-use Rattle.std.specs.Prelude.{◌≡◌, List, ℕ, ◌≤◌, length}
+use Rattle.std.specs.Prelude.{◌≡◌, List, ℕ, ◌≤◌, length, Option, Some}
 use Rattle.std.proofs.Common.{subst}
-use Rattle.console.specs.declared.BytesRead.{BytesRead}
-use Rattle.console.specs.declared.BytesRead.TheVariants as bytes-as
 use Rattle.console.specs.declared.LineRead.{LineRead}
 use Rattle.console.specs.declared.LineRead.TheVariants.{Line, Last}
 use Rattle.console.specs.Input.{Fits, Given}
 
 -- so many bytes were read
-pub count_fits : (bytes : List ℕ) (n : ℕ) {r : BytesRead} → Fits bytes r → r ≡ bytes-as.Count n → n ≤ length bytes
+pub count_fits : (bytes : List ℕ) (n : ℕ) {r : Option ℕ} → Fits bytes r → r ≡ Some n → n ≤ length bytes
 count_fits bytes n h e = subst (Fits bytes) e h
 
 module _ (left bytes room : List ℕ) {r : LineRead} (h : Given left bytes room r) where

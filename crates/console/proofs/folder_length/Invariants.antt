@@ -4,8 +4,5 @@ use Prim.Native.Nat.{ℕ, ◌≤◌, ◌<◌}
 use lib.ListN.{length, get_or}
 use Rattle.console.proofs.folder_length.Given as goal
 
-abbrev pub invariant-loop-n : goal.invariant-loop-n
-invariant-loop-n l = (l.n ≤ length l.path) × ((i : ℕ) → l.n ≤ i → i < length l.path → get_or l.path i 0 ≡ 47 → ⊥)
-
-abbrev pub decreases-loop-n : goal.decreases-loop-n
-decreases-loop-n l = l.n
+abbrev pub invariant-loop-before : goal.invariant-loop-before
+invariant-loop-before l = (i : ℕ) → l.before ≤ i → i < length l.path → get_or l.path i 0 ≡ 47 → ⊥

@@ -6,9 +6,6 @@ use Rattle.console.specs.Input.{unread}
 use Rattle.console.proofs.Laws.{Begun}
 use Rattle.console.proofs.next_line.Given as goal
 
-abbrev pub invariant-loop-turns : goal.invariant-loop-turns
-invariant-loop-turns l = (l.at ≤ l.stop) × (l.stop ≤ length l.bytes) × (l.kept ≤ length l.room) × (length l.bytes ≡ length l.initial.bytes) × (length l.room ≡ length l.initial.room)
+abbrev pub invariant-loop : goal.invariant-loop
+invariant-loop l = (l.at ≤ l.stop) × (l.stop ≤ length l.bytes) × (l.kept ≤ length l.room) × (length l.bytes ≡ length l.initial.bytes) × (length l.room ≡ length l.initial.room)
     × Begun (unread l.initial.bytes l.from l.end) (unread l.bytes l.at l.stop) l.room l.kept
-
-abbrev pub decreases-loop-turns : goal.decreases-loop-turns
-decreases-loop-turns l = l.turns

@@ -4,8 +4,8 @@ use Rattle.console.proofs.usable.Goals as goal
 
 pub returns-then-number-ne0 : goal.returns-then-number-ne0
 returns-then-number-ne0 c =
-    is-refused _ c.refusal-number.result c.in-Good.is
+    is-refused _ c.refusal-number.result c.in_ok-setting.was
     c.refusal-number.ensures c.if-number-ne0.true
 
 pub returns : goal.returns
-returns c = is-accepted _ c.refusal-number.result c.in-Good.is c.refusal-number.ensures c.if-number-ne0.false
+returns c = is-accepted _ c.refusal-number.result c.in_ok-setting.was c.refusal-number.ensures c.if-number-ne0.false

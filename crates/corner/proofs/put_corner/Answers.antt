@@ -25,19 +25,19 @@ code_of-code-requires c =
     let s = c in
     record { arrangement = s.requires.arrangement; cell = rw c.across_corner-across.ensures (across-cell s.requires.arrangement s.requires.cell s.args.direction s.requires.direction_bound (wide (goal.at.code_of-code-requires c).Else-face_corner)) }
 
-pub returns-in-Count : goal.returns-in-Count
-returns-in-Count c =
+pub returns-in-Ok : goal.returns-in-Ok
+returns-in-Ok c =
     let d = c in
     let s = d in
     let a = s.args in
-    let n = c.add in let r = put_one a.arrangement a.cell a.direction a.codes.now a.count (wide (goal.at.returns-in-Count c).Else-face_corner) s.requires.codes_in_bounds _ _
-    (rw (fourth (goal.at.returns-in-Count c).After-code_of-code) at (sym c.in-Count.is ∙ n.ensures.value)) (rw (fourth (goal.at.returns-in-Count c).After-code_of-code) at n.ensures.codes_after) in record { value = r.0; codes_after = r.1 }
+    let n = c.add in let r = put_one a.arrangement a.cell a.direction a.codes.now a.count (wide (goal.at.returns-in-Ok c).Else-face_corner) s.requires.codes_in_bounds _ _
+    (rw (fourth (goal.at.returns-in-Ok c).After-code_of-code) at (sym c.in-Ok.is ∙ n.ensures.value)) (rw (fourth (goal.at.returns-in-Ok c).After-code_of-code) at n.ensures.codes_after) in record { value = r.0; codes_after = r.1 }
 
-pub returns-in-Refused : goal.returns-in-Refused
-returns-in-Refused c =
+pub returns-in-Err : goal.returns-in-Err
+returns-in-Err c =
     let d = c in
     let s = d in
     let a = s.args in
     let n = c.add in absurd
-    (put-never a.arrangement a.cell a.direction a.codes.now a.count (wide (goal.at.returns-in-Refused c).Else-face_corner) s.requires.codes_in_bounds _
-    (rw (fourth (goal.at.returns-in-Refused c).After-code_of-code) at (sym c.in-Refused.is ∙ n.ensures.value)))
+    (put-never a.arrangement a.cell a.direction a.codes.now a.count (wide (goal.at.returns-in-Err c).Else-face_corner) s.requires.codes_in_bounds _
+    (rw (fourth (goal.at.returns-in-Err c).After-code_of-code) at (sym c.in-Err.is ∙ n.ensures.value)))

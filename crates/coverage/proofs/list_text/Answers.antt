@@ -9,37 +9,37 @@ use Rattle.coverage.proofs.Laws.{list_written, list-refused, waits-fit}
 use Rattle.std.proofs.lemmas.Grind.{common_steps}
 use native.Mathlib.Omega.{arith}
 use Rattle.coverage.proofs.list_text.Goals as goal
-use Rattle.coverage.proofs.list_text.Goals.{In-Count}
+use Rattle.coverage.proofs.list_text.Goals.{In-Ok}
 
-count : (c : In-Count) → c.in-Count.count ≤ length c.args.codes.now
+count : (c : In-Ok) → c.in-Ok.count ≤ length c.args.codes.now
 count c =
     let a = c.args in
-    listed-fits a.text.now a.codes.now c.list.ensures.value _ c.in-Count.is
+    listed-fits a.text.now a.codes.now c.list.ensures.value _ c.in-Ok.is
 
 pub slice_bounds-put_all_names-end : goal.slice_bounds-put_all_names-end
-slice_bounds-put_all_names-end c = let l = c.list in omega (arith, count (goal.at.slice_bounds-put_all_names-end c).In-Count)
+slice_bounds-put_all_names-end c = let l = c.list in omega (arith, count (goal.at.slice_bounds-put_all_names-end c).In-Ok)
 
-pub slice_bounds-put_all_names-end-in-Count : goal.slice_bounds-put_all_names-end-in-Count
-slice_bounds-put_all_names-end-in-Count c = let h = count (goal.at.slice_bounds-put_all_names-end-in-Count c).In-Count in grind (arith, common_steps, h)
+pub slice_bounds-put_all_names-end-in-Ok : goal.slice_bounds-put_all_names-end-in-Ok
+slice_bounds-put_all_names-end-in-Ok c = let h = count (goal.at.slice_bounds-put_all_names-end-in-Ok c).In-Ok in grind (arith, common_steps, h)
 
-pub returns-in-Count : goal.returns-in-Count
-returns-in-Count c =
+pub returns-in-Ok : goal.returns-in-Ok
+returns-in-Ok c =
     let a = c.args in
     let l = c.list in
     let p = c.put_all_names in
     let w = c.waiting.ensures in
     record {
-      list_written = list_written a.text.now a.codes.now l.ensures.value _ l.new.codes p.new.out p.result _ c.in-Count.is l.ensures.codes_after p.ensures w;
+      list_written = list_written a.text.now a.codes.now l.ensures.value _ l.new.codes p.new.out p.result _ c.in-Ok.is l.ensures.codes_after p.ensures w;
       end_in_bounds = omega (arith, w, waits-fit _ p.new.out p.result p.ensures);
     }
 
-pub returns-in-Refused : goal.returns-in-Refused
-returns-in-Refused c =
+pub returns-in-Err : goal.returns-in-Err
+returns-in-Err c =
     let a = c.args in
     let p = c.put_line in
     let fits : p.result ≤ length a.out.now = omega (arith, c.requires, p.ensures.upper_bound) in
-    let same = put-length 0 (number_line c.in-Refused.refusal) a.out.now (omega (arith, p.ensures.put.ends)) in
+    let same = put-length 0 (number_line c.in-Err.field-0.refusal) a.out.now (omega (arith, p.ensures.put.ends)) in
     record {
-      list_written = list-refused a.text.now a.codes.now c.list.ensures.value _ _ {later = p.new.out} c.in-Refused.is p.ensures.put fits;
+      list_written = list-refused a.text.now a.codes.now c.list.ensures.value _ _ {later = p.new.out} c.in-Err.is p.ensures.put fits;
       end_in_bounds = omega (arith, same, ap length p.ensures.put.is);
     }

@@ -6,14 +6,14 @@ use Rattle.reader.specs.Laws.Answer.{checked-arrangement, text-checked, text-ref
 use native.Mathlib.Omega.{arith}
 use Rattle.coverage.proofs.own_arrangement.Goals as goal
 
-pub returns-in-Text : goal.returns-in-Text
-returns-in-Text c =
+pub returns-in-Ok : goal.returns-in-Ok
+returns-in-Ok c =
     let t = c.args.text.now in
-    let r = text-checked t (sym c.in-Text.is ∙ c.check.ensures) in
+    let r = text-checked t (sym c.in-Ok.is ∙ c.check.ensures) in
     record { arranged = subst IsArrangement (sym (checked-arrangement r)) (text-arranged t r.text); own = λ _. checked-arrangement r }
 
-pub returns-in-Refused : goal.returns-in-Refused
-returns-in-Refused c =
+pub returns-in-Err : goal.returns-in-Err
+returns-in-Err c =
     let t = c.args.text.now in
-    let u = text-refused t (sym c.in-Refused.is ∙ c.check.ensures) in
+    let u = text-refused t (sym c.in-Err.is ∙ c.check.ensures) in
     record { arranged = record { northern = omega arith; southern = omega arith }; own = λ z. absurd (u.some (sym u.refusal ∙ z)) }

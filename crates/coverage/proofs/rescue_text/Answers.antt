@@ -7,18 +7,18 @@ pub overflow_mul-result : goal.overflow_mul-result
 overflow_mul-result c =
     let d = c in
     let s = d in
-    let f = (room-done s.requires.in_bounds s.requires.in_bounds_2 d.rescue.ensures c.in-Done.is).list-fits in
+    let f = (room-done s.requires.in_bounds s.requires.in_bounds_2 d.rescue.ensures c.in-Ok.is).list-fits in
     let g = s.well_formed in
     search rules
 
-pub returns-in-Done : goal.returns-in-Done
-returns-in-Done c =
+pub returns-in-Ok : goal.returns-in-Ok
+returns-in-Ok c =
     let d = c in
     let s = d in
-    room-done s.requires.in_bounds s.requires.in_bounds_2 d.rescue.ensures c.in-Done.is
+    room-done s.requires.in_bounds s.requires.in_bounds_2 d.rescue.ensures c.in-Ok.is
 
-pub returns-in-Refused : goal.returns-in-Refused
-returns-in-Refused c =
+pub returns-in-Err : goal.returns-in-Err
+returns-in-Err c =
     let d = c in
     let s = d in
-    room-refused s.requires.in_bounds s.requires.in_bounds_2 d.rescue.ensures c.in-Refused.is
+    room-refused s.requires.in_bounds s.requires.in_bounds_2 d.rescue.ensures c.in-Err.is

@@ -24,7 +24,7 @@ loop-line-preserved c =
     let line = c.in-Line in
     let g = line-given _ _ _ n.ensures _ _ _ line.is in
     let t = c.take_name in
-    let e = c.in-Count.is in
+    let e = c.in-Ok.is in
     let room = n.new.room in
     let all = l.invariant.6 in
     let m = taken-fits a.arrangement room (search rules) all l.codes t.new.codes l.count line.length l.invariant.7 t.ensures _ e in
@@ -32,8 +32,8 @@ loop-line-preserved c =
     let same : length t.new.codes ≡ length l.codes = search rules in
     (g.6, g.7, m, search rules, search rules, search rules, all ++ (name_code a.arrangement (trimmed (take line.length room)) ∷ []), rw same v)
 
-pub returns-in-Refused : goal.returns-in-Refused
-returns-in-Refused c =
+pub returns-in-Err : goal.returns-in-Err
+returns-in-Err c =
     let l = c.loop-line in
     let a = c.args in
     let n = c.next_line in
@@ -42,10 +42,10 @@ returns-in-Refused c =
     let t = c.take_name in
     rw (sym l.invariant.5)
     (line-stops a.arrangement n.new.room (search rules) l.invariant.6 l.codes t.new.codes l.count line.length l.invariant.7 t.ensures (unread l.bytes l.from l.end)
-    n.new.bytes _ _ _ g c.in-Refused.is)
+    n.new.bytes _ _ _ g c.in-Err.is)
 
-pub returns-in-Count-take_name : goal.returns-in-Count-take_name
-returns-in-Count-take_name c =
+pub returns-in-Ok-take_name : goal.returns-in-Ok-take_name
+returns-in-Ok-take_name c =
     let l = c.loop-line in
     let a = c.args in
     let n = c.next_line in
@@ -54,10 +54,10 @@ returns-in-Count-take_name c =
     let t = c.take_name-in-Last in
     rw (sym l.invariant.5)
     (last-read a.arrangement n.new.room (search rules) l.invariant.6 l.codes t.new.codes l.count line.length l.invariant.7 t.ensures (unread l.bytes l.from l.end)
-    n.new.bytes _ g c.in-Count-take_name.is)
+    n.new.bytes _ g c.in-Ok-take_name.is)
 
-pub returns-in-Refused-take_name : goal.returns-in-Refused-take_name
-returns-in-Refused-take_name c =
+pub returns-in-Err-take_name : goal.returns-in-Err-take_name
+returns-in-Err-take_name c =
     let l = c.loop-line in
     let a = c.args in
     let n = c.next_line in
@@ -66,4 +66,4 @@ returns-in-Refused-take_name c =
     let t = c.take_name-in-Last in
     rw (sym l.invariant.5)
     (last-stops a.arrangement n.new.room (search rules) l.invariant.6 l.codes t.new.codes l.count line.length l.invariant.7 t.ensures (unread l.bytes l.from l.end)
-    n.new.bytes _ g c.in-Refused-take_name.is)
+    n.new.bytes _ g c.in-Err-take_name.is)

@@ -1,8 +1,10 @@
 -- Asking by name: the code of a name is of the arrangement that it is read in, and what `coverage summary FILE NAME` prints of a cell of resolution 0 to 2 is
 -- what `coverage ask FILE NAME` prints. Assumes nothing.
-use Rattle.std.specs.Prelude.{◌≡◌, Bool, true, false, not, List, length}
+use Rattle.std.specs.Prelude.{◌≡◌, Bool, true, false, not, cond, List, [], ◌∷◌, length, Err, Ok, Result}
 use Rattle.std.proofs.Math.Path.{refl}
-use Rattle.std.proofs.Common.{sym, ap, ◌∙◌, arith, le-ltb}
+use Rattle.std.proofs.Common.{sym, ap, ◌∙◌, arith, le-ltb, cond}
+use Rattle.reading.specs.declared.Refused.{Refused}
+use Rattle.asking.specs.declared.Asked.{Asked}
 use Prim.Native.Nat.{ℕ, zero, suc, ◌+◌, ◌≤◌}
 use Rattle.logic.specs.Refusal.{refuse, ◌otherwise◌}
 use Rattle.logic.specs.Laws.Refusal.{passes, stops}
@@ -18,8 +20,6 @@ use Rattle.reading.specs.TextReading.{nodes_of, text_arrangement}
 use Rattle.reading.proofs.Laws.TextReading.{text-arranged}
 use Rattle.reader.specs.Check.{text_refusal}
 use Rattle.reader.specs.Laws.Answer.{text-read}
-use Rattle.asking.specs.declared.Asked.{Asked}
-use Rattle.asking.specs.declared.Asked.TheVariants as asked-as
 use Rattle.asking.specs.Ask.{asked, ask_refusal}
 use Rattle.report.specs.Lines.{asked_line}
 use Rattle.summary.specs.Summary.{counters_of, question_refusal, questioned}
@@ -44,11 +44,14 @@ module _ (a : Arrangement) (g : IsArrangement a) (name : List ℕ) (e : name_ref
   named-fine = sym (ap length (code-name name g (accepted name e))) ∙ length-name (cell_of (name_code a name))
 
 -- the same words for the same answers
-same-words : (x : Asked) → question_line (as_question x) ≡ asked_line x
+same-words : (x : Result Asked Refused) → question_line (as_question x) ≡ asked_line x
 unfolding question_line asked_line
-same-words (asked-as.Answer true settled) = refl
-same-words (asked-as.Answer false settled) = refl
-same-words (asked-as.Refused refusal place) = refl
+same-words (Ok x) = of x.covered
+  where
+    of : (b : Bool) → question_line (Ok b) ≡ cond b (121 ∷ 101 ∷ 115 ∷ 10 ∷ []) (110 ∷ 111 ∷ 10 ∷ [])
+    of true = refl
+    of false = refl
+same-words (Err e) = refl
 
 module _ (t name : List ℕ) where
   abbrev code : ℕ

@@ -1,5 +1,5 @@
 -- What is printed reads back as the same number. Assumes nothing.
-use Rattle.std.specs.Prelude.{◌≡◌, refl, Bool, true, false, ◌&&◌, List, [], ◌∷◌, ◌++◌, map, ℕ, zero, suc, ◌+◌, ◌-◌, ◌*◌, ◌/◌, ◌%◌, ◌≤◌, ◌<◌, ◌^◌, leb, ltb, ℤ, pos, negsuc, length}
+use Rattle.std.specs.Prelude.{◌≡◌, refl, Bool, true, false, ◌&&◌, List, [], ◌∷◌, ◌++◌, map, ℕ, zero, suc, ◌+◌, ◌-◌, ◌*◌, ◌/◌, ◌%◌, ◌≤◌, ◌<◌, ◌^◌, leb, ltb, ℤ, pos, negsuc, length, Some}
 use Rattle.std.proofs.Common.{sym, ap, ap₂, ◌∙◌, append_assoc, pow-suc, arith, length-append, leb-true, ltb-true, ltb-false, le-leb, lt-ltb, eq-eqb, ne_eqb}
 use Rattle.std.proofs.lemmas.List.{map-append}
 use Rattle.logic.specs.Laws.Bools.{and_left, and_right, by_cond}
@@ -7,9 +7,6 @@ use Rattle.ternary.specs.Digits.{value}
 use Rattle.ternary.proofs.Laws.Digits.{value-snoc}
 use Rattle.signed.specs.Sign.{with_sign}
 use Rattle.decimal.specs.Decimal.{is_decimal, all_decimal, decimal_value, whole_in, signed_number, number_in, ahead, behind, trimmed, fix_of, fix_in, printed_from, printed, printed_number}
-use Rattle.decimal.specs.declared.Whole.TheVariants as Wholes
-use Rattle.decimal.specs.declared.Number.TheVariants as Numbers
-use Rattle.decimal.specs.declared.FixLine.TheVariants as Lines
 
 -- a number that a fix may be made of: its size is below 2^63
 abbrev pub FitsSigned : ℤ → Type 0
@@ -87,11 +84,11 @@ module _ (x : ℕ) where
   unfolding printed
   printed-written h = written_from 20 x h
 
-pub whole-printed : (x : ℕ) → x < 10 ^ 19 → whole_in (printed x) ≡ Wholes.Is x
+pub whole-printed : (x : ℕ) → x < 10 ^ 19 → whole_in (printed x) ≡ Some x
 unfolding whole_in
 whole-printed x h =
     simp (le-leb 1 (length (printed x)) (printed-some x), le-leb (length (printed x)) 19 (printed-short x 19 (omega arith) h), printed-digits x)
-    (ap Wholes.Is (printed-written x (omega arith)))
+    (ap Some (printed-written x (omega arith)))
 
 -- ---- bytes among which one does not occur
 
@@ -143,7 +140,7 @@ unfolding number_in signed_number whole_in
 number-plain [] f = refl
 number-plain (b ∷ bs) f = simp (ne_eqb b 45 f.0)
 
-number_of : (b : Bool) (n : ℕ) → n < 2 ^ 63 → signed_number b (Wholes.Is n) ≡ Numbers.Is (with_sign b n)
+number_of : (b : Bool) (n : ℕ) → n < 2 ^ 63 → signed_number b (Some n) ≡ Some (with_sign b n)
 unfolding signed_number
 number_of b n h = simp (lt-ltb n (2 ^ 63) h)
 
@@ -151,7 +148,7 @@ number-minus : (bs : List ℕ) → number_in (45 ∷ bs) ≡ signed_number true 
 unfolding number_in
 number-minus bs = refl
 
-pub number-printed : (x : ℤ) → FitsSigned x → number_in (printed_number x) ≡ Numbers.Is x
+pub number-printed : (x : ℤ) → FitsSigned x → number_in (printed_number x) ≡ Some x
 unfolding printed_number
 number-printed (pos n) h =
     number-plain (printed n) (free-digits 45 (printed n) (omega arith) (printed-digits n)) ∙ ap (signed_number false) (whole-printed n (omega arith)) ∙ number_of false n h
@@ -159,7 +156,7 @@ number-printed (negsuc n) h = number-minus (printed (suc n)) ∙ ap (signed_numb
 
 -- a line that is this once its return is off
 fix-trimmed : (longitude z : ℤ) (line : List ℕ) → FitsSigned longitude → FitsSigned z → trimmed line ≡ printed_number longitude ++ (32 ∷ printed_number z) → fix_in line ≡
-    Lines.Fix longitude z
+    Some (longitude, z)
 unfolding fix_in fix_of
 fix-trimmed longitude z line h k e =
     let f = free-number 32 longitude (omega arith) in
@@ -168,13 +165,13 @@ fix-trimmed longitude z line h k e =
     ap₂ fix_of (ap number_in a ∙ number-printed longitude h) (ap number_in b ∙ number-printed z k)
 
 -- a line made of two printed numbers is that fix
-pub fix-printed : (longitude z : ℤ) → FitsSigned longitude → FitsSigned z → fix_in (printed_number longitude ++ (32 ∷ printed_number z)) ≡ Lines.Fix longitude z
+pub fix-printed : (longitude z : ℤ) → FitsSigned longitude → FitsSigned z → fix_in (printed_number longitude ++ (32 ∷ printed_number z)) ≡ Some (longitude, z)
 fix-printed longitude z h k =
     let f = free-append 13 (printed_number longitude) (32 ∷ printed_number z) (free-number 13 longitude (omega arith)) (λ q. omega arith, free-number 13 z (omega arith)) in
     fix-trimmed longitude z (printed_number longitude ++ (32 ∷ printed_number z)) h k (trimmed-free (printed_number longitude ++ (32 ∷ printed_number z)) f)
 
 -- and so it is with a carriage return at its end
-pub fix-returned : (longitude z : ℤ) → FitsSigned longitude → FitsSigned z → fix_in (printed_number longitude ++ (32 ∷ (printed_number z ++ (13 ∷ [])))) ≡ Lines.Fix longitude z
+pub fix-returned : (longitude z : ℤ) → FitsSigned longitude → FitsSigned z → fix_in (printed_number longitude ++ (32 ∷ (printed_number z ++ (13 ∷ [])))) ≡ Some (longitude, z)
 fix-returned longitude z h k =
     let line = printed_number longitude ++ (32 ∷ printed_number z) in
     ap fix_in (sym (append_assoc (printed_number longitude) (32 ∷ printed_number z) (13 ∷ []))) ∙ fix-trimmed longitude z (line ++ (13 ∷ [])) h k (trimmed-return line)

@@ -2,12 +2,11 @@
 -- Assumes nothing.
 use mathlib.Core.Path.{◌≡◌, sym, ap, ap₂, ◌∙◌}
 use mathlib.Core.List.{List}
-use Rattle.std.proofs.Common.{rules, w64, to_z, of_z}
+use Rattle.std.proofs.Common.{rules, w64, to_z, of_z, Some, ℤ}
 use Prim.Native.Nat.{ℕ, ◌+◌, ◌≤◌}
 use native.Mathlib.Omega.{arith}
 use lib.ListN.{length, take, drop}
 use lib.Seq.{length-take-le}
-use Rattle.decimal.specs.declared.FixLine.TheVariants.{Fix}
 use Rattle.decimal.specs.Decimal.{number_in, ahead, behind, trimmed}
 use Rattle.decimal.proofs.Laws.{from_on, take-ahead, ahead-le, drop-ahead, take-trimmed, no-space, no-first, no_second, two-numbers}
 use Rattle.decimal.proofs.fix_in.Goals as goal
@@ -54,8 +53,10 @@ slice_bounds-number_in-end c =
     sym (length-take-le c.ahead_of-space.result (take c.trimmed_length-end.result
     c.args.line.now) (omega arith))
 
-pub returns-in_default : goal.returns-in_default
-returns-in_default c = no-first c.args.line.now (sym c.in_default.is ∙ first-is (goal.at.returns-in_default c).After-number_in)
+pub returns-in_err-longitude : goal.returns-in_err-longitude
+returns-in_err-longitude c =
+    rw c.from_residual.ensures
+    (no-first c.args.line.now (sym c.in_err-longitude.was ∙ first-is (goal.at.returns-in_err-longitude c).After-number_in))
 
 pub overflow_add-rest : goal.overflow_add-rest
 overflow_add-rest c = let h = inside (goal.at.overflow_add-rest c).Else-space-end in omega arith
@@ -72,13 +73,15 @@ slice_bounds-number_in-start c =
     let h = inside (goal.at.slice_bounds-number_in-start c).Else-space-end in
     omega arith
 
-pub returns-in_default-number_in : goal.returns-in_default-number_in
-returns-in_default-number_in c = no_second c.args.line.now
-    (sym c.in_default-number_in.is ∙ second_is (goal.at.returns-in_default-number_in c).After-number_in-2)
+pub returns-in_err-z : goal.returns-in_err-z
+returns-in_err-z c =
+    rw c.from_residual-in_err-z.ensures
+    (no_second c.args.line.now
+    (sym c.in_err-z.was ∙ second_is (goal.at.returns-in_err-z c).After-number_in-2))
 
 pub returns : goal.returns
 returns c =
-    let x : to_z w64 (of_z w64 c.in-Is.longitude) ≡ c.in-Is.longitude = search rules in
-    let y : to_z w64 (of_z w64 c.in-Is-number_in.z) ≡ c.in-Is-number_in.z = search rules in
-    ap₂ Fix x y ∙ two-numbers c.args.line.now c.in-Is.longitude c.in-Is-number_in.z
-    (sym c.in-Is.is ∙ first-is (goal.at.returns c).After-number_in) (sym c.in-Is-number_in.is ∙ second_is (goal.at.returns c).After-number_in-2)
+    let x : to_z w64 (of_z w64 c.in_ok-longitude.longitude) ≡ c.in_ok-longitude.longitude = search rules in
+    let y : to_z w64 (of_z w64 c.in_ok-z.z) ≡ c.in_ok-z.z = search rules in
+    ap₂ (λ (a b : ℤ). Some (a, b)) x y ∙ two-numbers c.args.line.now c.in_ok-longitude.longitude c.in_ok-z.z
+    (sym c.in_ok-longitude.was ∙ first-is (goal.at.returns c).After-number_in) (sym c.in_ok-z.was ∙ second_is (goal.at.returns c).After-number_in-2)

@@ -1,12 +1,10 @@
 -- What stands ahead of the point and behind it, as whole numbers; together they stay below 10^15. Assumes nothing.
+use Rattle.std.specs.Prelude.{Option, Some}
 use mathlib.Core.Path.{◌≡◌, sym, ap, ap₂, ◌∙◌}
 use Prim.Native.Nat.{ℕ, ◌+◌, ◌-◌, ◌*◌, ◌^◌, ◌≤◌, ◌<◌}
 use native.Mathlib.Omega.{arith}
 use lib.ListN.{length, take, drop}
 use lib.Seq.{length-take-le}
-use Rattle.decimal.specs.declared.Whole.{Whole}
-use Rattle.decimal.specs.declared.Whole.TheVariants as Wholes
-use Rattle.decimal.specs.declared.Fraction.TheVariants as Fractions
 use Rattle.decimal.specs.Decimal.{whole_in, ahead, behind}
 use Rattle.decimal.specs.Fraction.{with_places}
 use Rattle.decimal.proofs.Laws.{from_on, take-ahead, ahead-le, drop-ahead}
@@ -44,13 +42,13 @@ scale-is c =
     let s = c.args.text.now in
     c.ten_to-scale.ensures ∙ ap (λ (n : ℕ). 10 ^ n) (ap (λ (n : ℕ). length s - (n + 1)) c.ahead_of-point.ensures ∙ places-are s)
 
-front : (c : After-ten_to-scale) → whole_in (ahead 46 c.args.text.now) ≡ Wholes.Is c.in-Is.front
-front c = sym (front-is (goal.at.After-ten_to-scale c).After-whole_in) ∙ c.in-Is.is
+front : (c : After-ten_to-scale) → whole_in (ahead 46 c.args.text.now) ≡ Some c.in_ok-front.front
+front c = sym (front-is (goal.at.After-ten_to-scale c).After-whole_in) ∙ c.in_ok-front.was
 
-back : (c : After-ten_to-scale) → whole_in (behind 46 c.args.text.now) ≡ Wholes.Is c.in-Is-whole_in.back
-back c = sym (back_is (goal.at.After-ten_to-scale c).After-whole_in-2) ∙ c.in-Is-whole_in.is
+back : (c : After-ten_to-scale) → whole_in (behind 46 c.args.text.now) ≡ Some c.in_ok-back.back
+back c = sym (back_is (goal.at.After-ten_to-scale c).After-whole_in-2) ∙ c.in_ok-back.was
 
-small : (c : After-ten_to-scale) → c.in-Is.front * c.ten_to-scale.result + c.in-Is-whole_in.back < 10 ^ 15
+small : (c : After-ten_to-scale) → c.in_ok-front.front * c.ten_to-scale.result + c.in_ok-back.back < 10 ^ 15
 small c =
     let s = c.args.text.now in
     let f = whole_below (ahead 46 s) _ (front c) in
@@ -70,12 +68,13 @@ returns-then-text-gt16 c = long-point c.args.text.now (has-point (goal.at.return
 pub slice_bounds-whole_in-end : goal.slice_bounds-whole_in-end
 slice_bounds-whole_in-end c = sym (length-take-le _ _ (omega (arith, inside (goal.at.slice_bounds-whole_in-end c).Else-point-text)))
 
-pub returns-in_default : goal.returns-in_default
-returns-in_default c =
-    let w = c in
+pub returns-in_err-front : goal.returns-in_err-front
+returns-in_err-front c =
+    rw c.from_residual.ensures
+    (let w = c in
     let two = w in
     let s = w.args.text.now in
-    ap (λ (x : Whole). with_places (length (behind 46 s)) x (whole_in (behind 46 s))) (sym c.in_default.is ∙ front-is (goal.at.returns-in_default c).After-whole_in) ∙ short-point s (has-point (goal.at.returns-in_default c).Else-point-text) (short (goal.at.returns-in_default c).Else-text-gt16)
+    ap (λ (x : Option ℕ). with_places (length (behind 46 s)) x (whole_in (behind 46 s))) (sym c.in_err-front.was ∙ front-is (goal.at.returns-in_err-front c).After-whole_in) ∙ short-point s (has-point (goal.at.returns-in_err-front c).Else-point-text) (short (goal.at.returns-in_err-front c).Else-text-gt16))
 
 pub overflow_add-rest : goal.overflow_add-rest
 overflow_add-rest c = omega (arith, inside (goal.at.overflow_add-rest c).Else-point-text)
@@ -86,15 +85,16 @@ slice_bounds-whole_in-count c = omega (arith, inside (goal.at.slice_bounds-whole
 pub slice_bounds-whole_in-start : goal.slice_bounds-whole_in-start
 slice_bounds-whole_in-start c = omega (arith, inside (goal.at.slice_bounds-whole_in-start c).Else-point-text)
 
-pub returns-in_default-whole_in : goal.returns-in_default-whole_in
-returns-in_default-whole_in c =
-    let w2 = c in
+pub returns-in_err-back : goal.returns-in_err-back
+returns-in_err-back c =
+    rw c.from_residual-in_err-back.ensures
+    (let w2 = c in
     let f = w2 in
     let w = f in
     let two = w in
     let s = w.args.text.now in
-    ap₂ (λ (x y : Whole). with_places (length (behind 46 s)) x y) (sym f.in-Is.is ∙ front-is (goal.at.returns-in_default-whole_in c).After-whole_in) (sym c.in_default-whole_in.is ∙ back_is (goal.at.returns-in_default-whole_in c).After-whole_in-2)
-    ∙ short-point s (has-point (goal.at.returns-in_default-whole_in c).Else-point-text) (short (goal.at.returns-in_default-whole_in c).Else-text-gt16)
+    ap₂ (λ (x y : Option ℕ). with_places (length (behind 46 s)) x y) (sym f.in_ok-front.was ∙ front-is (goal.at.returns-in_err-back c).After-whole_in) (sym c.in_err-back.was ∙ back_is (goal.at.returns-in_err-back c).After-whole_in-2)
+    ∙ short-point s (has-point (goal.at.returns-in_err-back c).Else-point-text) (short (goal.at.returns-in_err-back c).Else-text-gt16))
 
 pub overflow_mul-result : goal.overflow_mul-result
 overflow_mul-result c = let h = small (goal.at.overflow_mul-result c).After-ten_to-scale in record { fits = omega arith }
@@ -106,6 +106,6 @@ pub returns : goal.returns
 returns c =
     let s = c.args.text.now in
     let d = (goal.at.returns c).After-ten_to-scale in
-    let f = ap₂ (λ (x y : Whole). with_places (length (behind 46 s)) x y) (front d) (back d) in
-    ap (λ (n : ℕ). Fractions.Is (c.in-Is.front * n + c.in-Is-whole_in.back) n) (scale-is d) ∙ sym f
+    let f = ap₂ (λ (x y : Option ℕ). with_places (length (behind 46 s)) x y) (front d) (back d) in
+    ap (λ (n : ℕ). Some (c.in_ok-front.front * n + c.in_ok-back.back, n)) (scale-is d) ∙ sym f
     ∙ short-point s (has-point (goal.at.returns c).Else-point-text) (short (goal.at.returns c).Else-text-gt16)

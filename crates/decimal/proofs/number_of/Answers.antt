@@ -6,16 +6,18 @@ use Rattle.signed.specs.Laws.Sign.{back_as, neg-sub}
 use Rattle.decimal.proofs.Laws.{no_size, large, small}
 use Rattle.decimal.proofs.number_of.Goals as goal
 
-pub returns-in_default : goal.returns-in_default
-returns-in_default c = no_size c.args.minus c.in_default.is
+pub returns-in_err-n : goal.returns-in_err-n
+returns-in_err-n c =
+    rw c.from_residual.ensures
+    (no_size c.args.minus c.in_err-n.was)
 
 pub returns-then-n-gt9223372036854775807 : goal.returns-then-n-gt9223372036854775807
-returns-then-n-gt9223372036854775807 c = large c.args.minus c.in-Is.n c.in-Is.is (omega arith)
+returns-then-n-gt9223372036854775807 c = large c.args.minus c.in_ok-n.n c.in_ok-n.was (omega arith)
 
 pub returns-then-minus : goal.returns-then-minus
 returns-then-minus c =
-    small true c.in-Is.n c.if-minus.true c.in-Is.is (omega arith) (back_as c.difference.type_inv (c.difference.ensures ∙ sym (neg-sub c.in-Is.n)))
+    small true c.in_ok-n.n c.if-minus.true c.in_ok-n.was (omega arith) (back_as c.difference.type_inv (c.difference.ensures ∙ sym (neg-sub c.in_ok-n.n)))
 
 pub returns : goal.returns
 returns c =
-    small false c.in-Is.n c.if-minus.false c.in-Is.is (omega arith) (back_as c.as_signed.type_inv c.as_signed.ensures)
+    small false c.in_ok-n.n c.if-minus.false c.in_ok-n.was (omega arith) (back_as c.as_signed.type_inv c.as_signed.ensures)

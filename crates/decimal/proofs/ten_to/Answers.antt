@@ -6,6 +6,6 @@ use Rattle.decimal.proofs.ten_to.Goals as goal
 
 pub overflow_mul-power : goal.overflow_mul-power
 overflow_mul-power c =
-    let l = c.loop-i in
-    let t : 10 ^ l.i ≤ 10 ^ 15 = ten-le {i = l.i} {j = 15} (omega (arith, c.loop-i-test.true, c.requires)) in
-    omega (arith, l.invariant.1)
+    let l = c.loop in
+    let t : 10 ^ l.counter ≤ 10 ^ 15 = ten-le {i = l.counter} {j = 15} (omega (arith, c.requires)) in
+    omega (arith, l.invariant)

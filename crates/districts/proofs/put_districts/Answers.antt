@@ -9,7 +9,6 @@ pub loop-i-preserved : goal.loop-i-preserved
 loop-i-preserved c =
     let s = c in
     let l = c.loop-i in
-    let t = c.loop-i-test.true in
     let q = c.put_district-end.ensures in
     let e = lines_more s.args.counters.now l.i (omega (arith, s.requires.at_most_full.long)) in
-    (omega arith, put_as e (then-put l.invariant.1 (omega (arith, l.invariant.0, l.invariant.2, s.requires.in_bounds)) q.put), omega (arith, q.upper_bound, l.invariant.2), search rules)
+    (put_as e (then-put l.invariant.0 (omega (arith, l.invariant.1, s.requires.in_bounds)) q.put), omega (arith, q.upper_bound, l.invariant.1), search rules)

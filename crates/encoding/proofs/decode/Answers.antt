@@ -6,24 +6,24 @@ use Rattle.encoding.proofs.Turns.{not-read, begun, place-wrong, place-right, too
 use native.Mathlib.Omega.{arith}
 use Rattle.encoding.proofs.decode.Goals as goal
 
-pub returns-in-Wrong : goal.returns-in-Wrong
-returns-in-Wrong c = c.refused_at.ensures ∙ not-read _ (sym c.newest_in.ensures ∙ c.in-Wrong.is)
+pub returns-in-Err : goal.returns-in-Err
+returns-in-Err c = c.refused_at.ensures ∙ not-read _ (sym c.newest_in.ensures ∙ c.in-Err.is)
 
 pub loop-place-init : goal.loop-place-init
 loop-place-init c =
-    begun _ _ c.no_history.result.kept (sym c.newest_in.ensures ∙ c.in-Is.is)
+    begun _ _ c.no_history.result.kept (sym c.newest_in.ensures ∙ c.in-Ok.is)
     (ap (λ (h : History). length h.kept) c.no_history.ensures)
 
-pub returns-in-Wrong-settings_at : goal.returns-in-Wrong-settings_at
-returns-in-Wrong-settings_at c =
-    c.refused_at-in-Wrong-settings_at.ensures
-    ∙ place-wrong c.loop-place.invariant c.loop-place-test.true
-    (sym c.settings_at.ensures ∙ c.in-Wrong-settings_at.is)
+pub returns-in-Err-settings_at : goal.returns-in-Err-settings_at
+returns-in-Err-settings_at c =
+    c.refused_at-in-Err-settings_at.ensures
+    ∙ place-wrong c.loop-place.invariant (omega arith)
+    (sym c.settings_at.ensures ∙ c.in-Err-settings_at.is)
 
 pub loop-place-preserved : goal.loop-place-preserved
 loop-place-preserved c =
-    place-right c.loop-place.invariant c.loop-place-test.true _
-    (sym c.settings_at.ensures ∙ c.in-Is-settings_at.is)
+    place-right c.loop-place.invariant (omega arith) _
+    (sym c.settings_at.ensures ∙ c.in-Ok-settings_at.is)
 
 pub returns-then-bytes-gt-LENGTH : goal.returns-then-bytes-gt-LENGTH
 returns-then-bytes-gt-LENGTH c = let i = c.loop-place.invariant in c.refused_at-then-bytes-gt-LENGTH.ensures ∙ too_long i (omega arith) c.if-bytes-gt-LENGTH.true

@@ -1,10 +1,6 @@
 -- `encoding::decode` meets its contract: place by place, what is read from there on makes the answer. Assumes nothing.
-use Prim.Native.Nat.{◌-◌}
 use Rattle.encoding.proofs.Turns.{Reading}
 use Rattle.encoding.proofs.decode.Given as goal
 
 abbrev pub invariant-loop-place : goal.invariant-loop-place
 invariant-loop-place l = Reading l.bytes l.newest l.place l.kept
-
-abbrev pub decreases-loop-place : goal.decreases-loop-place
-decreases-loop-place l = 32 - l.place

@@ -14,9 +14,8 @@ loop-place-preserved c =
     let l = c.loop-place in
     let a = c.args in
     let s = c.put_settings in (
-      omega arith,
-      s.auto.bytes ∙ l.invariant.1,
-      place-turn l.bytes s.new.bytes _ l.place a.history.kept c.loop-place-test.true s.ensures l.invariant.2,
+      s.auto.bytes ∙ l.invariant.0,
+      place-turn l.bytes s.new.bytes _ l.place a.history.kept (omega arith) s.ensures l.invariant.1,
     )
 
 pub returns : goal.returns
@@ -24,7 +23,7 @@ returns c =
     let l = c.loop-place in
     let a = c.args in
     let e : l.place ≡ 32 = omega arith in
-    places-end l.bytes _ l.place a.history.kept e l.invariant.2
+    places-end l.bytes _ l.place a.history.kept e l.invariant.1
     ∙ ap (λ (x : List ℕ). sets x 7 (places_bytes 32 0 a.history.kept))
     (c.put_number-2.ensures
     ∙ ap (λ (x : List ℕ). sets x 5 (digits 256 2 a.history.newest)) c.put_number.ensures)

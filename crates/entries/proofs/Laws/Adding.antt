@@ -1,11 +1,13 @@
 -- Adding a cell to a text (01 "The coverage text", "Refusal numbers"), over what jgv_coverage_add answers and leaves in lent memory: the first refusal
 -- that applies, and an accepted text of the same heading whose ground is the old one and the cell's. Assumes nothing.
-use Rattle.std.specs.Prelude.{◌≡◌, ◌↔◌, Bool, true, not, cond, List, [], ◌∷◌, ◌++◌, map, ltb}
+use Rattle.std.specs.Prelude.{◌≡◌, ◌↔◌, Bool, true, not, cond, List, [], ◌∷◌, ◌++◌, map, ltb, Err, Ok, Result}
 use Rattle.std.proofs.Math.Path.{refl, ap, ap₂, subst}
 use Rattle.std.proofs.Common.{sym, ◌∙◌, inl, ⊎_elim, arith, length-take-le}
 use Prim.Native.Nat.{ℕ, zero, suc, ◌≤◌, ◌<◌}
 use Rattle.std.proofs.Math.ListN.{length, take, drop}
 use Rattle.std.proofs.Math.Seq.{take-append_seam}
+use Rattle.reading.specs.declared.Refused.{Refused}
+use Rattle.reader.specs.declared.Checked.{Checked}
 use borrow.Author.Tests.{le-ltb, ltb-false, not-false, ne_eqb}
 use Rattle.logic.specs.Refusal.{refuse, ◌otherwise◌, given}
 use Rattle.logic.specs.Laws.Bools.{clash}
@@ -29,12 +31,9 @@ use Rattle.reading.specs.Text.{heading_length, heading, Accepted}
 use Rattle.reading.specs.TextReading.{nodes_of, profile_of, north_of, south_of, text_arrangement, is_text, read_text, body_start}
 use Rattle.reading.proofs.Laws.TextReading.{reads-own, body-start}
 use Rattle.reading.proofs.Laws.Written.{TextOf}
-use Rattle.reader.specs.declared.Checked.{Checked}
 use Rattle.reader.specs.Check.{WrongVersion, other_version, text_refusal, place_with, checked_of}
 use Rattle.reader.specs.Laws.Check.{grammar-place}
 use Rattle.asking.specs.Ask.{AllCovered, ask_refusal}
-use Rattle.adding.specs.declared.Added.{Added}
-use Rattle.adding.specs.declared.Added.TheVariants as added-as
 use Rattle.adding.specs.Add.{cells_with, text_with, keeps_with, size_refusal, with_refusal, add_refusal, added, placed, place_in, length_in}
 use Rattle.adding.proofs.Laws.Add.{keeps-with, with-reads, with-text, with-ground, placed-rest, placed-none, placed-place}
 use Rattle.entries.specs.declared.AddAnswer.{AddAnswer}
@@ -162,16 +161,16 @@ module _ (bytes : List ℕ) (end code : ℕ) where
   length-in : add_answer.length ≡ length_in (added (add_refusal bytes end code) t code)
   length-in = go (added (add_refusal bytes end code) t code)
     where
-      go : (r : Added) → (add_numbers r).length ≡ length_in r
-      go (added-as.Length n) = refl
-      go (added-as.Refused r p) = refl
+      go : (r : Result ℕ Refused) → (add_numbers r).length ≡ length_in r
+      go (Ok n) = refl
+      go (Err e) = refl
 
   place-in : add_answer.place ≡ place_with (add_refusal bytes end code) t
   place-in = go (added (add_refusal bytes end code) t code) ∙ placed-place t code bytes (add_refusal bytes end code)
     where
-      go : (r : Added) → (add_numbers r).place ≡ place_in r
-      go (added-as.Length n) = refl
-      go (added-as.Refused r p) = refl
+      go : (r : Result ℕ Refused) → (add_numbers r).place ≡ place_in r
+      go (Ok n) = refl
+      go (Err e) = refl
 
   -- "an answer changes only its own length": the bytes behind it are what they were
   pub add-rest : drop add_answer.length lent_bytes ≡ drop add_answer.length bytes
@@ -208,7 +207,7 @@ module _ (bytes : List ℕ) (end code : ℕ) where
   add-place = (
     λ e.
         let r : add_refusal bytes end code ≡ 9 = sym add-refusal ∙ e in
-        place-in ∙ ap (λ (n : ℕ). place_with n t) r ∙ sym (ap (λ (x : Checked). (check_numbers x).place) (grammar-place t (text-nine r)).0),
+        place-in ∙ ap (λ (n : ℕ). place_with n t) r ∙ sym (ap (λ (x : Result Checked Refused). (check_numbers x).place) (grammar-place t (text-nine r)).0),
     λ h. place-in ∙ ap (λ (b : Bool). cond b (place_of t) 0) (ne_eqb (add_refusal bytes end code) 9 (λ e. h (add-refusal ∙ e))),
   )
 

@@ -1,6 +1,6 @@
 -- The arrangement stays with a code (02, W-210), over what the entries answer: a code is of the n and s that it was made with, or of the code that it
 -- was made from, and what is told of a code is told in its own arrangement. Assumes nothing.
-use Rattle.std.specs.Prelude.{◌≡◌, Bool, true, ◌&&◌, not, List, [], ◌∷◌, ℤ, ◌+ℤ◌, ◌-ℤ◌, ltb, length}
+use Rattle.std.specs.Prelude.{◌≡◌, Bool, true, ◌&&◌, not, List, [], ◌∷◌, ℤ, ◌+ℤ◌, ◌-ℤ◌, ltb, length, Ok}
 use Rattle.std.proofs.Math.Path.{refl, sym, ap, ap₂}
 use Rattle.std.proofs.Common.{◌∙◌}
 use Prim.Native.Nat.{ℕ, zero, suc, ◌+◌, ◌-◌, ◌^◌, ◌<◌}
@@ -14,7 +14,6 @@ use Rattle.logic.specs.Refusal.{refuse, ◌otherwise◌, given}
 use Rattle.logic.specs.Laws.Refusal.{both, allowed, passes, given-value}
 use Rattle.cell.specs.declared.Cell.{Cell}
 use Rattle.cell.specs.declared.Arrangement.{Arrangement}
-use Rattle.cell.specs.declared.Found.TheVariants.{At}
 use Rattle.cell.specs.Cell.{IsCell, IsArrangement, cell_refusal, arrangement_refusal, found}
 use Rattle.cell.proofs.Laws.Cell.{is-cell, cell-is, is-arrangement, arrangement-is}
 use Rattle.cell.specs.Hierarchy.{parent_of, parent_refusal, child_of, child_refusal}
@@ -67,11 +66,11 @@ makes code e = ap (λ (q : ℕ). code_answer q code) e
 
 -- ---- what jgv_code_cell tells
 
-read_cell : {a : Arrangement} {c : Cell} → IsArrangement a → IsCell c → code_cell (code_of a c) ≡ cell_numbers a (At c)
+read_cell : {a : Arrangement} {c : Cell} → IsArrangement a → IsCell c → code_cell (code_of a c) ≡ cell_numbers a (Ok c)
 unfolding code_cell found
 read_cell {a} {c} g v =
     ap₂ (λ (r : ℕ) (x : Cell). cell_numbers (arrangement_of (code_of a c)) (found r x)) (code-passes (code_of a c) (cell-has-code g c v)) (cell-code g c v)
-    ∙ ap (λ (b : Arrangement). cell_numbers b (At c)) (arrangement-code g c v)
+    ∙ ap (λ (b : Arrangement). cell_numbers b (Ok c)) (arrangement-code g c v)
 
 cell-refusal : (code : ℕ) → (code_cell code).refusal ≡ code_refusal code
 unfolding code_cell found
@@ -154,7 +153,7 @@ module _ (code : ℕ) where
     is : is_code code ≡ true
     is = a-code code e
 
-    told : code_cell code ≡ cell_numbers (arrangement_of code) (At (cell_of code))
+    told : code_cell code ≡ cell_numbers (arrangement_of code) (Ok (cell_of code))
     unfolding code_cell found
     told = ap (λ (r : ℕ). cell_numbers (arrangement_of code) (found r (cell_of code))) e
 
@@ -209,7 +208,7 @@ module _ (code : ℕ) where
     good : code_refusal code ≡ 0
     good = sym (cell-refusal code) ∙ e
 
-    numbers : code_cell code ≡ cell_numbers (arrangement_of code) (At (cell_of code))
+    numbers : code_cell code ≡ cell_numbers (arrangement_of code) (Ok (cell_of code))
     numbers = told good
 
     cell : IsCell (cell_of code)
@@ -291,7 +290,7 @@ module _ (code : ℕ) where
         )
 
     -- the cell of a neighbour's code
-    step-told : (d : ℕ) {x : Cell} → d < 4 → neighbour_of (arrangement_of code) (cell_of code) d ≡ x → code_cell (neighbour_code code d).code ≡ cell_numbers (arrangement_of code) (At x)
+    step-told : (d : ℕ) {x : Cell} → d < 4 → neighbour_of (arrangement_of code) (cell_of code) d ≡ x → code_cell (neighbour_code code d).code ≡ cell_numbers (arrangement_of code) (Ok x)
     unfolding neighbour_code
     step-told d {x} l h =
         let a : Arrangement = arrangement_of code in
@@ -299,7 +298,7 @@ module _ (code : ℕ) where
         let z : refuse (ltb 3 d) 3 ≡ 0 = ap (λ (t : Bool). refuse t 3) (le-ltb 3 d (omega arith)) in
         ap (λ (r : CodeAnswer). code_cell r.code) (makes (code_of a y) (passes _ z ∙ good))
         ∙ read_cell (code-arranged code) (neighbour-is-cell d (code-arranged code) cell l)
-        ∙ ap (λ (r : Cell). cell_numbers a (At r)) h
+        ∙ ap (λ (r : Cell). cell_numbers a (Ok r)) h
 
     -- "N lies above face n": from the top row of face n the step up leads into N's last row, in the same column, and of the same n and s
     pub up-from-n :

@@ -1,14 +1,13 @@
 -- "The old path stays, .. and both agree on every cell and refusal" (02, W-202), over what the entries answer and leave in lent memory: a batch has for
 -- each code what `jgv_code_cell` answers, and for each cell what `jgv_cell_code` answers. Assumes nothing.
-use Rattle.std.specs.Prelude.{◌≡◌, refl, ◌↔◌, true, List, ℕ, zero, suc, ◌*◌, ◌<◌, get_or, take, drop}
+use Rattle.std.specs.Prelude.{◌≡◌, refl, ◌↔◌, true, List, ℕ, zero, suc, ◌*◌, ◌<◌, get_or, take, drop, Err, Ok, Result}
 use Rattle.std.proofs.Common.{sym, ap, ◌∙◌, drop_at}
 use Rattle.std.proofs.Math.Path.{subst}
 use Rattle.std.proofs.Math.ListN.{length}
+use Rattle.cell.specs.declared.Cell.{Cell}
 use Rattle.logic.specs.Lent.{in_front}
 use Rattle.logic.specs.Laws.Refusal.{given-value, given-none}
 use Rattle.cell.specs.declared.Arrangement.{Arrangement}
-use Rattle.cell.specs.declared.Found.{Found}
-use Rattle.cell.specs.declared.Found.TheVariants as found_as
 use Rattle.cell.specs.Cell.{found}
 use Rattle.code.specs.Code.{cell_of, arrangement_of, code_refusal}
 use Rattle.batch.specs.Batch.{seven_in, seven_of, cells_of, cells_refusal, cells_memory, coded_at, two_in, cells_in, codes_of, codes_refusal, codes_memory, batched}
@@ -43,9 +42,9 @@ codes-in-order ns room = refl
 -- ---- codes to cells
 
 -- one code: seven numbers are what `jgv_code_cell` answers
-seven-same : (a : Arrangement) (f : Found) → seven_in a f ≡ seven_numbers (cell_numbers a f)
-seven-same a (found_as.At c) = refl
-seven-same a (found_as.Refused r) = refl
+seven-same : (a : Arrangement) (f : Result Cell ℕ) → seven_in a f ≡ seven_numbers (cell_numbers a f)
+seven-same a (Ok c) = refl
+seven-same a (Err r) = refl
 
 pub seven-answered : (code : ℕ) → seven_of code ≡ seven_numbers (code_cell code)
 unfolding seven_of code_cell

@@ -1,10 +1,12 @@
 -- Comparing over what the entry answers (02, W-205): its refusals in their order, the three listings in lent memory, and the sums that tie up. Assumes
 -- nothing.
-use Rattle.std.specs.Prelude.{◌≡◌, ◌↔◌, ◌⊎◌, Bool, ◌&&◌, List, [], ◌∷◌, map, eqb, length, take, drop}
+use Rattle.std.specs.Prelude.{◌≡◌, ◌↔◌, ◌⊎◌, Bool, ◌&&◌, List, [], ◌∷◌, map, eqb, length, take, drop, Result}
 use Rattle.std.proofs.Math.Path.{refl, sym, ap, subst}
 use Rattle.std.proofs.Common.{ap₂, ◌∙◌, length-take-le}
 use Rattle.std.proofs.Math.Logic.{inl, inr, ⊎_elim}
 use Rattle.std.proofs.Math.Bool.{true, false}
+use Rattle.reading.specs.declared.Refused.{Refused}
+use Rattle.comparing.specs.declared.Compared.{Compared}
 use Prim.Native.Nat.{ℕ, zero, suc, ◌+◌, ◌<◌}
 use Rattle.logic.specs.Lists.{All}
 use Rattle.logic.specs.Rise.{Rise}
@@ -20,7 +22,6 @@ use Rattle.reading.proofs.Laws.TextReading.{read-text, good-nodes}
 use Rattle.reading.proofs.Laws.FewestOf.{one-fewest}
 use Rattle.reader.specs.Laws.Demand.{accepted-reads}
 use Rattle.reader.specs.Check.{WrongVersion, text_refusal, place_with, answer, checked_of}
-use Rattle.comparing.specs.declared.Compared.{Compared}
 use Rattle.comparing.specs.Compare.{OnlyFirst, OnlySecond, InBoth, ThreeLists, shared_codes, arrangements_differ, room_short, compare_refusal, compare_place, compared, with_codes}
 use Rattle.comparing.proofs.Laws.Compare.{first_one, second-one, both_one, first-tie, second-tie}
 use Rattle.comparing.proofs.Laws.Texts.{first-listed, second-listed, both-listed}
@@ -222,7 +223,7 @@ module _ (t u : List ℕ) (lent : ThreeLists) where
     stands : AllInFront (shared_codes t u) lent compared_memory compare_answer.first_cells compare_answer.second_cells compare_answer.both_cells
     unfolding compared
     stands =
-        subst (λ (r : Compared). let a = compare_numbers r in AllInFront (shared_codes t u) lent compared_memory a.first_cells a.second_cells a.both_cells) (sym answered)
+        subst (λ (r : Result Compared Refused). let a = compare_numbers r in AllInFront (shared_codes t u) lent compared_memory a.first_cells a.second_cells a.both_cells) (sym answered)
         (listings-given (record { answer = refl; memory = refl }) answered).1
 
     -- "an answer changes only its own length"
@@ -283,9 +284,9 @@ module _ (t u : List ℕ) (lent : ThreeLists) where
         let b = nodes_of u in
         let g = good-nodes t is-first in
         let h = good-nodes u is-second in (
-          ap (λ (r : Compared). (compare_numbers r).first_size) answered ∙ sym (ap size_sum (first_one a b g h (map cell_of first_codes) compare-first-only.0)),
-          ap (λ (r : Compared). (compare_numbers r).second_size) answered ∙ sym (ap size_sum (second-one a b g h (map cell_of second_codes) compare-second-only.0)),
-          ap (λ (r : Compared). (compare_numbers r).both_size) answered ∙ sym (ap size_sum (both_one a b g h (map cell_of both_codes) compare-both.0)),
+          ap (λ (r : Result Compared Refused). (compare_numbers r).first_size) answered ∙ sym (ap size_sum (first_one a b g h (map cell_of first_codes) compare-first-only.0)),
+          ap (λ (r : Result Compared Refused). (compare_numbers r).second_size) answered ∙ sym (ap size_sum (second-one a b g h (map cell_of second_codes) compare-second-only.0)),
+          ap (λ (r : Result Compared Refused). (compare_numbers r).both_size) answered ∙ sym (ap size_sum (both_one a b g h (map cell_of both_codes) compare-both.0)),
         )
 
     -- "first only plus both is the first text's sum, and the same for the second": the sums that checking answers
@@ -297,8 +298,8 @@ module _ (t u : List ℕ) (lent : ThreeLists) where
         let k = read-both none in
         let g = good-nodes t is-first in
         let h = good-nodes u is-second in (
-          ap (λ (r : Compared). let a = compare_numbers r in a.first_size + a.both_size) answered ∙ first-tie (nodes_of t) (nodes_of u) g h
+          ap (λ (r : Result Compared Refused). let a = compare_numbers r in a.first_size + a.both_size) answered ∙ first-tie (nodes_of t) (nodes_of u) g h
               ∙ sym (check-size t (check-refusal t ∙ k.0)),
-          ap (λ (r : Compared). let a = compare_numbers r in a.second_size + a.both_size) answered ∙ second-tie (nodes_of t) (nodes_of u) g h
+          ap (λ (r : Result Compared Refused). let a = compare_numbers r in a.second_size + a.both_size) answered ∙ second-tie (nodes_of t) (nodes_of u) g h
               ∙ sym (check-size u (check-refusal u ∙ k.1)),
         )

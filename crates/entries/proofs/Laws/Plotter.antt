@@ -1,6 +1,6 @@
 -- The plotter's entries (02, W-214): each refuses with the first of its numbers whose condition holds; a code's box is its square in metres, and each
 -- number is within one part in 2^51 of the exact one. Assumes nothing.
-use Rattle.std.specs.Prelude.{◌≡◌, refl, ◌↔◌, ◌⊎◌, Bool, true, false, not, ◌||◌, List, [], ◌∷◌, ◌++◌, ℕ, zero, suc, ◌<◌, ℤ, pos, ◌+ℤ◌, ◌-ℤ◌, Float}
+use Rattle.std.specs.Prelude.{◌≡◌, refl, ◌↔◌, ◌⊎◌, Bool, true, false, not, ◌||◌, List, [], ◌∷◌, ◌++◌, ℕ, zero, suc, ◌<◌, ℤ, pos, ◌+ℤ◌, ◌-ℤ◌, Float, Result}
 use Rattle.std.proofs.Math.Path.{sym, ap}
 use Rattle.std.proofs.Common.{◌∙◌, subst, arith}
 use Rattle.std.specs.Float.{nan, inf, fin}
@@ -22,7 +22,6 @@ use Rattle.metres.specs.Metres.{is_side, IsSide, side_refusal, metres_of, NearEx
 use Rattle.metres.proofs.Laws.Metres.{side-exactly, metres-near}
 use Rattle.plotter.specs.declared.Frame.{Frame}
 use Rattle.plotter.specs.declared.Mark.{Mark}
-use Rattle.plotter.specs.declared.Framed.{Framed}
 use Rattle.plotter.specs.Plotter.{mark, point_mark, mark_of_point, box_of, box_in, box_mark, box_refusal, mark_of_code, framed, first_frame, grown, has_nan, grow_refusal, grown_frame, Holds, EdgesOf}
 use Rattle.plotter.proofs.Laws.Frame.{grown-own, grown-other, over-edges, tie-left, tie-right}
 use Rattle.plotter.proofs.Laws.Box.{code-box}

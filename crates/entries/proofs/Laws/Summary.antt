@@ -1,10 +1,12 @@
 -- The summary's entries (02, W-207) over what they answer: the refusals in their order, what the counters are and add up to, that questions agree with
 -- `jgv_coverage_ask`, and what changes when a text gains a cell. Assumes nothing.
-use Rattle.std.specs.Prelude.{◌≡◌, ◌↔◌, ◌⊎◌, Bool, true, false, not, cond, List, length, get_or}
+use Rattle.std.specs.Prelude.{◌≡◌, ◌↔◌, ◌⊎◌, Bool, true, false, not, cond, List, length, get_or, Err, Ok, Result}
 use Rattle.std.proofs.Math.Path.{refl, ap, subst}
 use Rattle.std.proofs.Common.{sym, ap₂, ◌∙◌, arith}
 use Prim.Native.Nat.{ℕ, zero, suc, ◌*◌, ◌^◌, ◌<◌}
 use Rattle.std.proofs.lemmas.List.{length-replicate}
+use Rattle.reading.specs.declared.Refused.{Refused}
+use Rattle.asking.specs.declared.Asked.{Asked}
 use borrow.Author.Tests.{ltb-false}
 use Rattle.logic.specs.Laws.Bools.{refuted, clash}
 use Rattle.logic.specs.Refusal.{refuse, ◌otherwise◌, given}
@@ -24,8 +26,6 @@ use Rattle.reading.proofs.Laws.TextReading.{reads-body}
 use Rattle.reading.proofs.Laws.Demand.{whole_cells_lem}
 use Rattle.reader.specs.Check.{text_refusal, place_with, answer, checked_of}
 use Rattle.reader.specs.Laws.Answer.{text-read}
-use Rattle.asking.specs.declared.Asked.{Asked}
-use Rattle.asking.specs.declared.Asked.TheVariants as asked-as
 use Rattle.asking.specs.Ask.{ask_refusal, asked}
 use Rattle.summary.specs.Gain.{Gains, Overlaps}
 use Rattle.summary.specs.Summary.{counters_of, zeros, summarized, kept_counters, is_full, question_refusal, questioned}
@@ -232,9 +232,9 @@ module _ (t : List ℕ) (code : ℕ) (e : (summary_of t).refusal ≡ 0) where
   abbrev pub summary_question : SummaryAskAnswer
   summary_question = summary_asked (summary_of t).n (summary_of t).s (summary_of t).counters code
 
-  as-numbers : (r : Asked) → ((question_numbers (as_question r)).refusal ≡ (ask_numbers r).refusal) × ((question_numbers (as_question r)).covered ≡ (ask_numbers r).covered)
-  as-numbers (asked-as.Answer covered settled) = (refl, refl)
-  as-numbers (asked-as.Refused refusal place) = (refl, refl)
+  as-numbers : (r : Result Asked Refused) → ((question_numbers (as_question r)).refusal ≡ (ask_numbers r).refusal) × ((question_numbers (as_question r)).covered ≡ (ask_numbers r).covered)
+  as-numbers (Ok x) = (refl, refl)
+  as-numbers (Err e) = (refl, refl)
 
   asks-kept : summary_question ≡ question_numbers (questioned (question_refusal (text_arrangement t) code) (counters_of (whole_cells (nodes_of t))) code)
   unfolding summary_asked

@@ -1,8 +1,7 @@
 -- Reading from a place of the bytes on: a number and what follows it, or the end. Assumes nothing.
-use Rattle.std.specs.Prelude.{◌≡◌, refl, Bool, true, false, cond, List, [], ◌∷◌, ℕ, ◌+◌, ◌≤◌, ◌<◌, ltb, length, take, drop}
+use Rattle.std.specs.Prelude.{◌≡◌, refl, Bool, true, false, cond, List, [], ◌∷◌, ℕ, ◌+◌, ◌≤◌, ◌<◌, ltb, length, take, drop, Err, Ok}
 use Rattle.std.proofs.Common.{sym, ap, ◌∙◌, arith, drop_of_length-le, drop-drop, drop-cons}
 use Rattle.ternary.specs.Digits.{value}
-use Rattle.fields.specs.declared.NumberRead.TheVariants.{Is, Wrong}
 use Rattle.fields.specs.Form.{Form, done, number}
 use Rattle.fields.specs.Read.{reach, Read, said, wrong, behind, read_as}
 use Rattle.fields.specs.Number.{number_at, by_number}
@@ -27,7 +26,7 @@ number_read {A} s at w least most next = go (ltb (reach w least most 0 (drop at 
 
     go : (b : Bool) →
         behind at (cond b (wrong (reach w least most 0 (drop at s))) (behind w (read_as (next (value 256 (take w (drop at s)))) (drop w (drop at s)))))
-        ≡ by_number (cond b (Wrong (at + reach w least most 0 (drop at s))) (Is (value 256 (take w (drop at s))))) (λ x. behind (at + w) (read_as (next x) (drop (at + w) s)))
+        ≡ by_number (cond b (Err (at + reach w least most 0 (drop at s))) (Ok (value 256 (take w (drop at s))))) (λ x. behind (at + w) (read_as (next x) (drop (at + w) s)))
     go true = refl
     go false =
         behind-behind at w (read_as (next v) (drop w (drop at s))) ∙ ap (λ (t : List ℕ). behind (at + w) (read_as (next v) t)) (drop-drop w at s)

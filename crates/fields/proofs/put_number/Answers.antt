@@ -12,11 +12,11 @@ pub loop-left-preserved : goal.loop-left-preserved
 loop-left-preserved c =
     let l = c.loop-left in
     let a = c.args in
-    (omega arith, simp length-set l.invariant.1, last_byte l.bytes a.at l.left l.rest c.loop-left-test.true ∙ l.invariant.2)
+    (simp length-set l.invariant.0, last_byte l.bytes a.at l.left l.rest (omega arith) ∙ l.invariant.1)
 
 pub returns : goal.returns
 unfolding digits
 returns c =
     let l = c.loop-left in
     let e : l.left ≡ 0 = omega arith in
-    ap (λ (i : ℕ). sets l.bytes c.args.at (digits 256 i l.rest)) (sym e) ∙ l.invariant.2
+    ap (λ (i : ℕ). sets l.bytes c.args.at (digits 256 i l.rest)) (sym e) ∙ l.invariant.1

@@ -1,13 +1,9 @@
 -- `fields::put_number` meets its contract: with the bytes that are still to be put, the bytes are the whole. Assumes nothing.
 use mathlib.Core.Path.{◌≡◌}
-use Prim.Native.Nat.{◌≤◌}
 use lib.ListN.{length}
 use lib.Seq.{sets}
 use Rattle.ternary.specs.Digits.{digits}
 use Rattle.fields.proofs.put_number.Given as goal
 
 abbrev pub invariant-loop-left : goal.invariant-loop-left
-invariant-loop-left l = (l.left ≤ l.width) × (length l.bytes ≡ length l.initial.bytes) × (sets l.bytes l.at (digits 256 l.left l.rest) ≡ sets l.initial.bytes l.at (digits 256 l.width l.x))
-
-abbrev pub decreases-loop-left : goal.decreases-loop-left
-decreases-loop-left l = l.left
+invariant-loop-left l = (length l.bytes ≡ length l.initial.bytes) × (sets l.bytes l.at (digits 256 l.left l.rest) ≡ sets l.initial.bytes l.at (digits 256 l.width l.x))

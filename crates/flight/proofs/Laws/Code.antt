@@ -1,14 +1,11 @@
 -- A line's code is a cell's, of the setting's arrangement, and that of the fix that stands on the line. Assumes nothing.
-use Rattle.std.specs.Prelude.{◌≡◌, refl, true, List, ◌∷◌, ◌++◌, ℕ, zero, suc, ℤ}
+use Rattle.std.specs.Prelude.{◌≡◌, refl, true, List, ◌∷◌, ◌++◌, ℕ, zero, suc, ℤ, None, Ok, Option, Some}
 use Rattle.std.proofs.Common.{sym, subst, arith}
 use Rattle.std.proofs.Math.Path.{ap}
 use Rattle.cell.specs.declared.Arrangement.{Arrangement}
 use Rattle.cell.specs.Cell.{IsArrangement, IsCell}
-use Rattle.code.specs.declared.Coded.TheVariants.{Code}
 use Rattle.code.specs.Code.{code_of, arrangement_of, is_code, coded, code_in}
 use Rattle.code.proofs.Laws.Code.{cell-has-code, arrangement-code}
-use Rattle.decimal.specs.declared.FixLine.{FixLine}
-use Rattle.decimal.specs.declared.FixLine.TheVariants as Lines
 use Rattle.decimal.specs.Decimal.{fix_in, printed_number}
 use Rattle.decimal.proofs.Laws.Decimal.{FitsSigned, fix-printed}
 use Rattle.locate.specs.Fix.{fix_refusal, fix_cell}
@@ -25,7 +22,7 @@ use Rattle.flight.specs.Flight.{line_refusal, line_cell, fix_coded, no_fix, of_l
 abbrev in-setting : Arrangement → (k : ℕ) → Latitude → Setting
 in-setting a k x = record { arrangement = a; resolution = k; latitude = x }
 
-coded-code : (r code c : ℕ) → coded r code ≡ Code c → (r ≡ 0) × (code ≡ c)
+coded-code : (r code c : ℕ) → coded r code ≡ Ok c → (r ≡ 0) × (code ≡ c)
 unfolding coded
 coded-code zero code c e = (refl, ap code_in e)
 coded-code (suc r) code c e = let z : ◌≡◌ {A = ℕ} 0 1 = cc in absurd (omega arith)
@@ -39,7 +36,7 @@ by-latitude (Geodetic E) a k L sine e = geodetic-allowed a k L sine E e
 pub line-allowed : (s : Setting) (L second : ℤ) → line_refusal s L second ≡ 0 → IsArrangement s.arrangement × IsCell (line_cell s L second)
 line-allowed s L second e = by-latitude s.latitude s.arrangement s.resolution L second e
 
-fix-code : (s : Setting) (L second : ℤ) (c : ℕ) → fix_coded s L second ≡ Code c → (is_code c ≡ true) × (arrangement_of c ≡ s.arrangement)
+fix-code : (s : Setting) (L second : ℤ) (c : ℕ) → fix_coded s L second ≡ Ok c → (is_code c ≡ true) × (arrangement_of c ≡ s.arrangement)
 unfolding fix_coded
 fix-code s L second c e =
     let a : Arrangement = s.arrangement in
@@ -48,17 +45,17 @@ fix-code s L second c e =
     subst (λ (x : ℕ). (is_code x ≡ true) × (arrangement_of x ≡ a)) p.1
     (cell-has-code v.0 (line_cell s L second) v.1, arrangement-code v.0 (line_cell s L second) v.1)
 
-of-line : (s : Setting) (l : FixLine) (c : ℕ) → of_line s l ≡ Code c → (is_code c ≡ true) × (arrangement_of c ≡ s.arrangement)
+of-line : (s : Setting) (l : Option (ℤ × ℤ)) (c : ℕ) → of_line s l ≡ Ok c → (is_code c ≡ true) × (arrangement_of c ≡ s.arrangement)
 unfolding of_line no_fix
-of-line s (Lines.Fix L z) c e = fix-code s L z c e
-of-line s Lines.Not c e = let z : ◌≡◌ {A = ℕ} 0 1 = cc in absurd (omega arith)
+of-line s (Some (L, z)) c e = fix-code s L z c e
+of-line s None c e = let z : ◌≡◌ {A = ℕ} 0 1 = cc in absurd (omega arith)
 
-pub line-is-code : (s : Setting) (line : List ℕ) (c : ℕ) → line_code s line ≡ Code c → is_code c ≡ true
+pub line-is-code : (s : Setting) (line : List ℕ) (c : ℕ) → line_code s line ≡ Ok c → is_code c ≡ true
 unfolding line_code
 line-is-code s line c e = (of-line s (fix_in line) c e).0
 
 -- the codes of a flight are all of one arrangement
-pub line-arranged : (s : Setting) (line : List ℕ) (c : ℕ) → line_code s line ≡ Code c → arrangement_of c ≡ s.arrangement
+pub line-arranged : (s : Setting) (line : List ℕ) (c : ℕ) → line_code s line ≡ Ok c → arrangement_of c ≡ s.arrangement
 unfolding line_code
 line-arranged s line c e = (of-line s (fix_in line) c e).1
 

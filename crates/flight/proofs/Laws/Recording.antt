@@ -1,6 +1,6 @@
 -- The text after a flight is that of the cells of the fixes taken; a line is refused exactly where it is no fix or the text with its cell would be
 -- too long; each line is counted once, as what it is; and where none was refused with 13, the order of the fixes makes no difference. Assumes nothing.
-use Rattle.std.specs.Prelude.{◌≡◌, ◌↔◌, ◌⊎◌, Bool, not, cond, eqb, ltb, length, take, drop}
+use Rattle.std.specs.Prelude.{◌≡◌, ◌↔◌, ◌⊎◌, Bool, not, cond, eqb, ltb, length, take, drop, Err, Ok, Result}
 use Rattle.std.proofs.Math.Path.{refl, ap, ap₂}
 use Rattle.std.proofs.Common.{sym, ◌∙◌, subst, inl, inr, ⊎_elim, arith, take_at}
 use Rattle.std.proofs.Math.Bool.{true, false}
@@ -13,8 +13,6 @@ use Rattle.logic.specs.Refusal.{refuse, ◌otherwise◌, given}
 use Rattle.logic.specs.Laws.Bools.{by_cond}
 use Rattle.cell.specs.declared.Cell.{Cell}
 use Rattle.cell.specs.Cell.{IsCell}
-use Rattle.code.specs.declared.Coded.{Coded}
-use Rattle.code.specs.declared.Coded.TheVariants as coded-as
 use Rattle.code.specs.Code.{cell_of}
 use Rattle.code.specs.Inside.{Inside}
 use Rattle.code.proofs.Laws.Code.{code-is-cell}
@@ -29,8 +27,6 @@ use Rattle.adding.proofs.Laws.Add.{length-same, with-written, keeps-written}
 use Rattle.lines.specs.Fold.{after}
 use Rattle.flight.specs.declared.Recording.{Recording}
 use Rattle.flight.specs.declared.Setting.{Setting}
-use Rattle.flight.specs.declared.Taken.{Taken}
-use Rattle.flight.specs.declared.Taken.TheVariants as taken_as
 use Rattle.flight.specs.Setting.{UsableSetting}
 use Rattle.flight.specs.Flight.{line_code}
 use Rattle.flight.specs.Recording.{fix_taken, taken, taken_text, refusal_in, Flown, with_fix, with_refused, decided, with_code, with_line}
@@ -40,18 +36,18 @@ use Rattle.flight.proofs.Laws.Setting.{line-six}
 
 -- ---- what an answer of `flight::take_line` stands for
 
-abbrev length_in : Taken → ℕ
-length_in (taken_as.Fix m) = m.length
-length_in (taken_as.Refused r) = 0
+abbrev length_in : Result Recording ℕ → ℕ
+length_in (Ok m) = m.length
+length_in (Err r) = 0
 
-abbrev pub flown_as : Taken → (later : List ℕ) → Flown → Flown
-flown_as (taken_as.Fix n) later f = with_fix (take n.length later) f
-flown_as (taken_as.Refused r) later f = with_refused r f
+abbrev pub flown_as : Result Recording ℕ → (later : List ℕ) → Flown → Flown
+flown_as (Ok n) later f = with_fix (take n.length later) f
+flown_as (Err r) later f = with_refused r f
 
 -- the flight after the line
-pub taken-flown : (a : Coded) (bytes : List ℕ) (f : Flown) → flown_as (taken a (length bytes) f.text) (taken_text a bytes f.text) f ≡ with_code (length bytes) a f
+pub taken-flown : (a : Result ℕ ℕ) (bytes : List ℕ) (f : Flown) → flown_as (taken a (length bytes) f.text) (taken_text a bytes f.text) f ≡ with_code (length bytes) a f
 unfolding taken taken_text fix_taken placed given
-taken-flown (coded-as.Code code) bytes f = go (with_refusal f.text (cell_of code) (length bytes))
+taken-flown (Ok code) bytes f = go (with_refusal f.text (cell_of code) (length bytes))
   where
     u : List ℕ
     u = text_with f.text (cell_of code)
@@ -59,37 +55,37 @@ taken-flown (coded-as.Code code) bytes f = go (with_refusal f.text (cell_of code
     go : (r : ℕ) → flown_as (fix_taken r (length u) code) (placed r u bytes) f ≡ decided r u f
     go zero = ap (λ (t : List ℕ). with_fix t f) (take_at u (drop (length u) bytes) (length u) refl)
     go (suc r) = refl
-taken-flown (coded-as.Refused r) bytes f = refl
+taken-flown (Err r) bytes f = refl
 
 -- a refused line changes no byte
-pub refused-bytes : (a : Coded) (bytes t : List ℕ) {r : ℕ} → taken_as.Refused r ≡ taken a (length bytes) t → taken_text a bytes t ≡ bytes
+pub refused-bytes : (a : Result ℕ ℕ) (bytes t : List ℕ) {r : ℕ} → Err r ≡ taken a (length bytes) t → taken_text a bytes t ≡ bytes
 unfolding taken taken_text fix_taken placed given
-refused-bytes (coded-as.Code code) bytes t {r} e = go (with_refusal t (cell_of code) (length bytes)) e
+refused-bytes (Ok code) bytes t {r} e = go (with_refusal t (cell_of code) (length bytes)) e
   where
     u : List ℕ
     u = text_with t (cell_of code)
 
-    go : (q : ℕ) → taken_as.Refused r ≡ fix_taken q (length u) code → placed q u bytes ≡ bytes
+    go : (q : ℕ) → Err r ≡ fix_taken q (length u) code → placed q u bytes ≡ bytes
     go zero f = let z : ◌≡◌ {A = ℕ} 0 1 = cc in absurd (omega arith)
     go (suc q) f = refl
-refused-bytes (coded-as.Refused q) bytes t e = refl
+refused-bytes (Err q) bytes t e = refl
 
 -- a fix after which the text has its length of before left the text as it was
 pub same_text :
-    (a : Coded) (bytes t : List ℕ) (m : Recording) → is_text t ≡ true → ((code : ℕ) → a ≡ coded-as.Code code → IsCell (cell_of code)) →
-    taken_as.Fix m ≡ taken a (length bytes) t → m.length ≡ length t → take m.length (taken_text a bytes t) ≡ t
+    (a : Result ℕ ℕ) (bytes t : List ℕ) (m : Recording) → is_text t ≡ true → ((code : ℕ) → a ≡ Ok code → IsCell (cell_of code)) →
+    Ok m ≡ taken a (length bytes) t → m.length ≡ length t → take m.length (taken_text a bytes t) ≡ t
 unfolding taken taken_text fix_taken placed given
-same_text (coded-as.Code code) bytes t m e v q h = go (with_refusal t (cell_of code) (length bytes)) q
+same_text (Ok code) bytes t m e v q h = go (with_refusal t (cell_of code) (length bytes)) q
   where
     u : List ℕ
     u = text_with t (cell_of code)
 
-    go : (r : ℕ) → taken_as.Fix m ≡ fix_taken r (length u) code → take m.length (placed r u bytes) ≡ t
+    go : (r : ℕ) → Ok m ≡ fix_taken r (length u) code → take m.length (placed r u bytes) ≡ t
     go zero f =
         let k : m.length ≡ length u = ap length_in f in
         take_at u (drop (length u) bytes) m.length (sym k) ∙ length-same t e (cell_of code) (v code refl) (sym k ∙ h)
     go (suc r) f = let z : ◌≡◌ {A = ℕ} 0 1 = cc in absurd (omega arith)
-same_text (coded-as.Refused r) bytes t m e v q h = let z : ◌≡◌ {A = ℕ} 0 1 = cc in absurd (omega arith)
+same_text (Err r) bytes t m e v q h = let z : ◌≡◌ {A = ℕ} 0 1 = cc in absurd (omega arith)
 
 -- ---- the text of the cells taken
 
@@ -126,7 +122,7 @@ module _ (s : Setting) (u : UsableSetting s) (room : ℕ) (big : 65536 ≤ room)
 
     -- so one of two things comes of it
     with-fix :
-        (code : ℕ) → cell_of code ≡ c → with_code room (coded-as.Code code) f ≡ cond (too_long s (c ∷ cells)) (with_refused 13 f) (with_fix (text_for s (c ∷ cells)) f)
+        (code : ℕ) → cell_of code ≡ c → with_code room (Ok code) f ≡ cond (too_long s (c ∷ cells)) (with_refused 13 f) (with_fix (text_for s (c ∷ cells)) f)
     with-fix code e =
         ap (λ (x : Cell). decided (with_refusal f.text x room) (text_with f.text x) f) e
         ∙ ap₂ (λ (x : ℕ) (y : List ℕ). decided x y f) fix-refusal with-text
@@ -137,17 +133,17 @@ module _ (s : Setting) (u : UsableSetting s) (room : ℕ) (big : 65536 ≤ room)
         go false = refl
 
   code-from :
-      {f : Flown} {cells : List Cell} → FlownFrom s f cells → (a : Coded) → ((code : ℕ) → a ≡ coded-as.Code code → IsCell (cell_of code)) →
+      {f : Flown} {cells : List Cell} → FlownFrom s f cells → (a : Result ℕ ℕ) → ((code : ℕ) → a ≡ Ok code → IsCell (cell_of code)) →
       FlownFrom s (with_code room a f) (with_cell s a cells)
-  code-from {f} {cells} h (coded-as.Code code) v =
-      subst (λ (x : Flown). FlownFrom s x (with_cell s (coded-as.Code code) cells)) (sym (with-fix h (cell_of code) (v code refl) code refl)) (go (too_long s (cell_of code ∷ cells)))
+  code-from {f} {cells} h (Ok code) v =
+      subst (λ (x : Flown). FlownFrom s x (with_cell s (Ok code) cells)) (sym (with-fix h (cell_of code) (v code refl) code refl)) (go (too_long s (cell_of code ∷ cells)))
     where
       go : (t : Bool) → FlownFrom s (cond t (with_refused 13 f) (with_fix (text_for s (cell_of code ∷ cells)) f)) (cond t cells (cell_of code ∷ cells))
       go true = record { text = h.text; cells = h.cells; fixes = h.fixes }
       go false = record { text = refl; cells = (v code refl, h.cells); fixes = ap suc h.fixes }
-  code-from {f} {cells} h (coded-as.Refused r) v = record { text = h.text; cells = h.cells; fixes = h.fixes }
+  code-from {f} {cells} h (Err r) v = record { text = h.text; cells = h.cells; fixes = h.fixes }
 
-  line-cell : (line : List ℕ) (code : ℕ) → line_code s line ≡ coded-as.Code code → IsCell (cell_of code)
+  line-cell : (line : List ℕ) (code : ℕ) → line_code s line ≡ Ok code → IsCell (cell_of code)
   line-cell line code e = code-is-cell code (line-is-code s line code e)
 
   pub line-from : {f : Flown} {cells : List Cell} → FlownFrom s f cells → (line : List ℕ) → FlownFrom s (with_line s room f line) (cells_with s cells line)
@@ -162,21 +158,21 @@ module _ (s : Setting) (u : UsableSetting s) (room : ℕ) (big : 65536 ≤ room)
     told zero n code = refl
     told (suc r) n code = refl
 
-    fix-told : (code : ℕ) → line_code s line ≡ coded-as.Code code → refusal_in (taken (line_code s line) room f.text) ≡ refuse (too_long s (cell_of code ∷ cells)) 13
+    fix-told : (code : ℕ) → line_code s line ≡ Ok code → refusal_in (taken (line_code s line) room f.text) ≡ refuse (too_long s (cell_of code ∷ cells)) 13
     unfolding taken
     fix-told code e =
-        ap (λ (a : Coded). refusal_in (taken a room f.text)) e
+        ap (λ (a : Result ℕ ℕ). refusal_in (taken a room f.text)) e
         ∙ told (with_refusal f.text (cell_of code) room) (length (text_with f.text (cell_of code))) code
         ∙ fix-refusal h (cell_of code) (line-cell line code e)
 
     -- of a line that is none
-    none_told : (r : ℕ) → line_code s line ≡ coded-as.Refused r → refusal_in (taken (line_code s line) room f.text) ≡ 6
+    none_told : (r : ℕ) → line_code s line ≡ Err r → refusal_in (taken (line_code s line) room f.text) ≡ 6
     unfolding taken
-    none_told r e = ap (λ (a : Coded). refusal_in (taken a room f.text)) e ∙ line-six s u line r e
+    none_told r e = ap (λ (a : Result ℕ ℕ). refusal_in (taken a room f.text)) e ∙ line-six s u line r e
 
     -- 13 exactly where the line is a fix, and the text with its cell would be longer than 65,536 bytes
     pub thirteen-line :
-        (refusal_in (taken (line_code s line) room f.text) ≡ 13) ↔ ((code : ℕ) × (line_code s line ≡ coded-as.Code code) × (too_long s (cell_of code ∷ cells) ≡ true))
+        (refusal_in (taken (line_code s line) room f.text) ≡ 13) ↔ ((code : ℕ) × (line_code s line ≡ Ok code) × (too_long s (cell_of code ∷ cells) ≡ true))
     thirteen-line = (to (line_code s line) refl, λ w. fix-told w.0 w.1 ∙ ap (λ (b : Bool). refuse b 13) w.2)
       where
         long : (b : Bool) → refuse b 13 ≡ 13 → b ≡ true
@@ -184,22 +180,22 @@ module _ (s : Setting) (u : UsableSetting s) (room : ℕ) (big : 65536 ≤ room)
         long false e = absurd (omega arith)
 
         to :
-            (a : Coded) → line_code s line ≡ a → refusal_in (taken (line_code s line) room f.text) ≡ 13 →
-            (code : ℕ) × (line_code s line ≡ coded-as.Code code) × (too_long s (cell_of code ∷ cells) ≡ true)
-        to (coded-as.Code code) e k = (code, e, long (too_long s (cell_of code ∷ cells)) (sym (fix-told code e) ∙ k))
-        to (coded-as.Refused r) e k = let z : ◌≡◌ {A = ℕ} 6 13 = sym (none_told r e) ∙ k in absurd (omega arith)
+            (a : Result ℕ ℕ) → line_code s line ≡ a → refusal_in (taken (line_code s line) room f.text) ≡ 13 →
+            (code : ℕ) × (line_code s line ≡ Ok code) × (too_long s (cell_of code ∷ cells) ≡ true)
+        to (Ok code) e k = (code, e, long (too_long s (cell_of code ∷ cells)) (sym (fix-told code e) ∙ k))
+        to (Err r) e k = let z : ◌≡◌ {A = ℕ} 6 13 = sym (none_told r e) ∙ k in absurd (omega arith)
 
     -- 6 exactly where it is no fix, or one out of range
-    pub six-line : (refusal_in (taken (line_code s line) room f.text) ≡ 6) ↔ ((r : ℕ) × (line_code s line ≡ coded-as.Refused r))
+    pub six-line : (refusal_in (taken (line_code s line) room f.text) ≡ 6) ↔ ((r : ℕ) × (line_code s line ≡ Err r))
     six-line = (to (line_code s line) refl, λ w. none_told w.0 w.1)
       where
         six : (b : Bool) → refuse b 13 ≡ 6 → ⊥
         six true e = omega arith
         six false e = omega arith
 
-        to : (a : Coded) → line_code s line ≡ a → refusal_in (taken (line_code s line) room f.text) ≡ 6 → (r : ℕ) × (line_code s line ≡ coded-as.Refused r)
-        to (coded-as.Code code) e k = absurd (six (too_long s (cell_of code ∷ cells)) (sym (fix-told code e) ∙ k))
-        to (coded-as.Refused r) e k = (r, e)
+        to : (a : Result ℕ ℕ) → line_code s line ≡ a → refusal_in (taken (line_code s line) room f.text) ≡ 6 → (r : ℕ) × (line_code s line ≡ Err r)
+        to (Ok code) e k = absurd (six (too_long s (cell_of code ∷ cells)) (sym (fix-told code e) ∙ k))
+        to (Err r) e k = (r, e)
 
   -- ---- a flight
 
@@ -229,15 +225,15 @@ module _ (s : Setting) (u : UsableSetting s) (room : ℕ) (big : 65536 ≤ room)
   -- ---- how many lines are refused with another number than 13: those that are no fix, or one out of range
 
   bad-code :
-      {f : Flown} {cells : List Cell} → FlownFrom s f cells → (a : Coded) → ((code : ℕ) → a ≡ coded-as.Code code → IsCell (cell_of code)) →
-      ((r : ℕ) → a ≡ coded-as.Refused r → r ≡ 6) → (with_code room a f).bad ≡ bad_in a + f.bad
-  bad-code {f} {cells} h (coded-as.Code code) v z =
+      {f : Flown} {cells : List Cell} → FlownFrom s f cells → (a : Result ℕ ℕ) → ((code : ℕ) → a ≡ Ok code → IsCell (cell_of code)) →
+      ((r : ℕ) → a ≡ Err r → r ≡ 6) → (with_code room a f).bad ≡ bad_in a + f.bad
+  bad-code {f} {cells} h (Ok code) v z =
       ap (λ (x : Flown). x.bad) (with-fix h (cell_of code) (v code refl) code refl) ∙ go (too_long s (cell_of code ∷ cells))
     where
       go : (t : Bool) → (cond t (with_refused 13 f) (with_fix (text_for s (cell_of code ∷ cells)) f)).bad ≡ 0 + f.bad
       go true = omega arith
       go false = omega arith
-  bad-code {f} h (coded-as.Refused r) v z = ap (λ (q : ℕ). (with_refused q f).bad) (z r refl) ∙ omega arith
+  bad-code {f} h (Err r) v z = ap (λ (q : ℕ). (with_refused q f).bad) (z r refl) ∙ omega arith
 
   bad-after :
       (lines : List (List ℕ)) {f : Flown} {cells : List Cell} → FlownFrom s f cells → (after (with_line s room) f lines).bad ≡ bad_lines s lines + f.bad
@@ -250,15 +246,15 @@ module _ (s : Setting) (u : UsableSetting s) (room : ℕ) (big : 65536 ≤ room)
   -- ---- the cells of the fixes taken: of the flight's fixes, and all of them where none was refused with 13
 
   -- one line's
-  cell-old : (a : Coded) (cells : List Cell) (x : Cell) → Mem x cells → Mem x (with_cell s a cells)
-  cell-old (coded-as.Code code) cells x h = by_cond (λ (qs : List Cell). Mem x qs) (too_long s (cell_of code ∷ cells)) (λ _. h) (λ _. inr h)
-  cell-old (coded-as.Refused r) cells x h = h
+  cell-old : (a : Result ℕ ℕ) (cells : List Cell) (x : Cell) → Mem x cells → Mem x (with_cell s a cells)
+  cell-old (Ok code) cells x h = by_cond (λ (qs : List Cell). Mem x qs) (too_long s (cell_of code ∷ cells)) (λ _. h) (λ _. inr h)
+  cell-old (Err r) cells x h = h
 
-  cell-only : (a : Coded) (cells : List Cell) (x : Cell) → Mem x (with_cell s a cells) → Mem x cells ⊎ ((code : ℕ) × (a ≡ coded-as.Code code) × (cell_of code ≡ x))
-  cell-only (coded-as.Code code) cells x h =
-      by_cond (λ (qs : List Cell). Mem x qs → Mem x cells ⊎ ((d : ℕ) × (coded-as.Code code ≡ coded-as.Code d) × (cell_of d ≡ x))) (too_long s (cell_of code ∷ cells)) (λ _ k. inl k)
+  cell-only : (a : Result ℕ ℕ) (cells : List Cell) (x : Cell) → Mem x (with_cell s a cells) → Mem x cells ⊎ ((code : ℕ) × (a ≡ Ok code) × (cell_of code ≡ x))
+  cell-only (Ok code) cells x h =
+      by_cond (λ (qs : List Cell). Mem x qs → Mem x cells ⊎ ((d : ℕ) × (◌≡◌ {A = Result ℕ ℕ} (Ok code) (Ok d)) × (cell_of d ≡ x))) (too_long s (cell_of code ∷ cells)) (λ _ k. inl k)
       (λ _. ⊎_elim (λ e. inr (code, refl, e)) (λ k. inl k)) h
-  cell-only (coded-as.Refused r) cells x h = inl h
+  cell-only (Err r) cells x h = inl h
 
   kept-old : (lines : List (List ℕ)) (cells : List Cell) (x : Cell) → Mem x cells → Mem x (after (cells_with s) cells lines)
   kept-old [] cells x h = h
@@ -274,8 +270,8 @@ module _ (s : Setting) (u : UsableSetting s) (room : ℕ) (big : 65536 ≤ room)
   flown-fix lines x h = ⊎_elim (λ k. absurd k) (λ k. k) (only-flown lines [] x h)
 
   -- a line that is refused with 13 is counted, and stays so
-  full-grows : (a : Coded) (f : Flown) → f.full ≤ (with_code room a f).full
-  full-grows (coded-as.Code code) f = go (with_refusal f.text (cell_of code) room) (text_with f.text (cell_of code))
+  full-grows : (a : Result ℕ ℕ) (f : Flown) → f.full ≤ (with_code room a f).full
+  full-grows (Ok code) f = go (with_refusal f.text (cell_of code) room) (text_with f.text (cell_of code))
     where
       refused : (r : ℕ) → f.full ≤ (with_refused r f).full
       refused r = by_cond (λ (n : ℕ). f.full ≤ n) (eqb r 13) (λ _. omega arith) (λ _. omega arith)
@@ -283,7 +279,7 @@ module _ (s : Setting) (u : UsableSetting s) (room : ℕ) (big : 65536 ≤ room)
       go : (r : ℕ) (w : List ℕ) → f.full ≤ (decided r w f).full
       go zero w = omega arith
       go (suc r) w = refused (suc r)
-  full-grows (coded-as.Refused r) f = by_cond (λ (n : ℕ). f.full ≤ n) (eqb r 13) (λ _. omega arith) (λ _. omega arith)
+  full-grows (Err r) f = by_cond (λ (n : ℕ). f.full ≤ n) (eqb r 13) (λ _. omega arith) (λ _. omega arith)
 
   full-after : (lines : List (List ℕ)) (f : Flown) → f.full ≤ (after (with_line s room) f lines).full
   full-after [] f = omega arith
@@ -291,11 +287,11 @@ module _ (s : Setting) (u : UsableSetting s) (room : ℕ) (big : 65536 ≤ room)
 
   -- a fix that is not refused is in
   cell-new :
-      {f : Flown} {cells : List Cell} → FlownFrom s f cells → (a : Coded) (code : ℕ) → a ≡ coded-as.Code code → IsCell (cell_of code) → (with_code room a f).full ≡ 0 →
+      {f : Flown} {cells : List Cell} → FlownFrom s f cells → (a : Result ℕ ℕ) (code : ℕ) → a ≡ Ok code → IsCell (cell_of code) → (with_code room a f).full ≡ 0 →
       Mem (cell_of code) (with_cell s a cells)
   cell-new {f} {cells} h a code e v z =
-      subst (λ (b : Coded). Mem (cell_of code) (with_cell s b cells)) (sym e)
-      (go (too_long s (cell_of code ∷ cells)) (ap (λ (g : Flown). g.full) (sym (with-fix h (cell_of code) v code refl)) ∙ subst (λ (b : Coded). (with_code room b f).full ≡ 0) e z))
+      subst (λ (b : Result ℕ ℕ). Mem (cell_of code) (with_cell s b cells)) (sym e)
+      (go (too_long s (cell_of code ∷ cells)) (ap (λ (g : Flown). g.full) (sym (with-fix h (cell_of code) v code refl)) ∙ subst (λ (b : Result ℕ ℕ). (with_code room b f).full ≡ 0) e z))
     where
       go : (t : Bool) → (cond t (with_refused 13 f) (with_fix (text_for s (cell_of code ∷ cells)) f)).full ≡ 0 → Mem (cell_of code) (cond t cells (cell_of code ∷ cells))
       go true k = absurd (omega arith)
@@ -351,9 +347,9 @@ module _ (s : Setting) (room : ℕ) where
   pub line-once : (f : Flown) (line : List ℕ) → counted (with_line s room f line) ≡ suc (counted f)
   line-once f line = go (line_code s line)
     where
-      go : (a : Coded) → counted (with_code room a f) ≡ suc (counted f)
-      go (coded-as.Code code) = decided-once (with_refusal f.text (cell_of code) room) (text_with f.text (cell_of code)) f
-      go (coded-as.Refused r) = refused-once r f
+      go : (a : Result ℕ ℕ) → counted (with_code room a f) ≡ suc (counted f)
+      go (Ok code) = decided-once (with_refusal f.text (cell_of code) room) (text_with f.text (cell_of code)) f
+      go (Err r) = refused-once r f
 
   pub lines-once : (lines : List (List ℕ)) (f : Flown) → counted (after (with_line s room) f lines) ≡ counted f + length lines
   lines-once [] f = omega arith

@@ -1,7 +1,7 @@
 -- A setting can be used exactly where its numbers are in range, and a line's refusal is the setting's, then 6. Assumes nothing.
 use Rattle.std.proofs.Math.Path.{◌≡◌, refl, sym, ap}
 use Rattle.std.proofs.Common.{◌∙◌, arith, ltb-false, lt-ltb, le-ltb, leb-true, leb-false}
-use Rattle.std.specs.Prelude.{◌↔◌, Bool, ◌&&◌, not, List, ℕ, zero, suc, ℤ, leb, ltb}
+use Rattle.std.specs.Prelude.{◌↔◌, Bool, ◌&&◌, not, List, ℕ, zero, suc, ℤ, leb, ltb, Err, None, Ok, Option, Result, Some}
 use Rattle.std.proofs.Math.Bool.{true, false}
 use Rattle.logic.specs.Laws.Bools.{clash, refuted}
 use Rattle.logic.specs.Refusal.{refuse, ◌otherwise◌}
@@ -9,15 +9,11 @@ use Rattle.logic.specs.Laws.Refusal.{both, passes, allowed}
 use Rattle.cell.specs.declared.Arrangement.{Arrangement}
 use Rattle.cell.specs.Cell.{arrangement_refusal}
 use Rattle.cell.proofs.Laws.Cell.{is-arrangement, arrangement-is}
-use Rattle.code.specs.declared.Coded.{Coded}
-use Rattle.code.specs.declared.Coded.TheVariants.{Code, Refused}
 use Rattle.code.specs.Code.{code_of, coded, refusal_in}
 use Rattle.locate.specs.Fix.{InRange, in_range, fix_refusal}
 use Rattle.locate.proofs.Laws.Fix.{within-range, range-holds}
 use Rattle.authalic.specs.Authalic.{eccentricity_refusal}
 use Rattle.geodetic.specs.GeodeticFix.{in_geodetic_range, geodetic_refusal}
-use Rattle.decimal.specs.declared.FixLine.{FixLine}
-use Rattle.decimal.specs.declared.FixLine.TheVariants as Lines
 use Rattle.decimal.specs.Decimal.{fix_in}
 use Rattle.flight.specs.declared.Latitude.{Latitude}
 use Rattle.flight.specs.declared.Latitude.TheVariants.{Authalic, Geodetic}
@@ -103,7 +99,7 @@ setting-last s =
     ∙ ap (λ (q : ℕ). arrangement_refusal s.arrangement otherwise q)
     (otherwise-last (refuse (ltb 15 s.resolution) 2) (latitude_refusal s.latitude) 6 ∙ ap (λ (q : ℕ). refuse (ltb 15 s.resolution) 2 otherwise q) (latitude-last s.latitude))
 
-refused-last : (q code : ℕ) → coded (q otherwise 6) code ≡ Refused (q otherwise 6)
+refused-last : (q code : ℕ) → coded (q otherwise 6) code ≡ Err (q otherwise 6)
 unfolding coded ◌otherwise◌
 refused-last zero code = refl
 refused-last (suc q) code = refl
@@ -118,28 +114,28 @@ out-of-range-refused s L second h =
 
 -- where the setting can be used, a line is refused with 6 or not at all
 module _ (s : Setting) (u : UsableSetting s) where
-  no-fix-six : no_fix s ≡ Refused 6
+  no-fix-six : no_fix s ≡ Err 6
   unfolding no_fix ◌otherwise◌
-  no-fix-six = ap (λ (r : ℕ). Refused (r otherwise 6)) ((usable-exactly s).1 u)
+  no-fix-six = ap (λ (r : ℕ). Err (r otherwise 6)) ((usable-exactly s).1 u)
 
-  refused-six : (c : Coded) → c ≡ Refused 6 → (r : ℕ) → c ≡ Refused r → r ≡ 6
+  refused-six : (c : Result ℕ ℕ) → c ≡ Err 6 → (r : ℕ) → c ≡ Err r → r ≡ 6
   refused-six c e r f = ap refusal_in (sym f ∙ e)
 
-  fix-six : (L second : ℤ) (r : ℕ) → fix_coded s L second ≡ Refused r → r ≡ 6
+  fix-six : (L second : ℤ) (r : ℕ) → fix_coded s L second ≡ Err r → r ≡ 6
   unfolding fix_coded coded
   fix-six L second r e = go (in_range L second) refl
     where
       go : (t : Bool) → in_range L second ≡ t → r ≡ 6
       go true i =
           let z : line_refusal s L second ≡ 0 = in-range-refused s L second (range-holds i) ∙ (usable-exactly s).1 u in
-          let f : Code (code_of s.arrangement (line_cell s L second)) ≡ Refused r = sym (ap (λ (q : ℕ). coded q (code_of s.arrangement (line_cell s L second))) z) ∙ e in
+          let f : Ok (code_of s.arrangement (line_cell s L second)) ≡ Err r = sym (ap (λ (q : ℕ). coded q (code_of s.arrangement (line_cell s L second))) z) ∙ e in
           let k : ◌≡◌ {A = ℕ} 0 1 = cc in absurd (omega arith)
       go false i = refused-six _ (out-of-range-refused s L second (λ h. clash (sym (within-range h) ∙ i)) ∙ no-fix-six) r e
 
-  pub line-six : (line : List ℕ) (r : ℕ) → line_code s line ≡ Refused r → r ≡ 6
+  pub line-six : (line : List ℕ) (r : ℕ) → line_code s line ≡ Err r → r ≡ 6
   unfolding line_code of_line
   line-six line r e = go (fix_in line) e
     where
-      go : (l : FixLine) → of_line s l ≡ Refused r → r ≡ 6
-      go (Lines.Fix L second) f = fix-six L second r f
-      go Lines.Not f = refused-six _ no-fix-six r f
+      go : (l : Option (ℤ × ℤ)) → of_line s l ≡ Err r → r ≡ 6
+      go (Some (L, second)) f = fix-six L second r f
+      go None f = refused-six _ no-fix-six r f

@@ -12,7 +12,7 @@ pub returns : goal.returns
 returns c =
     let s = c in
     let w = c.write.ensures in
-    let e = c.in-Length.is in record {
+    let e = c.in-Ok.is in record {
       text_after = begin-text s.args.arrangement s.requires.0 s.args.text.now s.requires.1 w.value w.text_after e;
       records = (
         begin-records s.args.arrangement s.requires.0 s.args.text.now s.requires.1 w.value w.text_after e,

@@ -1,8 +1,8 @@
 -- `flight::coded_fix` meets its contract: each way is one case of the setting's latitude. Assumes nothing.
+use Rattle.std.specs.Prelude.{Result, ℕ}
 use mathlib.Core.Path.{sym, ap, ap₂, ◌∙◌}
 use lib.IntN.{ℤ}
 use Rattle.cell.specs.Cell.{found}
-use Rattle.code.specs.declared.Coded.{Coded}
 use Rattle.code.specs.Code.{found_code}
 use Rattle.signed.specs.Laws.Sign.{back}
 use Rattle.flight.specs.declared.Latitude.{Latitude}
@@ -12,7 +12,7 @@ use Rattle.flight.specs.Flight.{line_refusal, line_cell}
 use Rattle.flight.proofs.coded_fix.Goals as goal
 
 -- the answer, where the setting's latitude is x
-abbrev by : Latitude → Setting → (longitude second : ℤ) → Coded
+abbrev by : Latitude → Setting → (longitude second : ℤ) → Result ℕ ℕ
 by x s longitude second =
     let t : Setting = record { arrangement = s.arrangement; resolution = s.resolution; latitude = x } in
     found_code s.arrangement (found (line_refusal t longitude second) (line_cell t longitude second))

@@ -17,5 +17,5 @@ unfolding line_code of_line fix_coded
 returns c =
     let a = c.args in
     c.coded_fix.ensures ∙ found-coded _ _ _
-    ∙ ap₂ (fix_coded a.setting) (back-result c.in-Fix.longitude (omega arith)) (back-result c.in-Fix.second (omega arith))
-    ∙ ap (of_line a.setting) (sym c.in-Fix.is ∙ c.fix_in.ensures)
+    ∙ ap₂ (fix_coded a.setting) (back-result c.in-Some.longitude (omega arith)) (back-result c.in-Some.second (omega arith))
+    ∙ ap (of_line a.setting) (sym c.in-Some.is ∙ c.fix_in.ensures)

@@ -1,10 +1,9 @@
 -- The side as people write it: exactly what `decimal` takes for a number with or without a point, as one quotient, and no side where it takes none.
 -- Assumes nothing.
-use Rattle.std.specs.Prelude.{◌≡◌, refl, false, List, ◌∷◌, ◌++◌, ℕ, ◌+◌, ◌^◌, ◌≤◌, pos, length}
+use Rattle.std.specs.Prelude.{◌≡◌, refl, false, List, ◌∷◌, ◌++◌, ℕ, ◌+◌, ◌^◌, ◌≤◌, pos, length, None}
 use Rattle.std.proofs.Common.{ap, ◌∙◌}
 use Rattle.std.specs.Float.{binary64, fin}
 use Rattle.std.specs.Float.Ieee.{of_int, div, le, lt, eq, round}
-use Rattle.decimal.specs.declared.Fraction.TheVariants as fraction-as
 use Rattle.decimal.specs.Decimal.{decimal_value}
 use Rattle.decimal.specs.Fraction.{fraction_in}
 use Rattle.decimal.proofs.Laws.Fraction.{Written, whole-read, point-read}
@@ -17,7 +16,7 @@ unfolding is_side le lt eq of_int round
 nothing-none = refl
 
 -- what is no number with or without a point is no side
-pub side-none : (bs : List ℕ) → fraction_in bs ≡ fraction-as.Not → is_side (side_in bs) ≡ false
+pub side-none : (bs : List ℕ) → fraction_in bs ≡ None → is_side (side_in bs) ≡ false
 unfolding side_in
 side-none bs e = ap (λ f. is_side (side_of f)) e ∙ nothing-none
 

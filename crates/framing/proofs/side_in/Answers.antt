@@ -16,19 +16,19 @@ exact n h = le→leb n (2 ^ 53) (omega arith)
 pub int_to_float-result : goal.int_to_float-result
 int_to_float-result c =
     let k = c in
-    let h = fraction-small _ _ k.args.text.now (sym k.fraction_in.ensures ∙ k.in-Is.is) in
+    let h = fraction-small _ _ k.args.text.now (sym k.fraction_in.ensures ∙ k.in-Some.is) in
     exact _ (omega (arith, h.0))
 
-pub int_to_float-result-in-Is : goal.int_to_float-result-in-Is
-int_to_float-result-in-Is c =
+pub int_to_float-result-in-Some : goal.int_to_float-result-in-Some
+int_to_float-result-in-Some c =
     let k = c in
-    let h = fraction-small _ _ k.args.text.now (sym k.fraction_in.ensures ∙ k.in-Is.is) in
+    let h = fraction-small _ _ k.args.text.now (sym k.fraction_in.ensures ∙ k.in-Some.is) in
     exact _ h.2
 
-pub returns-in-Is : goal.returns-in-Is
+pub returns-in-Some : goal.returns-in-Some
 unfolding side_in
-returns-in-Is c = let k = c in ap side_of (sym k.in-Is.is ∙ k.fraction_in.ensures)
+returns-in-Some c = let k = c in ap side_of (sym k.in-Some.is ∙ k.fraction_in.ensures)
 
-pub returns-in-Not : goal.returns-in-Not
+pub returns-in-None : goal.returns-in-None
 unfolding side_in of_bits
-returns-in-Not c = ap side_of (sym c.in-Not.is ∙ c.fraction_in.ensures)
+returns-in-None c = ap side_of (sym c.in-None.is ∙ c.fraction_in.ensures)

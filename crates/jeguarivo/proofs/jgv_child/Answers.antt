@@ -37,19 +37,19 @@ unfolding child_code child_refusal
 returns-then-cell-eq15 c =
     let x = c in
     let u = x in
-    let d = decoded _ u.cell_of.ensures x.in-At.is in
+    let d = decoded _ u.cell_of.ensures x.in-Ok.is in
     let finest = ap (λ (b : Bool). refuse b 12) (eq-eqb _ _ (ap (λ (y : Cell). y.resolution) (sym d.is) ∙ c.if-cell-eq15.true)) in
     code-refused _ (sym (passes _ (named (goal.at.returns-then-cell-eq15 c).Else-digit-gt8) ∙ cell-next d _ ∙ passes _ (named (goal.at.returns-then-cell-eq15 c).Else-digit-gt8) ∙ finest)) (λ z. omega arith)
 
 pub child_cell-requires : goal.child_cell-requires
 child_cell-requires c =
     let x = c in
-    record { cell = (decoded _ x.cell_of.ensures x.in-At.is).cell; digit_bound = x.if-digit-gt8.false }
+    record { cell = (decoded _ x.cell_of.ensures x.in-Ok.is).cell; digit_bound = x.if-digit-gt8.false }
 
 pub kept-requires : goal.kept-requires
 kept-requires c =
     let x = c in
-    let d = decoded _ x.cell_of.ensures x.in-At.is in
+    let d = decoded _ x.cell_of.ensures x.in-Ok.is in
     subst IsCell (sym c.child_cell.ensures) (child-is-cell _ _ d.cell (omega (arith, d.cell.fine, c.if-cell-eq15.false)) x.if-digit-gt8.false)
 
 pub returns : goal.returns
@@ -59,7 +59,7 @@ returns c =
     let x = t in
     let u = x in
     let a = u.args in
-    let d = decoded a.code u.cell_of.ensures x.in-At.is in
+    let d = decoded a.code u.cell_of.ensures x.in-Ok.is in
     let finest = ap (λ (b : Bool). refuse b 12) (ne_eqb _ _ (λ z. t.if-cell-eq15.false (ap (λ (y : Cell). y.resolution) d.is ∙ z))) in
     c.kept.ensures
     ∙ ap₂ code_answer (sym (passes _ (named (goal.at.returns c).Else-digit-gt8) ∙ cell-next d _ ∙ passes _ (named (goal.at.returns c).Else-digit-gt8) ∙ finest))

@@ -4,14 +4,14 @@ use Rattle.code.specs.Code.{arrangement_of}
 use Rattle.entries.specs.Entries.{written_name, name_numbers}
 use Rattle.jeguarivo.proofs.jgv_code_name.Goals as goal
 
-pub returns-in-Length : goal.returns-in-Length
+pub returns-in-Ok : goal.returns-in-Ok
 unfolding written_name
-returns-in-Length c =
+returns-in-Ok c =
     let x = c in
-    let w = x in record { value = sym (ap (name_numbers c.arrangement_of-arrangement.result) x.in-Length.is) ∙ ap₂ name_numbers c.arrangement_of-arrangement.ensures w.code_name.ensures.value; name_after = w.code_name.ensures.name_after }
+    let w = x in record { value = sym (ap (name_numbers c.arrangement_of-arrangement.result) x.in-Ok.is) ∙ ap₂ name_numbers c.arrangement_of-arrangement.ensures w.code_name.ensures.value; name_after = w.code_name.ensures.name_after }
 
-pub returns-in-Refused : goal.returns-in-Refused
+pub returns-in-Err : goal.returns-in-Err
 unfolding written_name
-returns-in-Refused c =
+returns-in-Err c =
     let w = c in
-    let numbers = name_numbers (arrangement_of w.args.code) in record { value = sym (ap numbers c.in-Refused.is) ∙ ap numbers w.code_name.ensures.value; name_after = w.code_name.ensures.name_after }
+    let numbers = name_numbers (arrangement_of w.args.code) in record { value = sym (ap numbers c.in-Err.is) ∙ ap numbers w.code_name.ensures.value; name_after = w.code_name.ensures.name_after }

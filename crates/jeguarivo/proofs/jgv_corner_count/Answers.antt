@@ -15,11 +15,11 @@ returns-in_default c =
     λ i. record { refusal = sym u i; count = zero-given (corner_number (cell_of code)) 0 u i }
 
 pub count-requires : goal.count-requires
-count-requires c = (decoded _ c.cell_of.ensures c.in-At.is).cell
+count-requires c = (decoded _ c.cell_of.ensures c.in-Ok.is).cell
 
 pub returns : goal.returns
 unfolding corner_count
 returns c =
     let x = c in
-    let d = decoded _ x.cell_of.ensures x.in-At.is in
+    let d = decoded _ x.cell_of.ensures x.in-Ok.is in
     λ i. record { refusal = sym d.allowed i; count = value-given 0 d.allowed (c.count.ensures ∙ ap corner_number d.is) i }

@@ -35,14 +35,14 @@ returns-in_default c =
 pub neighbour-requires : goal.neighbour-requires
 neighbour-requires c =
     let k = c in
-    let p = placed-stands _ k.cell_of.ensures c.in-At.is c.arrangement_of.ensures in
+    let p = placed-stands _ k.cell_of.ensures c.in-Ok.is c.arrangement_of.ensures in
     record { arrangement = p.0; cell = p.1 }
 
 pub kept-requires : goal.kept-requires
 kept-requires c =
     let g = c in
     let k = g in
-    let p = placed-stands _ k.cell_of.ensures g.in-At.is g.arrangement_of.ensures in
+    let p = placed-stands _ k.cell_of.ensures g.in-Ok.is g.arrangement_of.ensures in
     subst IsCell (sym c.neighbour.ensures) (neighbour-is-cell _ p.0 p.1 (omega (arith, k.if-direction-gt3.false)))
 
 pub returns : goal.returns
@@ -52,7 +52,7 @@ returns c =
     let x = g in
     let u = x in
     let a = u.args in
-    let d = decoded a.code u.cell_of.ensures x.in-At.is in
+    let d = decoded a.code u.cell_of.ensures x.in-Ok.is in
     c.kept.ensures
     ∙ ap₂ code_answer (sym (passes _ (directed (goal.at.returns c).Else-direction-gt3) ∙ d.allowed))
     (ap (code_of (arrangement_of a.code)) (c.neighbour.ensures ∙ ap₂ (λ (b : Arrangement) (y : Cell). neighbour_of b y a.direction) g.arrangement_of.ensures d.is))

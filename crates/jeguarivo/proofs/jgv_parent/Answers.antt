@@ -22,14 +22,14 @@ pub returns-then-cell-eq0 : goal.returns-then-cell-eq0
 unfolding parent_code parent_refusal
 returns-then-cell-eq0 c =
     let x = c in
-    let d = decoded _ x.cell_of.ensures x.in-At.is in
+    let d = decoded _ x.cell_of.ensures x.in-Ok.is in
     let face = ap (λ (b : Bool). refuse b 12) (eq-eqb _ _ (ap (λ (y : Cell). y.resolution) (sym d.is) ∙ c.if-cell-eq0.true)) in
     code-refused _ (sym (cell-next d _ ∙ face)) (λ z. omega arith)
 
 pub kept-requires : goal.kept-requires
 kept-requires c =
     let x = c in
-    let d = decoded _ x.cell_of.ensures x.in-At.is in
+    let d = decoded _ x.cell_of.ensures x.in-Ok.is in
     subst IsCell (sym c.parent_cell.ensures) (parent-is-cell _ d.cell (omega (arith, c.if-cell-eq0.false)))
 
 pub returns : goal.returns
@@ -38,6 +38,6 @@ returns c =
     let t = c in
     let x = t in
     let code = x.args.code in
-    let d = decoded code x.cell_of.ensures x.in-At.is in
+    let d = decoded code x.cell_of.ensures x.in-Ok.is in
     let face = ap (λ (b : Bool). refuse b 12) (ne_eqb _ _ (λ z. t.if-cell-eq0.false (ap (λ (y : Cell). y.resolution) d.is ∙ z))) in
     c.kept.ensures ∙ ap₂ code_answer (sym (cell-next d _ ∙ face)) (ap (code_of (arrangement_of code)) (c.parent_cell.ensures ∙ ap parent_of d.is))

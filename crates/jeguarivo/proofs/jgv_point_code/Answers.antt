@@ -1,7 +1,8 @@
 -- `jgv_point_code` meets its contract. Assumes nothing.
+use Rattle.std.specs.Prelude.{Result, ℕ}
+use Rattle.cell.specs.declared.Cell.{Cell}
 use mathlib.Core.Path.{ap, ap₂, ◌∙◌}
 use Rattle.signed.specs.Laws.Sign.{back}
-use Rattle.cell.specs.declared.Found.{Found}
 use Rattle.code.specs.Code.{found_code}
 use Rattle.code.proofs.Laws.Code.{found-placed}
 use Rattle.plane.proofs.Laws.Plane.{point-allowed}
@@ -16,5 +17,5 @@ pub returns : goal.returns
 unfolding point_code
 returns c =
     let s = c in
-    c.found_answer.ensures ∙ ap (λ (f : Found). coded_answer (found_code (arrangement s.args.n s.args.s) f)) c.point_cell.ensures ∙ found-code _ _ _
+    c.found_answer.ensures ∙ ap (λ (f : Result Cell ℕ). coded_answer (found_code (arrangement s.args.n s.args.s) f)) c.point_cell.ensures ∙ found-code _ _ _
     ∙ ap₂ (point_code s.args.n s.args.s s.args.resolution) (back s.ranges.x) (back s.ranges.y)

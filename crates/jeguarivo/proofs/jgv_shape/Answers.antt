@@ -15,11 +15,11 @@ returns-in_default c =
     λ i. record { refusal = sym u i; shape = zero-given (shape_number (shape_of (cell_of code))) 0 u i }
 
 pub shape_of-requires : goal.shape_of-requires
-shape_of-requires c = (decoded _ c.cell_of.ensures c.in-At.is).cell
+shape_of-requires c = (decoded _ c.cell_of.ensures c.in-Ok.is).cell
 
 pub returns : goal.returns
 unfolding cell_shape
 returns c =
     let x = c in
-    let d = decoded _ x.cell_of.ensures x.in-At.is in
+    let d = decoded _ x.cell_of.ensures x.in-Ok.is in
     λ i. record { refusal = sym d.allowed i; shape = value-given 0 d.allowed (c.number.ensures ∙ ap shape_number (c.shape_of.ensures ∙ ap shape_of d.is)) i }

@@ -7,15 +7,12 @@ use Rattle.lines.proofs.find.Goals as goal
 
 pub returns-then-part-i-clause-place : goal.returns-then-part-i-clause-place
 returns-then-part-i-clause-place c =
-    sym (c.loop-i.invariant.1 ∙ found_there c.args.part.now c.loop-i.i c.args.byte c.loop-i-test.true (eq-eqb _ c.args.byte c.if-part-i.true))
+    sym (c.loop-i.invariant ∙ found_there c.args.part.now c.loop-i.i c.args.byte (omega arith) (eq-eqb _ c.args.byte c.if-part-i.true))
 
 pub loop-i-preserved : goal.loop-i-preserved
-loop-i-preserved c = (
-  omega (arith, c.loop-i-test.true),
-  c.loop-i.invariant.1 ∙ passed_over c.args.part.now c.loop-i.i c.args.byte c.loop-i-test.true (ne_eqb _ c.args.byte c.if-part-i.false),
-)
+loop-i-preserved c = c.loop-i.invariant ∙ passed_over c.args.part.now c.loop-i.i c.args.byte (omega arith) (ne_eqb _ c.args.byte c.if-part-i.false)
 
 pub returns-clause-place : goal.returns-clause-place
 returns-clause-place c =
-    let n = found_nowhere c.args.part.now c.loop-i.i c.args.byte c.loop-i-test.false in
-    omega (arith, n, c.loop-i.invariant.1)
+    let n = found_nowhere c.args.part.now c.loop-i.i c.args.byte (omega arith) in
+    omega (arith, n, c.loop-i.invariant)

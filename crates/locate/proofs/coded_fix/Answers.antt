@@ -1,11 +1,11 @@
 -- `locate::coded_fix` meets its contract: the refusal, or the code. Assumes nothing.
+use Rattle.std.specs.Prelude.{Err, Ok}
 use mathlib.Core.Path.{◌≡◌, refl, sym, ap, ap₂, ◌∙◌}
 use Prim.Native.Nat.{ℕ, zero, suc}
 use lib.IntN.{ℤ}
 use Rattle.cell.specs.declared.Cell.{Cell}
 use Rattle.cell.specs.declared.Arrangement.{Arrangement}
 use Rattle.cell.specs.Cell.{found}
-use Rattle.code.specs.declared.Coded.TheVariants.{Code, Refused}
 use Rattle.code.specs.Code.{code_of, found_code}
 use Rattle.signed.specs.Laws.Sign.{back}
 use Rattle.locate.specs.Fix.{fix_cell, fix_refusal}
@@ -13,12 +13,12 @@ use Rattle.locate.proofs.Laws.Fix.{fix-passes}
 use Rattle.locate.proofs.coded_fix.Goals as goal
 use Rattle.locate.proofs.coded_fix.Goals.{After-fix_refusal-refusal}
 
-handed-on : (a : Arrangement) (r : ℕ) (c : Cell) → (r ≡ 0 → ⊥) → Refused r ≡ found_code a (found r c)
+handed-on : (a : Arrangement) (r : ℕ) (c : Cell) → (r ≡ 0 → ⊥) → Err r ≡ found_code a (found r c)
 unfolding found
 handed-on a zero c h = absurd (h refl)
 handed-on a (suc r) c h = refl
 
-answered : (a : Arrangement) (r : ℕ) (c : Cell) → r ≡ 0 → Code (code_of a c) ≡ found_code a (found r c)
+answered : (a : Arrangement) (r : ℕ) (c : Cell) → r ≡ 0 → Ok (code_of a c) ≡ found_code a (found r c)
 unfolding found
 answered a r c e = ap (λ (x : ℕ). found_code a (found x c)) (sym e)
 
@@ -48,5 +48,5 @@ returns c =
     let r = c in
     let s = r in
     let a = s.args in
-    ap Code (c.fix_code.ensures ∙ ap₂ (λ (L z : ℤ). code_of a.arrangement (fix_cell a.arrangement a.resolution L z)) (back s.ranges.longitude) (back s.ranges.z))
+    ap Ok (c.fix_code.ensures ∙ ap₂ (λ (L z : ℤ). code_of a.arrangement (fix_cell a.arrangement a.resolution L z)) (back s.ranges.longitude) (back s.ranges.z))
     ∙ answered a.arrangement _ (fix_cell a.arrangement a.resolution a.longitude a.z) (sym (refusal_is (goal.at.returns c).After-fix_refusal-refusal) ∙ c.if-refusal-ne0.false)

@@ -1,4 +1,5 @@
 -- `name::name_code` meets its contract. Assumes nothing.
+use Rattle.std.specs.Prelude.{Ok}
 use mathlib.Core.Path.{◌≡◌, sym, ap, ap₂, ◌∙◌}
 use mathlib.Core.Bool.{true}
 use Prim.Native.Nat.{ℕ, ◌-◌}
@@ -7,28 +8,27 @@ use lib.ListN.{length, drop}
 use borrow.Author.Tests.{lt-ltb, le-ltb}
 use Rattle.logic.specs.Refusal.{◌otherwise◌}
 use Rattle.ternary.specs.Digits.{value}
-use Rattle.code.specs.declared.Coded.TheVariants.{Code}
 use Rattle.code.specs.Code.{coded, code_at}
 use Rattle.name.specs.Name.{first_letter, all_digits, digits_in, name_refusal, name_code, NameForm}
 use Rattle.name.specs.Laws.Name.{letter-bounds, path-below, not-refused}
 use Rattle.name.proofs.Laws.{read-bad, read-good}
 use Rattle.name.proofs.name_code.Goals as goal
-use Rattle.name.proofs.name_code.Goals.{Else-not-first_letter, In-Code}
+use Rattle.name.proofs.name_code.Goals.{Else-not-first_letter, In-Ok}
 
 -- a short name that starts with a letter
 lettered : (c : Else-not-first_letter) → first_letter c.args.name.now ≡ true
 lettered c = sym c.first_letter.ensures ∙ c.if-not-first_letter.false
 
 -- with all its digits read
-read-in : (c : In-Code) → let s = c.args.name.now in (all_digits (drop 1 s) ≡ true) ×
-    (c.in-Code.path ≡ value 9 (digits_in s))
-read-in c = read-good _ _ _ (sym c.in-Code.is ∙ c.read_path.ensures)
+read-in : (c : In-Ok) → let s = c.args.name.now in (all_digits (drop 1 s) ≡ true) ×
+    (c.in-Ok.path ≡ value 9 (digits_in s))
+read-in c = read-good _ _ _ (sym c.in-Ok.is ∙ c.read_path.ensures)
 
 -- the name is one
-named : (c : In-Code) → NameForm c.args.name.now
+named : (c : In-Ok) → NameForm c.args.name.now
 named c =
     let e = c in
-    record { short = e.if-name-gt16.false; lettered = lettered (goal.at.In-Code c).Else-not-first_letter; digital = (read-in c).0 }
+    record { short = e.if-name-gt16.false; lettered = lettered (goal.at.In-Ok c).Else-not-first_letter; digital = (read-in c).0 }
 
 pub returns-then-name-gt16 : goal.returns-then-name-gt16
 unfolding name_refusal ◌otherwise◌ coded
@@ -64,7 +64,7 @@ code_at-requires c =
     let p = c in
     let l = letter-bounds _ (lettered (goal.at.code_at-requires c).Else-not-first_letter) in
     let s = p in
-    record { arrangement = s.requires; face_bound = (omega (arith, c.wide-face.ensures), omega (arith, (named (goal.at.code_at-requires c).In-Code).short), rw (read-in (goal.at.code_at-requires c).In-Code).1 (path-below _ (named (goal.at.code_at-requires c).In-Code))) }
+    record { arrangement = s.requires; face_bound = (omega (arith, c.wide-face.ensures), omega (arith, (named (goal.at.code_at-requires c).In-Ok).short), rw (read-in (goal.at.code_at-requires c).In-Ok).1 (path-below _ (named (goal.at.code_at-requires c).In-Ok))) }
 
 pub returns : goal.returns
 unfolding coded name_code
@@ -72,5 +72,5 @@ returns c =
     let p = c in
     let a = p.args in
     let s = a.name.now in
-    let code = c.code_at.ensures ∙ ap₂ (λ (x y : ℕ). code_at a.arrangement x (length s - 1) y) c.wide-face.ensures (read-in (goal.at.returns c).In-Code).1 in
-    ap Code code ∙ sym (ap (λ (x : ℕ). coded x (name_code a.arrangement s)) (not-refused s (named (goal.at.returns c).In-Code)))
+    let code = c.code_at.ensures ∙ ap₂ (λ (x y : ℕ). code_at a.arrangement x (length s - 1) y) c.wide-face.ensures (read-in (goal.at.returns c).In-Ok).1 in
+    ap Ok code ∙ sym (ap (λ (x : ℕ). coded x (name_code a.arrangement s)) (not-refused s (named (goal.at.returns c).In-Ok)))

@@ -8,13 +8,13 @@ use Rattle.console.specs.Input.{unread}
 use Rattle.name_fixes.proofs.Laws.{line-answered, last-answered, last-waits}
 use Rattle.name_fixes.proofs.answer_all.Goals as goal
 
-pub loop-turns-preserved : goal.loop-turns-preserved
-loop-turns-preserved c =
-    let l = c.loop-turns in
+pub loop-preserved : goal.loop-preserved
+loop-preserved c =
+    let l = c.loop in
     let n = c.next_line in
     let g = c.in-Line.ensures in
     let roomy : 43 ≤ length n.new.room = omega (arith, n.auto.room, l.invariant.4, c.requires.0) in
-    let v = line-answered c.args.setting n.new.room roomy l.out _ _ c.in-Line.length l.invariant.6 _ c.in-Count.ensures (unread l.bytes l.from l.end) _ c.in-Count.count _ _ g refl in (
+    let v = line-answered c.args.setting n.new.room roomy l.out _ _ c.in-Line.length l.invariant.6 _ c.in-Some.ensures (unread l.bytes l.from l.end) _ c.in-Some.count _ _ g refl in (
       g.6,
       g.7,
       v.1,
@@ -27,13 +27,13 @@ loop-turns-preserved c =
 
 pub returns-in-Last-clause-last_waits : goal.returns-in-Last-clause-last_waits
 returns-in-Last-clause-last_waits c =
-    let l = c.loop-turns in
+    let l = c.loop in
     let r = c.answer_line-in-Last in
     last-waits c.args.setting (take c.in-Last.length c.next_line.new.room) l.waiting l.out _ r.new.out r.result r.ensures
 
 pub returns-in-Last-clause-all_answered : goal.returns-in-Last-clause-all_answered
 returns-in-Last-clause-all_answered c =
-    let l = c.loop-turns in
+    let l = c.loop in
     let n = c.next_line in
     let r = c.answer_line-in-Last in
     let roomy : 43 ≤ length n.new.room = omega (arith, n.auto.room, l.invariant.4, c.requires.0) in

@@ -1,11 +1,11 @@
 -- `plane::cell_on_cap` meets its contract: each return is the case that the tests before it pick. Assumes nothing.
+use Rattle.std.specs.Prelude.{Ok}
 use mathlib.Core.Path.{ap}
 use mathlib.Core.Bool.{and-false}
 use Prim.Native.Nat.{◌+◌}
 use native.Mathlib.Omega.{arith}
 use borrow.Author.Tests.{lt-ltb, le-ltb}
 use Rattle.cell.specs.Cell.{found}
-use Rattle.cell.specs.declared.Found.TheVariants.{At}
 use Rattle.plane.specs.Plane.{face_side}
 use Rattle.plane.specs.Internal.Depth.{found_on_cap}
 use Rattle.plane.proofs.cell_on_cap.Goals as goal
@@ -32,4 +32,4 @@ returns c =
     let a = c.args in
     simp
     (lt-ltb a.left a.right (omega arith), lt-ltb a.right (a.left + face_side) (omega arith), lt-ltb 0 a.down (omega arith), lt-ltb a.down face_side (omega arith))
-    (ap At c.cell_at.ensures)
+    (ap Ok c.cell_at.ensures)

@@ -1,4 +1,5 @@
 -- `plane::point_cell` meets its contract: refusals in their order, nothing left of O, and else the cell by its depth. Assumes nothing.
+use Rattle.std.specs.Prelude.{Err}
 use mathlib.Core.Path.{◌≡◌, sym, ap, ap₂, ◌∙◌}
 use mathlib.Core.Bool.{Bool, true, false, not, true≢false}
 use Prim.Native.Nat.{ℕ, ◌≤◌}
@@ -7,7 +8,6 @@ use borrow.Author.Tests.{lt-ltb}
 use lib.IntN.{ℤ, pos, negsuc, nat_abs}
 use Rattle.logic.specs.Refusal.{refuse, ◌otherwise◌}
 use Rattle.cell.specs.declared.Arrangement.{Arrangement}
-use Rattle.cell.specs.declared.Found.TheVariants.{Refused}
 use Rattle.cell.specs.Cell.{IsArrangement, found}
 use Rattle.cell.proofs.Laws.Cell.{is-arrangement}
 use Rattle.cell.proofs.Laws.Found.{refused, then}
@@ -23,7 +23,7 @@ use Rattle.plane.proofs.point_cell.Goals.{After-is_negative, Else-refusal-ne0}
 decides : {a : Arrangement} {k : ℕ} (x y : ℤ) → IsArrangement a → k ≤ 15 → found (refuse (not (in_image a x y)) 7) (point_cell a k x y) ≡ found (point_refusal a k x y) (point_cell a k x y)
 decides {a} {k} x y g h = ap (λ (r : ℕ). found r (point_cell a k x y)) (sym (refusal_is x y g h))
 
-west : (a : Arrangement) (k : ℕ) (x y : ℤ) → negative x ≡ true → Refused 7 ≡ found (refuse (not (in_image a x y)) 7) (point_cell a k x y)
+west : (a : Arrangement) (k : ℕ) (x y : ℤ) → negative x ≡ true → Err 7 ≡ found (refuse (not (in_image a x y)) 7) (point_cell a k x y)
 unfolding found
 west a k (pos n) y e = absurd (true≢false (sym e))
 west a k (negsuc n) y e = ap (λ (t : Bool). found (refuse (not t) 7) (point_cell a k (negsuc n) y)) (sym (image-west a n y))

@@ -1,10 +1,9 @@
 -- The plane in natural numbers, as the code computes in it: a point is so far right of the left edge of O, and so deep below the top of N.
 -- What is said here of a point is said of its X and Y by DepthLaws. Assumes nothing.
-use Rattle.std.specs.Prelude.{Bool, ◌&&◌, not, cond, ℕ, suc, ◌+◌, ◌-◌, ◌*◌, ◌/◌, ◌%◌, ◌^◌, ℤ, pos, negsuc, eqb, leb, ltb}
+use Rattle.std.specs.Prelude.{Bool, ◌&&◌, not, cond, ℕ, suc, ◌+◌, ◌-◌, ◌*◌, ◌/◌, ◌%◌, ◌^◌, ℤ, pos, negsuc, eqb, leb, ltb, Result}
 use Rattle.logic.specs.Refusal.{refuse}
 use Rattle.cell.specs.declared.Cell.{Cell}
 use Rattle.cell.specs.declared.Arrangement.{Arrangement}
-use Rattle.cell.specs.declared.Found.{Found}
 use Rattle.cell.specs.Cell.{found}
 use Rattle.cell.specs.Neighbour.{by_face}
 use Rattle.plane.specs.Plane.{face_side, three_halves, side_of, face_left, cell_at}
@@ -34,15 +33,15 @@ abbrev pub on_cap : (left right down : ℕ) → Bool
 on_cap left right down = (ltb left right && ltb right (left + face_side)) && (ltb 0 down && ltb down face_side)
 
 -- the cell of a cap, `down` below its top edge
-unfoldable pub found_on_cap : (face k left right down : ℕ) → Found
+unfoldable pub found_on_cap : (face k left right down : ℕ) → Result Cell ℕ
 found_on_cap face k left right down = found (refuse (not (on_cap left right down)) 7) (cell_at face k (right - left) down)
 
 -- the cell of O to R, `down` below their top edge
-unfoldable pub found_on_belt : (k right down : ℕ) → Found
+unfoldable pub found_on_belt : (k right down : ℕ) → Result Cell ℕ
 found_on_belt k right down = found (refuse (not (ltb right (4 * face_side))) 7) (cell_at (1 + right / face_side) k (right % face_side) down)
 
 -- the cell at that depth
-unfoldable pub found_at : Arrangement → (k right depth : ℕ) → Found
+unfoldable pub found_at : Arrangement → (k right depth : ℕ) → Result Cell ℕ
 found_at a k right depth =
     cond (ltb depth face_side) (found_on_cap 0 k (a.north * face_side) right depth)
     (cond (leb depth (2 * face_side)) (found_on_belt k right (depth - face_side))

@@ -21,22 +21,22 @@ pub box_of-requires : goal.box_of-requires
 box_of-requires c =
     let k = c in
     let code = k.args.code in
-    record { arrangement = subst IsArrangement (sym c.arrangement_of.ensures) (code-arranged code); cell = (decoded code k.cell_of.ensures c.in-At.is).cell }
+    record { arrangement = subst IsArrangement (sym c.arrangement_of.ensures) (code-arranged code); cell = (decoded code k.cell_of.ensures c.in-Ok.is).cell }
 
-pub returns-in-At : goal.returns-in-At
+pub returns-in-Ok : goal.returns-in-Ok
 unfolding first_frame box_refusal
-returns-in-At c =
+returns-in-Ok c =
     let k = c in
     let s = k.args in
-    let d = decoded s.code k.cell_of.ensures c.in-At.is in
+    let d = decoded s.code k.cell_of.ensures c.in-Ok.is in
     let i = side-passes s.side (code_refusal s.code) (sym k.is_side.ensures ∙ k.if-not-is_side.false) in
     framed-edges (i ∙ d.allowed) (c.box_of.ensures ∙ ap₂ (box_of s.side) c.arrangement_of.ensures d.is)
 
-pub returns-in-Refused : goal.returns-in-Refused
+pub returns-in-Err : goal.returns-in-Err
 unfolding first_frame box_refusal
-returns-in-Refused c =
+returns-in-Err c =
     let k = c in
     let s = k.args in
-    let p = found-refused (code_refusal s.code) (cell_of s.code) _ (sym c.in-Refused.is ∙ k.cell_of.ensures) in
+    let p = found-refused (code_refusal s.code) (cell_of s.code) _ (sym c.in-Err.is ∙ k.cell_of.ensures) in
     let i = side-passes s.side (code_refusal s.code) (sym k.is_side.ensures ∙ k.if-not-is_side.false) in
     framed-refused _ _ (box_in s.side s.code) (p.0 ∙ sym i) (λ z. p.1 (sym i ∙ z))

@@ -23,28 +23,28 @@ returns-then-has_nan c =
     let e = nan-refused (has_nan s.frame) r (sym c.has_nan.ensures ∙ c.if-has_nan.true) ∙ sym i in
     framed-refused 19 _ (grown s.frame (box_in s.side s.code)) e (nineteen e)
 
-pub returns-in-Edges : goal.returns-in-Edges
+pub returns-in-Ok : goal.returns-in-Ok
 unfolding grown_frame grow_refusal first_frame box_refusal
-returns-in-Edges c =
+returns-in-Ok c =
     let f = c in
     let k = f in
     let s = k.args in
     let r = code_refusal s.code in
     let side-good = sym k.is_side.ensures ∙ k.if-not-is_side.false in
-    let p = edges-framed (box_refusal s.side s.code) (box_in s.side s.code) (sym c.in-Edges.is ∙ f.frame_first.ensures) in
+    let p = edges-framed (box_refusal s.side s.code) (box_in s.side s.code) (sym c.in-Ok.is ∙ f.frame_first.ensures) in
     let i = side-passes s.side (refuse (has_nan s.frame) 19 otherwise r) side-good in
     let j = nan-passes (has_nan s.frame) r (sym f.has_nan.ensures ∙ f.if-has_nan.false) in
     framed-edges (i ∙ j ∙ sym (side-passes s.side r side-good) ∙ p.0) (c.grown.ensures ∙ ap (grown s.frame) p.1)
 
-pub returns-in-Refused : goal.returns-in-Refused
+pub returns-in-Err : goal.returns-in-Err
 unfolding grown_frame grow_refusal first_frame box_refusal
-returns-in-Refused c =
+returns-in-Err c =
     let f = c in
     let k = f in
     let s = k.args in
     let r = code_refusal s.code in
     let side-good = sym k.is_side.ensures ∙ k.if-not-is_side.false in
-    let p = refused-framed (box_refusal s.side s.code) (box_in s.side s.code) (sym c.in-Refused.is ∙ f.frame_first.ensures) in
+    let p = refused-framed (box_refusal s.side s.code) (box_in s.side s.code) (sym c.in-Err.is ∙ f.frame_first.ensures) in
     let i = side-passes s.side (refuse (has_nan s.frame) 19 otherwise r) side-good in
     let j = nan-passes (has_nan s.frame) r (sym f.has_nan.ensures ∙ f.if-has_nan.false) in
     let e = i ∙ j ∙ sym (side-passes s.side r side-good) in

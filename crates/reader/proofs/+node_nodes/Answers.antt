@@ -11,7 +11,7 @@ use Rattle.reader.proofs.Readers as rd
 use Rattle.reader.proofs.Readers.{Opens, Runs}
 use Rattle.reader.proofs.+node_nodes.Goals as goal
 use Rattle.reader.proofs.+node_nodes.Goals.{nodes-else-loop-at-test, nodes-then-loop-at-test+then-b-eq41}
-use Rattle.reader.proofs.+node_nodes.Goals.{node-Else-room-eq0, nodes-After-room_below-under, nodes-Else-not-opens_at, nodes-In-Read, nodes-Then-not-opens_at}
+use Rattle.reader.proofs.+node_nodes.Goals.{node-Else-room-eq0, nodes-After-room_below-under, nodes-Else-not-opens_at, nodes-In_ok-held, nodes-Then-not-opens_at}
 
 -- the node reader is at a `(` below which digits may lie
 opens : (t : ℕ) (c : node-Else-room-eq0 t) → let a = c.args in Opens a.text.now a.at a.room
@@ -43,39 +43,40 @@ below t c =
     let a = l.args in
     c.room_below-under.ensures ∙ ap (λ (x : ℕ). room a.level (get_or a.text.now l.loop-at.at 0 - x) a.room) l.first_byte-base.ensures
 
-listed-on : (t : ℕ) (c : nodes-In-Read t)
+listed-on : (t : ℕ) (c : nodes-In_ok-held t)
     → let l = c in
     let a = l.args in
-    Runs a.text.now a.start a.level a.room a.size c.in-Read.next (get_or a.text.now l.loop-at.at 0 + 1) (l.loop-at.cells + c.in-Read.more) (l.loop-at.sum + c.in-Read.rest) l.loop-at.wholes
+    Runs a.text.now a.start a.level a.room a.size c.in_ok-held.held.next (get_or a.text.now l.loop-at.at 0 + 1) (l.loop-at.cells + c.in_ok-held.held.cells) (l.loop-at.sum + c.in_ok-held.held.sum) l.loop-at.wholes
 listed-on t c =
     let o = c in
     let l = o in
     rd.runs-listed l.loop-at.invariant o.loop-at-test.true o.if-b-eq41.false (omega arith) (omega arith)
-    (below t (goal.at.nodes-In-Read t c).After-room_below-under) c.node.ensures (bracket t (goal.at.nodes-In-Read t c).Else-not-opens_at) c.in-Read.is
+    (below t (goal.at.nodes-In_ok-held t c).After-room_below-under) c.node.ensures (bracket t (goal.at.nodes-In_ok-held t c).Else-not-opens_at) c.in_ok-held.was
 
 pub node-returns-then-room-eq0 : goal.node-returns-then-room-eq0
 node-returns-then-room-eq0 t c = rd.node-none (omega arith) c.requires.1 c.if-room-eq0.true
 
-pub node-returns-in_default : goal.node-returns-in_default
-node-returns-in_default t c = rd.node-bad (opens t (goal.at.node-returns-in_default t c).Else-room-eq0) c.nodes.ensures c.in_default.is
+pub node-returns-in_err-list : goal.node-returns-in_err-list
+node-returns-in_err-list t c =
+    rw c.from_residual.ensures (rd.node-bad (opens t (goal.at.node-returns-in_err-list t c).Else-room-eq0) c.nodes.ensures c.in_err-list.was)
 
 pub node-returns-then-next-start : goal.node-returns-then-next-start
-node-returns-then-next-start t c = rd.node-empty (opens t (goal.at.node-returns-then-next-start t c).Else-room-eq0) c.nodes.ensures c.in-Read.is c.if-next-start.true
+node-returns-then-next-start t c = rd.node-empty (opens t (goal.at.node-returns-then-next-start t c).Else-room-eq0) c.nodes.ensures c.in_ok-list.was c.if-next-start.true
 
 pub node-returns-then-next-text : goal.node-returns-then-next-text
 node-returns-then-next-text t c =
     rd.node-short (opens t (goal.at.node-returns-then-next-text t c).Else-room-eq0) c.nodes.ensures
-    c.in-Read.is c.if-next-text.true
+    c.in_ok-list.was c.if-next-text.true
 
 pub node-returns-then-wholes-eq9 : goal.node-returns-then-wholes-eq9
 node-returns-then-wholes-eq9 t c =
     rd.node-nine (opens t (goal.at.node-returns-then-wholes-eq9 t c).Else-room-eq0) c.nodes.ensures
-    c.in-Read.is c.if-next-start.false c.if-wholes-eq9.true
+    c.in_ok-list.was c.if-next-start.false c.if-wholes-eq9.true
 
 pub node-returns : goal.node-returns
 node-returns t c =
     rd.node-read (opens t (goal.at.node-returns t c).Else-room-eq0) c.nodes.ensures
-    c.in-Read.is c.if-next-start.false c.if-next-text.false c.if-wholes-eq9.false
+    c.in_ok-list.was c.if-next-start.false c.if-next-text.false c.if-wholes-eq9.false
 
 pub nodes-returns-then-b-low : goal.nodes-returns-then-b-low
 nodes-returns-then-b-low t c = rd.runs-low c.loop-at.invariant c.loop-at-test.true c.if-b-eq41.false c.if-b-low.true
@@ -88,24 +89,25 @@ nodes-returns-then-above-b t c =
 pub nodes-loop-at-preserved-then-not-opens_at : goal.nodes-loop-at-preserved-then-not-opens_at
 nodes-loop-at-preserved-then-not-opens_at t c = whole-on t (goal.at.nodes-loop-at-preserved-then-not-opens_at t c).Then-not-opens_at
 
-pub nodes-returns-in_default : goal.nodes-returns-in_default
-nodes-returns-in_default t c =
-    rd.runs-wrong c.loop-at.invariant
+pub nodes-returns-in_err-held : goal.nodes-returns-in_err-held
+nodes-returns-in_err-held t c =
+    rw c.from_residual.ensures
+    (rd.runs-wrong c.loop-at.invariant
     c.loop-at-test.true
-    c.if-b-eq41.false (omega arith) (omega arith) (below t (goal.at.nodes-returns-in_default t c).After-room_below-under)
-    c.node.ensures c.in_default.is
+    c.if-b-eq41.false (omega arith) (omega arith) (below t (goal.at.nodes-returns-in_err-held t c).After-room_below-under)
+    c.node.ensures c.in_err-held.was)
 
 pub nodes-overflow_add-cells : goal.nodes-overflow_add-cells
-nodes-overflow_add-cells t c = let v = listed-on t (goal.at.nodes-overflow_add-cells t c).In-Read in omega (arith, v.few, v.to)
+nodes-overflow_add-cells t c = let v = listed-on t (goal.at.nodes-overflow_add-cells t c).In_ok-held in omega (arith, v.few, v.to)
 
 pub nodes-overflow_add-sum : goal.nodes-overflow_add-sum
-nodes-overflow_add-sum t c = let v = listed-on t (goal.at.nodes-overflow_add-sum t c).In-Read in omega (arith, rd.runs-fits v)
+nodes-overflow_add-sum t c = let v = listed-on t (goal.at.nodes-overflow_add-sum t c).In_ok-held in omega (arith, rd.runs-fits v)
 
 pub nodes-loop-at-smaller : goal.nodes-loop-at-smaller
-nodes-loop-at-smaller t c = omega (arith, (rd.node-known c.node.ensures c.in-Read.is (omega arith)).from)
+nodes-loop-at-smaller t c = omega (arith, (rd.node-known c.node.ensures c.in_ok-held.was (omega arith)).from)
 
 pub nodes-loop-at-preserved : goal.nodes-loop-at-preserved
-nodes-loop-at-preserved t c = listed-on t (goal.at.nodes-loop-at-preserved t c).In-Read
+nodes-loop-at-preserved t c = listed-on t (goal.at.nodes-loop-at-preserved t c).In_ok-held
 
 pub nodes-overflow_add-result-2 : goal.nodes-overflow_add-result-2
 nodes-overflow_add-result-2 t c = omega (arith, rd.runs-fits c.loop-at.invariant)

@@ -34,7 +34,7 @@ returns-then-next-text c =
     c.refused-then-next-text.ensures ∙ told_more a.args.text.now a.requires.0 a.requires.1 a.requires.2 c.level_of-level.ensures
     c.depth_of-depth.ensures c.heading_length-body.ensures
     c.nodes.ensures
-    c.in-Read.is c.if-next-text.true c.place-then-next-text.ensures
+    c.in-Some.is c.if-next-text.true c.place-then-next-text.ensures
 
 pub bounds-text-5 : goal.bounds-text-5
 bounds-text-5 c = let a = c in
@@ -56,4 +56,4 @@ returns c =
     told-all a.args.text.now a.requires.0 a.requires.1 a.requires.2 c.level_of-level.ensures
     c.depth_of-depth.ensures c.heading_length-body.ensures
     c.nodes.ensures
-    c.in-Read.is c.if-next-text.false
+    c.in-Some.is c.if-next-text.false

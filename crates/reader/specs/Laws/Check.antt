@@ -1,5 +1,5 @@
 -- Each refusal is given exactly when 01 says, and 9 comes with the place. Assumes nothing.
-use Rattle.std.specs.Prelude.{◌≡◌, ◌⊎◌, ◌&&◌, not, List, [], ◌∷◌, ℕ, suc, ◌+◌, ◌^◌, ◌≤◌, ◌<◌, length}
+use Rattle.std.specs.Prelude.{◌≡◌, ◌⊎◌, ◌&&◌, not, List, [], ◌∷◌, ℕ, suc, ◌+◌, ◌^◌, ◌≤◌, ◌<◌, length, Err, Ok}
 use Rattle.std.proofs.Math.Path.{refl, ap}
 use Rattle.std.proofs.Common.{sym, ◌∙◌, inl, inr, ⊎_elim, arith}
 use Rattle.std.proofs.Math.Bool.{Bool, true, false}
@@ -22,7 +22,6 @@ use Rattle.reading.specs.Report.{count, size_along}
 use Rattle.reading.proofs.Laws.TextReading.{read-text, reads-own, read-accepted}
 use Rattle.reading.proofs.Laws.Demand.{count-whole, size-whole}
 use Rattle.reading.specs.TextReading.{nodes_of, profile_of, north_of, south_of, is_text, body_start}
-use Rattle.reader.specs.declared.Checked.TheVariants.{Text, Refused}
 use Rattle.reader.specs.Check.{WrongVersion, other_version, text_refusal, answer, checked_of}
 
 -- ---- from the tests to the number, and back
@@ -290,7 +289,7 @@ module _ (t : List ℕ) where
       no_text false e n = e
 
   -- "For 9 the place is the length of the longest leading part that some accepted text begins with"
-  pub grammar-place : text_refusal t ≡ 9 → (checked_of t ≡ Refused 9 (place_of t)) × Longest t (place_of t) × (Accepted t → ⊥)
+  pub grammar-place : text_refusal t ≡ 9 → (checked_of t ≡ Err (record { refusal = 9; place = place_of t })) × Longest t (place_of t) × (Accepted t → ⊥)
   unfolding checked_of
   grammar-place e = (ap (λ (r : ℕ). answer r t) e, place-longest t, (grammar-exactly.0 e).2)
 
@@ -298,13 +297,13 @@ module _ (t : List ℕ) where
 
   module _ (h : length t ≤ 65536) {p : Profile} {n s : ℕ} {ns : Nodes} (r : ReadsAs p n s t ns) where
     -- "the number of whole cells and the sum of sizes that the reader reports are those of that reading"
-    pub accepted-answer : checked_of t ≡ Text p n s (length (whole_cells ns)) (size_sum (whole_cells ns)) (body_start t)
+    pub accepted-answer : checked_of t ≡ Ok (record { profile = p; arrangement = record { north = n; south = s }; cells = length (whole_cells ns); size = size_sum (whole_cells ns); body = body_start t })
     unfolding checked_of nodes_of profile_of north_of south_of
     accepted-answer =
         ap (λ (x : ℕ). answer x t) (accepted-exactly.1 (h, (p, n, s, ns, r))) ∙ rw (read-accepted r)
 
     -- as the reader counts them
-    pub counted-answer : Text p n s (count ns) (size_along (9 ^ 15) ns) (body_start t) ≡ checked_of t
+    pub counted-answer : Ok (record { profile = p; arrangement = record { north = n; south = s }; cells = count ns; size = size_along (9 ^ 15) ns; body = body_start t }) ≡ checked_of t
     counted-answer =
         rw (
           count-whole (faces-of p) (depth-most p r.profiled) r.body,

@@ -1,7 +1,6 @@
 -- `reading::lead_in` meets its contract: what is still to be compared is tied to the whole. Assumes nothing.
 use native.Mathlib.Omega.{arith}
 use borrow.Author.Rules.{rules}
-use Prim.Native.Nat.{◌-◌}
 use Rattle.reading.proofs.Head as st
 use Rattle.reading.proofs.lead_in.Goals as goal
 
@@ -24,4 +23,4 @@ loop-i-preserved c =
     (l.invariant.0, st.more l.invariant.1 l.invariant.0 (search rules) (omega (arith, l.invariant.1.within)) c.if-text-i.false c.if-greatest-i.false)
 
 pub returns : goal.returns
-returns c = st.all c.loop-i.invariant.1 c.loop-i-test.false
+returns c = omega (arith, st.all c.loop-i.invariant.1 (omega arith))

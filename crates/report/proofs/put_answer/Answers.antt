@@ -4,14 +4,14 @@ use Rattle.report.proofs.Facts.{put_as, answer-name, answer-number}
 use native.Mathlib.Omega.{arith}
 use Rattle.report.proofs.put_answer.Goals as goal
 
-pub returns-in-Code : goal.returns-in-Code
-returns-in-Code c =
+pub returns-in-Ok : goal.returns-in-Ok
+returns-in-Ok c =
     let l = c in
     let a = l.args in
-    let q = c.put_name_and.ensures in record { put = put_as (answer-name a.setting a.line.now _ (sym l.line_code.ensures ∙ c.in-Code.is)) q.put; upper_bound = omega (arith, q.upper_bound) }
+    let q = c.put_name_and.ensures in record { put = put_as (answer-name a.setting a.line.now _ (sym l.line_code.ensures ∙ c.in-Ok.is)) q.put; upper_bound = omega (arith, q.upper_bound) }
 
-pub returns-in-Refused : goal.returns-in-Refused
-returns-in-Refused c =
+pub returns-in-Err : goal.returns-in-Err
+returns-in-Err c =
     let l = c in
     let a = l.args in
-    let q = c.put_number.ensures in record { put = put_as (answer-number a.setting a.line.now _ (sym l.line_code.ensures ∙ c.in-Refused.is)) q.put; upper_bound = q.upper_bound }
+    let q = c.put_number.ensures in record { put = put_as (answer-number a.setting a.line.now _ (sym l.line_code.ensures ∙ c.in-Err.is)) q.put; upper_bound = q.upper_bound }

@@ -15,7 +15,7 @@ loop-left-preserved c =
     let p = c.put_revision-end in
     let a = c.args in
     listing-more a.history a.out.now l.out p.new.out l.left l.end p.result l.invariant
-    c.loop-left-test.true p.ensures.put p.ensures.upper_bound p.auto.out
+    (omega arith) p.ensures.put p.ensures.upper_bound p.auto.out
 
 pub returns : goal.returns
 returns c =

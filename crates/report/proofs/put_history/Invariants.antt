@@ -4,6 +4,3 @@ use Rattle.report.proofs.put_history.Given as goal
 
 abbrev pub invariant-loop-left : goal.invariant-loop-left
 invariant-loop-left l = Listing l.history l.initial.out l.out l.left l.end
-
-abbrev pub decreases-loop-left : goal.decreases-loop-left
-decreases-loop-left l = l.left

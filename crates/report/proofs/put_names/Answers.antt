@@ -10,4 +10,4 @@ loop-count-preserved c =
     let l = c.loop-count in
     let a = c.args in
     let q = c.put_name_and-end.ensures in
-    (omega arith, put_as (name-more a.codes.now l.count (omega arith)) (then-put l.invariant.1 l.invariant.2 q.put), omega (arith, q.upper_bound), search rules)
+    (put_as (name-more a.codes.now l.count (omega arith)) (then-put l.invariant.0 l.invariant.1 q.put), omega (arith, q.upper_bound), search rules)

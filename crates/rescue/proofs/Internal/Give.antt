@@ -1,5 +1,5 @@
 -- The proper text made, and given with the changes. Assumes nothing.
-use Rattle.std.specs.Prelude.{◌≡◌, not, List, ◌++◌, map, ltb, take, drop}
+use Rattle.std.specs.Prelude.{◌≡◌, not, List, ◌++◌, map, ltb, take, drop, Err, Ok, Result}
 use Rattle.std.proofs.Common.{sym, ◌∙◌, arith}
 use Rattle.std.proofs.Math.Path.{ap}
 use Prim.Native.Nat.{ℕ, ◌*◌, ◌≤◌, ◌<◌}
@@ -19,8 +19,6 @@ use Rattle.writing.specs.Write.{all_codes, codes_refusal, is_version, fit_refusa
 use Rattle.loose.specs.Look.{loose_refusal}
 use Rattle.proper.specs.Proper.{proper_of}
 use Rattle.proper.specs.Changes.{Change}
-use Rattle.rescue.specs.declared.Rescued.{Rescued}
-use Rattle.rescue.specs.declared.Rescued.TheVariants.{Done, Refused}
 use Rattle.rescue.specs.Rescue.{flat, changes_of, RescueIs}
 use Rattle.rescue.specs.Internal.Marks.{changes_in}
 use Rattle.rescue.specs.Internal.Give.{Gives}
@@ -47,15 +45,15 @@ module _ (ar : Arrangement) (cells made : List ℕ) (z : write_refusal 1 15 ar c
 -- ---- given
 
 module _ {made marks out list : List ℕ} {n : ℕ} (c : n ≡ length (changes_in 7 marks)) where
-  pub gives-no-text : length out < length made → Gives made marks out out list list (Refused 8 0)
+  pub gives-no-text : length out < length made → Gives made marks out out list list (Err (record { refusal = 8; place = 0 }))
   gives-no-text h = record { is = λ t e p q. no-text-room t e out list (omega (arith, ap length p)) }
 
-  pub gives-no-list : length made ≤ length out → length list < n * 2 → Gives made marks out out list list (Refused 8 0)
+  pub gives-no-list : length made ≤ length out → length list < n * 2 → Gives made marks out out list list (Err (record { refusal = 8; place = 0 }))
   gives-no-list h g = record { is = λ t e p q. no-list-room t e out list n (c ∙ ap length q) (omega (arith, ap length p)) g }
 
   pub gives_both :
       {out' list' : List ℕ} → length made ≤ length out → n * 2 ≤ length list → out' ≡ made ++ drop (length made) out →
-      list' ≡ flat (changes_in 7 marks) ++ drop (length (flat (changes_in 7 marks))) list → Gives made marks out out' list list' (Done (length made) n)
+      list' ≡ flat (changes_in 7 marks) ++ drop (length (flat (changes_in 7 marks))) list → Gives made marks out out' list list' (Ok (record { length = length made; changes = n }))
   gives_both h g x y =
       record {
         is =

@@ -1,5 +1,5 @@
 -- What the passes find, put together. Assumes nothing.
-use Rattle.std.specs.Prelude.{◌≡◌, Bool, true, ◌||◌, cond, ℕ, zero, suc, ◌-◌, ◌*◌, ◌≤◌, ◌<◌, ltb, take, drop, get_or, replicate}
+use Rattle.std.specs.Prelude.{◌≡◌, Bool, true, ◌||◌, cond, ℕ, zero, suc, ◌-◌, ◌*◌, ◌≤◌, ◌<◌, ltb, take, drop, get_or, replicate, Err, Ok, Result}
 use Rattle.std.proofs.Math.Path.{refl, sym, ap, ap₂}
 use Rattle.std.proofs.Common.{subst, ◌∙◌, take_at, lt-ltb, le-ltb}
 use Rattle.std.proofs.Math.Bool.{false}
@@ -23,16 +23,12 @@ use Rattle.reading.specs.Report.{count}
 use Rattle.reading.proofs.Laws.Report.{count-names, count_most}
 use Rattle.reading.proofs.Laws.Loose.{good-loose}
 use Rattle.walk.specs.Walk.{origin, Walks}
-use Rattle.writing.specs.declared.Written.{Written}
-use Rattle.writing.specs.declared.Written.TheVariants as written_as
 use Rattle.writing.specs.Write.{written}
 use Rattle.sorting.specs.Sorted.{sorted}
 use Rattle.sorting.proofs.Laws.Sorted.{sorted-length}
 use Rattle.loose.specs.LooseText.{LooseBody}
 use Rattle.loose.specs.LooseScan.{loose_nodes}
 use Rattle.loose.proofs.Laws.Reading.{loose-nodes}
-use Rattle.loose.specs.declared.Looked.{Looked}
-use Rattle.loose.specs.declared.Looked.TheVariants as looked-as
 use Rattle.loose.specs.Look.{loose_arrangement, IsLoose, loose_refusal, place_with, looked}
 use Rattle.loose.proofs.Laws.Look.{loose-own, loose-short}
 use Rattle.proper.specs.Proper.{answer, rescued, proper_of}
@@ -42,13 +38,13 @@ use Rattle.proper.proofs.Laws.Text.{loose-body, loose-long, loose-arranged, shor
 use Rattle.proper.proofs.Laws.Walk.{loose-start}
 use Rattle.proper.specs.Thin.{thinned}
 use Rattle.proper.specs.Wholes.{loose_codes}
-use Rattle.rescue.specs.declared.Rescued.{Rescued}
-use Rattle.rescue.specs.declared.Rescued.TheVariants.{Done, Refused}
 use Rattle.rescue.specs.Internal.Marks.{Clear, has_code, bit, Seen, masks, changes_in, Zeros}
 use Rattle.rescue.specs.Laws.Flat.{flat-length}
 use Rattle.rescue.specs.Internal.Find.{largest, answers, fresh, marks-changes, largest-rise, fresh-rise}
 use Rattle.rescue.specs.Internal.Lack.{lacking-clear, lacking-length}
 use Rattle.rescue.specs.Rescue.{flat, changes_of, rescue_refusal, told, RescueIs}
+use Rattle.logic.specs.Laws.Answer.{err-is}
+use Rattle.reading.specs.declared.Refused.{Refused}
 
 pub zeros-seen : (keys seen : List ℕ) → Zeros seen → Seen keys [] seen
 unfolding has_code
@@ -160,27 +156,27 @@ module _ (t : List ℕ) (e : loose_refusal t ≡ 0) where
 
 -- ---- the answer
 
-pub look-loose : {a : Arrangement} (t : List ℕ) → looked-as.Loose a ≡ looked (loose_refusal t) t → (loose_refusal t ≡ 0) × (a ≡ loose_arrangement t)
+pub look-loose : {a : Arrangement} (t : List ℕ) → Ok a ≡ looked (loose_refusal t) t → (loose_refusal t ≡ 0) × (a ≡ loose_arrangement t)
 unfolding looked
 look-loose {a} t e = go (loose_refusal t) refl e
   where
-    go : (q : ℕ) → loose_refusal t ≡ q → looked-as.Loose a ≡ looked q t → (loose_refusal t ≡ 0) × (a ≡ loose_arrangement t)
+    go : (q : ℕ) → loose_refusal t ≡ q → Ok a ≡ looked q t → (loose_refusal t ≡ 0) × (a ≡ loose_arrangement t)
     go zero f e = (f, (cc))
     go (suc q) f e = let k : ◌≡◌ {A = ℕ} 0 1 = cc in absurd (omega arith)
 
-pub look-refused : {t out list : List ℕ} {r p : ℕ} → looked-as.Refused r p ≡ looked (loose_refusal t) t → RescueIs t out out list list (Refused r p)
+pub look-refused : {t out list : List ℕ} {r p : ℕ} → Err (record { refusal = r; place = p }) ≡ looked (loose_refusal t) t → RescueIs t out out list list (Err (record { refusal = r; place = p }))
 unfolding looked rescue_refusal told given ◌otherwise◌
 look-refused {t} {out} {list} {r} {p} e = go (loose_refusal t) refl e
   where
-    go : (q : ℕ) → loose_refusal t ≡ q → looked-as.Refused r p ≡ looked q t → RescueIs t out out list list (Refused r p)
+    go : (q : ℕ) → loose_refusal t ≡ q → Err (record { refusal = r; place = p }) ≡ looked q t → RescueIs t out out list list (Err (record { refusal = r; place = p }))
     go zero f e = let k : ◌≡◌ {A = ℕ} 0 1 = cc in absurd (omega arith)
     go (suc q) f e =
-        let i : r ≡ suc q = cc in
-        let j : p ≡ place_with (suc q) t = cc in
+        let i : r ≡ suc q = ap (λ (x : Refused). x.refusal) (err-is e) in
+        let j : p ≡ place_with (suc q) t = ap (λ (x : Refused). x.place) (err-is e) in
         let z : rescue_refusal t (length out) (length list) ≡ suc q =
         ap (λ (x : ℕ). x otherwise refuse (ltb (length out) (length (proper_of t)) || ltb (length list) (length (flat (changes_of t)))) 8) f in
         record {
-          answer = ap₂ Refused i j ∙ sym (ap (λ (x : ℕ). told x t) z);
+          answer = ap₂ (λ (a b : ℕ). Err (record { refusal = a; place = b })) i j ∙ sym (ap (λ (x : ℕ). told x t) z);
           text = sym (ap (λ (x : ℕ). given x (in_front (proper_of t) out) out) z);
           changed = sym (ap (λ (x : ℕ). given x (in_front (flat (changes_of t)) list) list) z);
         }
@@ -190,7 +186,7 @@ module _ (t : List ℕ) (e : loose_refusal t ≡ 0) (out list : List ℕ) where
   unfolding rescue_refusal
   by-rooms a b f g = passes _ e ∙ ap₂ (λ (x y : Bool). refuse (x || y) 8) f g
 
-  eight : rescue_refusal t (length out) (length list) ≡ 8 → RescueIs t out out list list (Refused 8 0)
+  eight : rescue_refusal t (length out) (length list) ≡ 8 → RescueIs t out out list list (Err (record { refusal = 8; place = 0 }))
   unfolding told given
   eight z =
       record {
@@ -199,23 +195,23 @@ module _ (t : List ℕ) (e : loose_refusal t ≡ 0) (out list : List ℕ) where
         changed = sym (ap (λ (x : ℕ). given x (in_front (flat (changes_of t)) list) list) z);
       }
 
-  pub no-text-room : length out < length (proper_of t) → RescueIs t out out list list (Refused 8 0)
+  pub no-text-room : length out < length (proper_of t) → RescueIs t out out list list (Err (record { refusal = 8; place = 0 }))
   no-text-room h = eight (by-rooms true (ltb (length list) (length (flat (changes_of t)))) (lt-ltb (length out) (length (proper_of t)) h) refl)
 
   module _ (n : ℕ) (c : n ≡ length (changes_of t)) where
-    pub no-list-room : length (proper_of t) ≤ length out → length list < n * 2 → RescueIs t out out list list (Refused 8 0)
+    pub no-list-room : length (proper_of t) ≤ length out → length list < n * 2 → RescueIs t out out list list (Err (record { refusal = 8; place = 0 }))
     no-list-room h g =
         eight (by-rooms false true (le-ltb (length out) (length (proper_of t)) h) (lt-ltb (length list) (length (flat (changes_of t))) (omega (arith, flat-length (changes_of t)))))
 
     pub rescued-is :
         {out' list' : List ℕ} {m : ℕ} → m ≡ length (proper_of t) → length (proper_of t) ≤ length out → n * 2 ≤ length list → out' ≡ in_front (proper_of t) out →
-        list' ≡ in_front (flat (changes_of t)) list → RescueIs t out out' list list' (Done m n)
+        list' ≡ in_front (flat (changes_of t)) list → RescueIs t out out' list list' (Ok (record { length = m; changes = n }))
     unfolding told given
     rescued-is {out'} {list'} {m} i h g x y =
         let z : rescue_refusal t (length out) (length list) ≡ 0 =
         by-rooms false false (le-ltb (length out) (length (proper_of t)) h) (le-ltb (length list) (length (flat (changes_of t))) (omega (arith, flat-length (changes_of t)))) in
         record {
-          answer = ap₂ Done i c ∙ sym (ap (λ (w : ℕ). told w t) z);
+          answer = ap₂ (λ (a b : ℕ). Ok (record { length = a; changes = b })) i c ∙ sym (ap (λ (w : ℕ). told w t) z);
           text = x ∙ sym (ap (λ (w : ℕ). given w (in_front (proper_of t) out) out) z);
           changed = y ∙ sym (ap (λ (w : ℕ). given w (in_front (flat (changes_of t)) list) list) z);
         }

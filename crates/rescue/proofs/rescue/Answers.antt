@@ -7,11 +7,11 @@ use Rattle.rescue.proofs.rescue.Goals as goal
 pub rescue_loose-requires : goal.rescue_loose-requires
 rescue_loose-requires c =
     let l = c in
-    look-loose l.args.text.now (sym c.in-Loose.is ∙ l.look.ensures)
+    look-loose l.args.text.now (sym c.in-Ok.is ∙ l.look.ensures)
 
-pub returns-in-Refused : goal.returns-in-Refused
-returns-in-Refused c =
+pub returns-in-Err : goal.returns-in-Err
+returns-in-Err c =
     let l = c in
     let a = l.args in
     subst (RescueIs a.text.now a.out.now a.out.now a.list.now a.list.now) (sym c.refused.ensures)
-    (look-refused (sym c.in-Refused.is ∙ l.look.ensures))
+    (look-refused (sym c.in-Err.is ∙ l.look.ensures))

@@ -5,14 +5,14 @@ use Rattle.code.proofs.Laws.Code.{code-arranged}
 use Rattle.sheet.proofs.Records.{of_code, is-of-code, not-no-code, made}
 use native.Mathlib.Omega.{arith}
 use Rattle.sheet.proofs.record_of.Goals as goal
-use Rattle.sheet.proofs.record_of.Goals.{In-At}
+use Rattle.sheet.proofs.record_of.Goals.{In-Ok}
 
 -- the code is of an arrangement, and its cell was found
-stands : (c : In-At) → IsArrangement c.arrangement_of-arrangement.result × IsCell c.in-At.cell
+stands : (c : In-Ok) → IsArrangement c.arrangement_of-arrangement.result × IsCell c.in-Ok.cell
 stands c =
     let a = c in (
       subst IsArrangement (sym a.arrangement_of-arrangement.ensures) (code-arranged a.args.code),
-      is-of-code a.args.code a.requires c.cell_of.ensures c.in-At.is,
+      is-of-code a.args.code a.requires c.cell_of.ensures c.in-Ok.is,
     )
 
 pub returns-in_default : goal.returns-in_default
@@ -21,16 +21,16 @@ returns-in_default c =
     absurd (not-no-code s.args.code s.requires c.cell_of.ensures c.in_default.is)
 
 pub neighbour_code-requires : goal.neighbour_code-requires
-neighbour_code-requires c = let s = stands (goal.at.neighbour_code-requires c).In-At in (s.0, s.1, omega arith)
+neighbour_code-requires c = let s = stands (goal.at.neighbour_code-requires c).In-Ok in (s.0, s.1, omega arith)
 
 pub neighbour_code-requires-2 : goal.neighbour_code-requires-2
-neighbour_code-requires-2 c = let s = stands (goal.at.neighbour_code-requires-2 c).In-At in (s.0, s.1, omega arith)
+neighbour_code-requires-2 c = let s = stands (goal.at.neighbour_code-requires-2 c).In-Ok in (s.0, s.1, omega arith)
 
 pub neighbour_code-requires-3 : goal.neighbour_code-requires-3
-neighbour_code-requires-3 c = let s = stands (goal.at.neighbour_code-requires-3 c).In-At in (s.0, s.1, omega arith)
+neighbour_code-requires-3 c = let s = stands (goal.at.neighbour_code-requires-3 c).In-Ok in (s.0, s.1, omega arith)
 
 pub neighbour_code-requires-4 : goal.neighbour_code-requires-4
-neighbour_code-requires-4 c = let s = stands (goal.at.neighbour_code-requires-4 c).In-At in (s.0, s.1, omega arith)
+neighbour_code-requires-4 c = let s = stands (goal.at.neighbour_code-requires-4 c).In-Ok in (s.0, s.1, omega arith)
 
 pub returns : goal.returns
 returns c =
@@ -39,5 +39,5 @@ returns c =
     let a = k in
     let s = a in
     made s.args.code s.requires a.arrangement_of-arrangement.ensures
-    (of_code s.args.code s.requires k.cell_of.ensures k.in-At.is)
+    (of_code s.args.code s.requires k.cell_of.ensures k.in-Ok.is)
     n.neighbour_code.ensures c.neighbour_code-2.ensures c.neighbour_code-3.ensures c.neighbour_code-4.ensures

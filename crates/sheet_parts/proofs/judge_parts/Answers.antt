@@ -10,7 +10,7 @@ use Rattle.sheet_parts.proofs.Read.{Reads, reads-start, unreadable, stops-wrong,
 use native.Mathlib.Omega.{arith}
 use borrow.Author.Rules.{rules}
 use Rattle.sheet_parts.proofs.judge_parts.Goals as goal
-use Rattle.sheet_parts.proofs.judge_parts.Goals.{After-slice_known-in-loop-count-1, Else-count-part, In-Count}
+use Rattle.sheet_parts.proofs.judge_parts.Goals.{After-slice_known-in-loop-count-1, Else-count-part, In-Some}
 
 -- the room is as long as it was lent
 lent :
@@ -22,8 +22,8 @@ lent c =
     same ∙ l.invariant.0
 
 -- so many bytes were read
-fits : (c : In-Count) → c.in-Count.count ≤ length c.read_all.new.buf
-fits c = count_fits _ _ c.read_all.ensures c.in-Count.is
+fits : (c : In-Some) → c.in-Some.count ≤ length c.read_all.new.buf
+fits c = count_fits _ _ c.read_all.ensures c.in-Some.is
 
 -- the part filled its room
 full :
@@ -42,8 +42,8 @@ full c =
     let e = lent (goal.at.Else-count-part c).After-slice_known-in-loop-count-1 in
     let m = subst (λ (n : ℕ). n % 40 ≡ 0) (sym e) s.requires.part_nonzero.1 in
     let w = l.loop-count.invariant.1 in
-    let h = reads_more room _ w (fits (goal.at.Else-count-part c).In-Count) g.go_over-standing.ensures c.if-count-part.false m c.if-standing.false (omega (arith, s.requires.part_nonzero.0, e)) in
-    (reads_on room _ w (fits (goal.at.Else-count-part c).In-Count) g.go_over-standing.ensures c.if-count-part.false m c.if-standing.false, h.0, h.1)
+    let h = reads_more room _ w (fits (goal.at.Else-count-part c).In-Some) g.go_over-standing.ensures c.if-count-part.false m c.if-standing.false (omega (arith, s.requires.part_nonzero.0, e)) in
+    (reads_on room _ w (fits (goal.at.Else-count-part c).In-Some) g.go_over-standing.ensures c.if-count-part.false m c.if-standing.false, h.0, h.1)
 
 pub loop-count-init : goal.loop-count-init
 loop-count-init c =
@@ -70,14 +70,14 @@ returns-then-standing c =
     let s = l in
     let room = k.read_all.new.buf in
     let m = subst (λ (n : ℕ). n % 40 ≡ 0) (sym (lent (goal.at.returns-then-standing c).After-slice_known-in-loop-count-1)) s.requires.part_nonzero.1 in
-    stops-wrong room _ l.loop-count.invariant.1 (fits (goal.at.returns-then-standing c).In-Count) g.go_over-standing.ensures m c.if-standing.true c.told-then-standing.ensures
+    stops-wrong room _ l.loop-count.invariant.1 (fits (goal.at.returns-then-standing c).In-Some) g.go_over-standing.ensures m c.if-standing.true c.told-then-standing.ensures
 
 pub returns-then-count-part : goal.returns-then-count-part
 returns-then-count-part c =
     let g = c in
     let k = g in
     let l = k in
-    stops_end _ _ l.loop-count.invariant.1 (fits (goal.at.returns-then-count-part c).In-Count) g.go_over-standing.ensures c.if-count-part.true c.told-then-count-part.ensures
+    stops_end _ _ l.loop-count.invariant.1 (fits (goal.at.returns-then-count-part c).In-Some) g.go_over-standing.ensures c.if-count-part.true c.told-then-count-part.ensures
 
 pub loop-count-smaller : goal.loop-count-smaller
 loop-count-smaller c = let h = full (goal.at.loop-count-smaller c).Else-count-part in omega (arith, h.1, h.2)

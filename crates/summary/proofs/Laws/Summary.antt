@@ -1,11 +1,13 @@
 -- A text's summary: its counters' sum is the text's size sum, and it answers questions as the text does (02, W-207). Assumes nothing.
-use Rattle.std.specs.Prelude.{◌≡◌, Bool, not, List, ltb}
+use Rattle.std.specs.Prelude.{◌≡◌, Bool, not, List, ltb, Err, Ok, Result}
 use Rattle.std.proofs.Math.Path.{refl, sym, ap}
 use Rattle.std.proofs.Common.{◌∙◌, ltb-false}
 use Rattle.std.proofs.Math.Bool.{true, false}
 use Prim.Native.Nat.{ℕ, zero, suc, ◌+◌, ◌-◌, ◌*◌, ◌/◌, ◌^◌, ◌≤◌, ◌<◌}
 use native.Mathlib.Omega.{arith}
 use Rattle.std.proofs.Math.ListN.{get_or}
+use Rattle.reading.specs.declared.Refused.{Refused}
+use Rattle.asking.specs.declared.Asked.{Asked}
 use Rattle.logic.specs.Laws.Bools.{same_truth, refuted}
 use Rattle.logic.specs.Refusal.{refuse, ◌otherwise◌}
 use Rattle.logic.specs.Laws.Refusal.{passes, stops, both}
@@ -24,12 +26,8 @@ use Rattle.reading.proofs.Laws.TextReading.{reads-body, text-arranged}
 use Rattle.reading.proofs.Laws.Demand.{whole_cells_lem}
 use Rattle.reader.specs.Check.{text_refusal}
 use Rattle.reader.specs.Laws.Answer.{text-read}
-use Rattle.asking.specs.declared.Asked.{Asked}
-use Rattle.asking.specs.declared.Asked.TheVariants as asked-as
 use Rattle.asking.specs.Ask.{AllCovered, any_within, ask_refusal, asked}
 use Rattle.asking.proofs.Laws.Ask.{text-asked}
-use Rattle.summary.specs.declared.Questioned.{Questioned}
-use Rattle.summary.specs.declared.Questioned.TheVariants as questioned-as
 use Rattle.summary.specs.Summary.{covered_at, counter_of, counters_of, is_full, question_refusal, questioned}
 use Rattle.summary.proofs.Laws.Counters.{covered-range, range-covered, counter_at, counters-sum}
 use Rattle.summary.proofs.Laws.District.{start-aligned, size-aligned, full-each, each-full}
@@ -89,9 +87,9 @@ module _ (t : List ℕ) (e : is_text t ≡ true) where
       same_truth (is_full (counters_of qs) c) (any_within qs c) (λ k. ask.1 (full.0 k)) (λ k. full.1 (ask.0 k))
 
 -- what asking the text answers, without the place and what settles it
-abbrev pub as_question : Asked → Questioned
-as_question (asked-as.Answer covered settled) = questioned-as.Answer covered
-as_question (asked-as.Refused refusal place) = questioned-as.Refused refusal
+abbrev pub as_question : Result Asked Refused → Result Bool ℕ
+as_question (Ok x) = Ok x.covered
+as_question (Err e) = Err e.refusal
 
 module _ (t : List ℕ) (ok : text_refusal t ≡ 0) (code : ℕ) where
   kept-good : arrangement_refusal (text_arrangement t) ≡ 0
@@ -123,7 +121,7 @@ module _ (t : List ℕ) (ok : text_refusal t ≡ 0) (code : ℕ) where
     unfolding questioned asked ask_refusal
     same_answer zero e =
         let c = a-code code (both _ _ e).0 in
-        ap questioned-as.Answer (text-agrees t (text-read t ok) (cell_of code) (code-is-cell code c) (ltb-false 2 (cell_of code).resolution (coarse c)))
+        ap Ok (text-agrees t (text-read t ok) (cell_of code) (code-is-cell code c) (ltb-false 2 (cell_of code).resolution (coarse c)))
     same_answer (suc r) e = refl
 
     -- "Questions about cells of resolution 0 to 2 are answered from the counters, .. and agree with asking the text": any question that is not refused

@@ -1,29 +1,33 @@
 -- The proof of the cycle of calls {measure_list, measure_node}. The measures are twice the size, and one more for the list. What each hands back, and how far
 -- the list has come, is said by the laws of MeasureSteps. Assumes nothing.
-use mathlib.Core.Path.{sym, ap, ◌∙◌}
+use mathlib.Core.Path.{◌≡◌, sym, ap, ◌∙◌}
 use native.Mathlib.Omega.{arith}
-use Prim.Native.Nat.{◌+◌, ◌*◌, ◌^◌}
+use Prim.Native.Nat.{◌+◌, ◌-◌, ◌*◌, ◌^◌}
 use Rattle.writing.specs.Internal.Measure.{cell_start}
 use Rattle.writing.specs.Internal.MeasureLaws.{code-at}
 use Rattle.writing.proofs.MeasureSteps as ms
 use Rattle.writing.proofs.+measure_list_measure_node.Goals as goal
 
-pub measure_list-loop-more-init : goal.measure_list-loop-more-init
-measure_list-loop-more-init t c = ms.l-starts (omega arith) c.start_at-first.ensures
+pub measure_list-loop-init : goal.measure_list-loop-init
+measure_list-loop-init t c =
+    let e : c.args.left - 0 ≡ c.args.left = omega arith in
+    rw e (ms.l-starts (omega arith) c.start_at-first.ensures)
 
 pub measure_list-returns-then-limit-first : goal.measure_list-returns-then-limit-first
-measure_list-returns-then-limit-first t c = ms.l-stops c.loop-more.invariant (omega arith) c.if-limit-first.true
+measure_list-returns-then-limit-first t c = ms.l-stops c.loop.invariant (omega arith) c.if-limit-first.true
 
-pub measure_list-loop-more-preserved : goal.measure_list-loop-more-preserved
-measure_list-loop-more-preserved t c =
+pub measure_list-loop-preserved : goal.measure_list-loop-preserved
+measure_list-loop-preserved t c =
     let n = c in
-    let l = n.loop-more in
+    let l = n.loop in
     let s = n in
     let h = ms.hand-there (s.args.start + s.args.left * s.args.size) l.invariant.hand (omega arith) n.if-limit-first.false in
-    rw c.greater-depth.ensures (ms.l-takes l.invariant (omega arith) (λ e. omega arith) h n.if-limit-first.false n.measure_node-node.ensures c.start_at-first-in-loop-more.ensures)
+    let e : s.args.left - l.counter - 1 ≡ s.args.left - (l.counter + 1) = omega arith in
+    let m = ms.l-takes l.invariant (omega arith) (λ z. omega arith) h n.if-limit-first.false n.measure_node-node.ensures c.start_at-first-in-loop.ensures in
+    rw c.greater-depth.ensures (rw e at m)
 
 pub measure_list-returns : goal.measure_list-returns
-measure_list-returns t c = ms.l-ends c.loop-more.invariant (omega arith) (omega arith)
+measure_list-returns t c = ms.l-ends c.loop.invariant (omega arith) (omega arith)
 
 pub measure_node-returns-then-size_in-size : goal.measure_node-returns-then-size_in-size
 measure_node-returns-then-size_in-size t c = ms.n-same (omega arith) (omega arith) (sym c.size_in.ensures ∙ c.if-size_in-size.true)

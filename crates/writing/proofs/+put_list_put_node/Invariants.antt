@@ -11,8 +11,5 @@ decreases-put_list l = 2 * l.size + 1
 abbrev pub decreases-put_node : goal.decreases-put_node
 decreases-put_node l = 2 * l.size
 
-abbrev pub invariant-put_list-loop-more : goal.invariant-put_list-loop-more
-invariant-put_list-loop-more l = ps.Putting l.codes l.at l.left l.start l.size l.place l.byte l.initial.text l.next l.first l.child l.ends l.name l.more l.text
-
-abbrev pub decreases-put_list-loop-more : goal.decreases-put_list-loop-more
-decreases-put_list-loop-more l = l.more
+abbrev pub invariant-put_list-loop : goal.invariant-put_list-loop
+invariant-put_list-loop l = ps.Putting l.codes l.at l.left l.start l.size l.place l.byte l.initial.text l.next l.first l.child l.ends l.name (l.left - l.counter) l.text

@@ -1,7 +1,6 @@
 -- `writing::whole_until` meets its contract: the codes up to the place i cover the cell up to the position. Assumes nothing.
 use native.Mathlib.Omega.{arith}
 use mathlib.Core.Path.{sym, ◌∙◌}
-use Prim.Native.Nat.{◌-◌}
 use Rattle.code.proofs.Laws.Inside.{size_small}
 use Rattle.writing.specs.Internal.Measure.{next_cell}
 use Rattle.writing.specs.Internal.MeasureLaws.{code-at}
@@ -17,7 +16,7 @@ returns-then-size_in-size c = ws.same (omega arith) (sym c.size_in.ensures ∙ c
 pub start_in-requires : goal.start_in-requires
 start_in-requires c =
     let s = c in
-    code-at s.args.codes.now c.loop-i.i s.requires.0 c.loop-i-test.true
+    code-at s.args.codes.now c.loop-i.i s.requires.0 (omega arith)
 
 pub returns-then-position-start_in : goal.returns-then-position-start_in
 returns-then-position-start_in c =

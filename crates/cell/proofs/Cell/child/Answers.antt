@@ -1,9 +1,9 @@
 -- `Cell::child` meets its contract. Assumes nothing.
+use Rattle.std.specs.Prelude.{Ok}
 use mathlib.Core.Path.{sym, ap, ◌∙◌}
 use native.Mathlib.Omega.{arith}
 use borrow.Author.Tests.{lt-ltb, le-ltb, eq-eqb, ne_eqb}
 use Rattle.logic.specs.Refusal.{◌otherwise◌}
-use Rattle.cell.specs.declared.Found.TheVariants.{At}
 use Rattle.cell.specs.Cell.{IsCell, found}
 use Rattle.cell.proofs.Laws.Cell.{is-cell}
 use Rattle.cell.specs.Hierarchy.{child_refusal}
@@ -37,4 +37,4 @@ returns c =
     let g = c in
     let f = g in
     then _ _ f.refusal-refusal.ensures f.if-refusal-ne0.false
-    (rw (le-ltb _ _ g.if-digit-gt8.false, ne_eqb _ _ g.if-self-eq15.false) (ap At c.child_cell.ensures))
+    (rw (le-ltb _ _ g.if-digit-gt8.false, ne_eqb _ _ g.if-self-eq15.false) (ap Ok c.child_cell.ensures))

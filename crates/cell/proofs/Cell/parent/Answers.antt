@@ -1,7 +1,7 @@
 -- `Cell::parent` meets its contract. Assumes nothing.
+use Rattle.std.specs.Prelude.{Ok}
 use mathlib.Core.Path.{ap}
 use borrow.Author.Tests.{eq-eqb, ne_eqb}
-use Rattle.cell.specs.declared.Found.TheVariants.{At}
 use Rattle.cell.specs.Cell.{found}
 use Rattle.cell.specs.Hierarchy.{parent_refusal}
 use Rattle.cell.proofs.Laws.Found.{refused, then}
@@ -20,4 +20,4 @@ unfolding parent_refusal found
 returns c =
     let q = c in
     then _ _ q.refusal-refusal.ensures q.if-refusal-ne0.false
-    (rw (ne_eqb _ _ q.if-self-eq0.false) (ap At c.parent_cell.ensures))
+    (rw (ne_eqb _ _ q.if-self-eq0.false) (ap Ok c.parent_cell.ensures))

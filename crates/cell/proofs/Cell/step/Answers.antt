@@ -1,4 +1,5 @@
 -- `Cell::step` meets its contract: the refusals in their order. Assumes nothing.
+use Rattle.std.specs.Prelude.{Ok, Result, ℕ}
 use mathlib.Core.Path.{◌≡◌, sym, ap, ◌∙◌}
 use Prim.Native.Nat.{◌-◌}
 use native.Mathlib.Omega.{arith}
@@ -6,8 +7,6 @@ use lib.Dec.{ltb}
 use borrow.Author.Tests.{lt-ltb, le-ltb}
 use Rattle.logic.specs.Refusal.{refuse}
 use Rattle.cell.specs.declared.Cell.{Cell}
-use Rattle.cell.specs.declared.Found.{Found}
-use Rattle.cell.specs.declared.Found.TheVariants.{At}
 use Rattle.cell.specs.Cell.{IsCell, IsArrangement, found}
 use Rattle.cell.proofs.Laws.Cell.{is-cell, is-arrangement}
 use Rattle.cell.specs.Neighbour.{neighbour_of, neighbour_refusal}
@@ -23,7 +22,7 @@ celled c = is-cell (sym c.refusal-refusal.ensures ∙ c.if-refusal-ne0.false)
 
 -- what is left to refuse is the direction
 directed :
-    (c : Else-refusal-ne0) {x : Found} →
+    (c : Else-refusal-ne0) {x : Result Cell ℕ} →
     let a = c.args in
     x ≡ found (refuse (ltb 3 a.direction) 3) (neighbour_of a.arrangement a.self a.direction) →
     x ≡ found (neighbour_refusal a.arrangement a.self a.direction) (neighbour_of a.arrangement a.self a.direction)
@@ -37,11 +36,11 @@ passed :
     (c : Else-direction-gt3) {x : Cell} →
     let a = c.args in
     x ≡ neighbour_of a.arrangement a.self a.direction →
-    At x ≡ found (neighbour_refusal a.arrangement a.self a.direction) (neighbour_of a.arrangement a.self a.direction)
+    Ok x ≡ found (neighbour_refusal a.arrangement a.self a.direction) (neighbour_of a.arrangement a.self a.direction)
 unfolding found
 passed c e =
     let s = c in
-    directed c.before (rw (le-ltb 3 s.args.direction (omega arith)) (ap At e))
+    directed c.before (rw (le-ltb 3 s.args.direction (omega arith)) (ap Ok e))
 
 pub returns-then-unarranged-ne0 : goal.returns-then-unarranged-ne0
 unfolding neighbour_refusal
