@@ -18,7 +18,9 @@ fn cell_by(table: &[u64; 729], code: u64) -> Result<Cell, u64>
     requires { Apart table.now }
     ensures { result ≡ found (code_refusal code) (cell_of code) }
 {
-    let parts = code::parts_of(code)?;
+    let Ok(parts) = code::parts_of(code) else {
+        return Err(4);
+    };
     let place = ternary::apart_by(table, parts.path);
     Ok(Cell {
         face: parts.face,
@@ -67,8 +69,10 @@ fn put_cells(table: &[u64; 729], codes: &[u64], numbers: &mut [u64])
     requires { Apart table.now × (7 * length codes.now ≤ length numbers.old) }
     ensures { numbers.new ≡ sets numbers.old 0 (cells_of codes.now) }
 {
-    for (i, code) in codes.iter().enumerate() {
-        put_code(table, *code, numbers, 7 * i);
+    let mut at: usize = 0;
+    for i in 0..codes.len() {
+        put_code(table, codes[i], numbers, at);
+        at = at + 7;
     }
 }
 
@@ -142,8 +146,12 @@ fn put_codes(table: &[u16; 729], numbers: &[u64], codes: &mut [u64])
     requires { Woven table.now × (2 * cells_in numbers.now ≤ length codes.old) }
     ensures { codes.new ≡ sets codes.old 0 (codes_of numbers.now) }
 {
-    for i in 0..numbers.len() / 6 {
-        put_at(table, numbers, 6 * i, codes, 2 * i);
+    let mut from: usize = 0;
+    let mut at: usize = 0;
+    for _ in 0..numbers.len() / 6 {
+        put_at(table, numbers, from, codes, at);
+        from = from + 6;
+        at = at + 2;
     }
 }
 
