@@ -77,7 +77,10 @@ pub fn summarize(text: &[u8], counters: &mut [u64; 486]) -> Result<Arrangement, 
     ensures value { result ≡ summarized (text_refusal text.now) text.now }
     ensures counters_after { counters.new ≡ kept_counters text.now counters.old }
 {
-    let checked = reader::check(text)?;
+    let checked = match reader::check(text) {
+        Ok(checked) => checked,
+        Err(Refused { refusal, place }) => return Err(Refused { refusal, place }),
+    };
     count_cells(text, checked.body, counters);
     Ok(checked.arrangement)
 }
