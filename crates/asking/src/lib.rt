@@ -12,7 +12,7 @@ use cell::Arrangement;
 use reader::Checked;
 use reading::Refused;
 
-// Whether a cell is covered, and how many letters and digits of its name settle that.
+// Whether all of the asked cell's finest cells are covered, and how many letters and digits of the text settle it.
 #[derive(Clone, Copy)]
 pub struct Asked {
     pub covered: bool,
